@@ -1,0 +1,54 @@
+-- Tests of a rule, decided by the branch of the code that led there. Assumes nothing.
+use mathlib.Core.Path.{_≡_, refl}
+use mathlib.Core.Bool.{Bool, true, false}
+use mathlib.Core.Logic.{_⊎_, inl, inr}
+use Prim.Native.Nat.{ℕ, _≤_, _<_}
+use native.Mathlib.Omega.{arith}
+use lib.Dec.{leb, ltb, eqb}
+use borrow.Author.Tests.{lt-ltb, le-ltb, le-leb, lt-leb, eq-eqb, ne-eqb, leb-true, leb-false}
+use Rattle.ground.specs.Choice.{pick, both, within}
+
+-- for code without a loop: each test of the rule is rewritten by the branch that was taken
+pub ruleset cases = (lt-ltb, le-ltb, le-leb, lt-leb, eq-eqb, ne-eqb, arith)
+
+module _ (low high x : ℕ) where
+  pub within-yes : low ≤ x → x ≤ high → within low high x ≡ true
+  within-yes l h = rw (le-leb low x l, le-leb x high h)
+
+  pub within-low : x < low → within low high x ≡ false
+  within-low l = rw (lt-leb low x l)
+
+  pub within-high : high < x → within low high x ≡ false
+  within-high h = go (leb low x)
+    where
+      go : (b : Bool) → both b (leb x high) ≡ false
+      go true = lt-leb x high h
+      go false = refl
+
+  pub within-both : within low high x ≡ true → (low ≤ x) × (x ≤ high)
+  within-both = go (leb low x) (leb x high) refl refl
+    where
+      go : (a b : Bool) → leb low x ≡ a → leb x high ≡ b → both a b ≡ true → (low ≤ x) × (x ≤ high)
+      go true true p q e = (leb-true low x p, leb-true x high q)
+      go true false p q e = absurd (let z : _≡_ {A = ℕ} 0 1 = cc in omega arith)
+      go false b p q e = absurd (let z : _≡_ {A = ℕ} 0 1 = cc in omega arith)
+
+pub both-left : (a b : Bool) → both a b ≡ true → a ≡ true
+both-left true b e = refl
+both-left false b e = e
+
+pub both-right : (a b : Bool) → both a b ≡ true → b ≡ true
+both-right true b e = e
+both-right false b e = absurd (let z : _≡_ {A = ℕ} 0 1 = cc in omega arith)
+
+-- a test that holds and does not
+pub clash {ℓ} : {A : Type ℓ} {b : Bool} → b ≡ true → b ≡ false → A
+clash p q = absurd (let z : _≡_ {A = ℕ} 0 1 = cc in omega arith)
+
+-- one of two orders
+pub le-or-lt : (m n : ℕ) → (m ≤ n) ⊎ (n < m)
+le-or-lt m n = go (leb m n) refl
+  where
+    go : (b : Bool) → leb m n ≡ b → (m ≤ n) ⊎ (n < m)
+    go true e = inl (leb-true m n e)
+    go false e = inr (leb-false m n e)

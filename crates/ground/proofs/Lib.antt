@@ -1,0 +1,6 @@
+-- The laws that every layer cites.
+pub mod Cases
+pub mod Table
+pub mod Fill
+pub mod PutLaws
+pub mod Parts

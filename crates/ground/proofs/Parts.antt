@@ -1,0 +1,12 @@
+-- Parts of a list, as the code lends them. Assumes nothing.
+use mathlib.Core.Path.{_≡_, refl, sym, _∙_}
+use mathlib.Core.List.{List, [], _∷_, _++_}
+use Prim.Native.Nat.{ℕ, zero, suc, _+_, _-_, _≤_, _<_}
+use native.Mathlib.Omega.{arith}
+use lib.ListN.{length, take, drop, getD, length-take, length-drop}
+use lib.Seq.{take-all}
+
+module _ {A : Type 0} where
+  -- `&s[a..]` is what is left of `s`
+  pub take-rest : (s : List A) (a : ℕ) → take (length s - a) (drop a s) ≡ drop a s
+  take-rest s a = take-all (length s - a) (drop a s) (rw length-drop (omega arith))

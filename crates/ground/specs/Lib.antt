@@ -1,0 +1,3 @@
+-- The words that every rule is written in.
+pub mod Choice
+pub mod Put

@@ -1,0 +1,55 @@
+-- The check of a whole text: what is found from here on is what is found of the whole. Assumes nothing.
+use mathlib.Core.Path.{_≡_, refl, sym, _∙_}
+use mathlib.Core.List.{List, [], _∷_}
+use Prim.Native.Nat.{ℕ, _+_, _-_, _^_, _≤_, _<_}
+use native.Mathlib.Omega.{arith}
+use lib.ListN.{length, getD, drop}
+use mir.Val.{Fits}
+use mir.Syntax.{w64}
+use borrow.Author.Needs.{needs}
+use Rattle.text.specs.declared.utf8.Sequence.{Sequence}
+use Rattle.text.specs.declared.utf8.Sequence.the-variants.{End, Good, Bad}
+use Rattle.text.specs.declared.utf8.Check.{Check}
+use Rattle.text.specs.declared.utf8.Check.the-variants.{Valid, Broken}
+use Rattle.text.specs.Utf8.{sequenceOf, pieces, checkFrom, checkOf}
+use Rattle.text.proofs.Sequences.{sequence-ascii, end-empty}
+use Rattle.text.proofs.Pieces.{pieces-none, pieces-past, pieces-on, pieces-bad, good-inside}
+
+pub record Checked (s : List ℕ) (at : ℕ) : Type 0 where
+  pub inside : at ≤ length s
+  pub decides : checkFrom at (pieces (drop at s)) ≡ checkOf s
+
+pub checked-none : (s : List ℕ) → Checked s 0
+checked-none s = record { inside = omega arith; decides = refl }
+
+module _ {s : List ℕ} {at : ℕ} (c : Checked s at) where
+  pub checked-all : length s ≤ at → Valid ≡ checkOf s
+  unfolding checkFrom
+  checked-all h = rw (pieces-past s at h) at (c .decides)
+
+  module _ {t : Sequence} (e : t ≡ sequenceOf (drop at s)) where
+    pub checked-good : {d m : ℕ} → t ≡ Good d m → Checked s (at + m)
+    unfolding checkFrom
+    checked-good g = record {
+      inside = good-inside s at (sym e ∙ g) .1;
+      decides = rw (pieces-on s at (sym e ∙ g)) at (c .decides);
+    }
+
+    pub checked-end : t ≡ End → Valid ≡ checkOf s
+    unfolding checkFrom
+    checked-end g = rw (pieces-none (drop at s) (end-empty (drop at s) (sym e ∙ g))) at (c .decides)
+
+    pub checked-bad : {m : ℕ} → t ≡ Bad m → Broken at m ≡ checkOf s
+    unfolding checkFrom
+    checked-bad g = rw (pieces-bad (drop at s) (sym e ∙ g)) at (c .decides)
+
+    pub checked-fits : {d m : ℕ} → length s < 2 ^ 64 → t ≡ Good d m → Fits w64 (at + m)
+    checked-fits b g = let i = good-inside s at (sym e ∙ g) in omega arith
+
+    pub checked-falls : {d m : ℕ} → t ≡ Good d m → length s - (at + m) < length s - at
+    checked-falls g = let i = good-inside s at (sym e ∙ g) in omega arith
+
+  pub checked-ascii : at < length s → getD s at 0 < 0x80 → Checked s (at + 1)
+  checked-ascii h a = checked-good refl (sym (sequence-ascii s at h a))
+
+pub ruleset checking = (checked-none, checked-all, checked-good, checked-bad, checked-end, checked-fits, checked-falls, checked-ascii, needs)

@@ -1,0 +1,65 @@
+use Rattle.text.proofs.PlaceLaws.{matching, Matching}
+use Prim.Native.Nat.{_-_}
+use lib.ListN.{length}
+use Rattle.text.proofs.places.same_bytes.Statement.{statement}
+use Rattle.text.proofs.places.same_bytes.Tie as tie
+use Rattle.text.proofs.places.same_bytes.Reads as reads
+use Rattle.text.proofs.places.same_bytes.Lts as lts
+
+abbrev Inv-loop : tie.InvT-loop
+Inv-loop s t i₀ i = Matching s t i
+
+abbrev μ-loop : tie.MeasureT-loop
+μ-loop s t i₀ i = length s - i
+
+-- src/places.rt:64:9
+returns : tie.Need-returns Inv-loop μ-loop
+returns c = search matching
+
+-- src/places.rt:67:5
+loop-holds : tie.Need-loop-holds Inv-loop μ-loop
+loop-holds c = search matching
+
+-- src/places.rt:68:12
+shared-slice-read-if2 : tie.Need-shared-slice-read-if2 Inv-loop μ-loop
+shared-slice-read-if2 c = search matching
+
+-- src/places.rt:68:20
+shared-slice-read-if2-2 : tie.Need-shared-slice-read-if2-2 Inv-loop μ-loop
+shared-slice-read-if2-2 c = search matching
+
+-- src/places.rt:69:13
+returns-2 : tie.Need-returns-2 Inv-loop μ-loop
+returns-2 c = search matching
+
+-- src/places.rt:71:9
+add-i : tie.Need-add-i Inv-loop μ-loop
+add-i c = search matching
+
+-- src/places.rt:67:5
+loop-less : tie.Need-loop-less Inv-loop μ-loop
+loop-less c = search matching
+
+-- src/places.rt:67:5
+loop-again : tie.Need-loop-again Inv-loop μ-loop
+loop-again c = search matching
+
+-- src/places.rt:60:1
+returns-3 : tie.Need-returns-3 Inv-loop μ-loop
+returns-3 c = search matching
+
+pub same-bytes-spec : {M : Type 1} → statement M
+same-bytes-spec =
+    tie.close
+    (tie.spec
+    Inv-loop
+    μ-loop
+    returns
+    loop-holds
+    shared-slice-read-if2
+    shared-slice-read-if2-2
+    returns-2
+    add-i
+    loop-less
+    loop-again
+    returns-3)
