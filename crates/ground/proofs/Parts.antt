@@ -3,10 +3,14 @@ use mathlib.Core.Path.{_≡_, refl, sym, _∙_}
 use mathlib.Core.List.{List, [], _∷_, _++_}
 use Prim.Native.Nat.{ℕ, zero, suc, _+_, _-_, _≤_, _<_}
 use native.Mathlib.Omega.{arith}
-use lib.ListN.{length, take, drop, getD, length-take, length-drop}
+use lib.ListN.{length, take, drop, length-take, length-drop}
 use lib.Seq.{take-all}
 
 module _ {A : Type 0} where
   -- `&s[a..]` is what is left of `s`
   pub take-rest : (s : List A) (a : ℕ) → take (length s - a) (drop a s) ≡ drop a s
   take-rest s a = take-all (length s - a) (drop a s) (rw length-drop (omega arith))
+
+  -- `&s[..i]` has `i` elements
+  pub prefix-size : (s : List A) (i : ℕ) → i < length s → i ≡ length (take i s)
+  prefix-size s i h = omega (arith, length-take i s)

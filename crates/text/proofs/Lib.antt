@@ -2,6 +2,7 @@
 pub mod Leads
 pub mod Sequences
 pub mod Pieces
+pub mod Ascii
 pub mod Checking
 pub mod Ranges
 pub mod PlaceLaws

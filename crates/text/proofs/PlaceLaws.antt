@@ -80,6 +80,35 @@ module _ {p : List ℕ → Bool} {s : List ℕ} {«end» : ℕ} (k : Backing p s
     pub backing-more : p (drop («end» - 1) s) ≡ false → Backing p s («end» - 1)
     backing-more e = record { inside = let q = k .inside in omega arith; none = rw (before, e) }
 
+-- A place that is found lies in the text.
+first-from-inside : (p : List ℕ → Bool) (at : ℕ) (l : List ℕ) {i : ℕ} → firstFrom p at l ≡ At i → i < at + length l
+unfolding firstFrom
+first-from-inside p at [] e = absurd (let z : _≡_ {A = ℕ} 0 1 = cc in omega arith)
+first-from-inside p at (x ∷ l) {i} e = go (p (x ∷ l)) e (first-from-inside p (suc at) l)
+  where
+    go : (b : Bool) → pick b (At at) (firstFrom p (suc at) l) ≡ At i → (firstFrom p (suc at) l ≡ At i → i < suc at + length l) → i < at + suc (length l)
+    go true f again = let q : at ≡ i = cc in omega arith
+    go false f again = let h = again f in omega arith
+
+pub first-inside : (p : List ℕ → Bool) (s : List ℕ) {i : ℕ} → firstWhere p s ≡ At i → i < length s
+first-inside p s e = let h = first-from-inside p 0 s e in omega arith
+
+last-from-inside : (p : List ℕ → Bool) (at : ℕ) (l : List ℕ) {i : ℕ} → lastFrom p at l ≡ At i → i < at + length l
+unfolding lastFrom
+last-from-inside p at [] e = absurd (let z : _≡_ {A = ℕ} 0 1 = cc in omega arith)
+last-from-inside p at (x ∷ l) {i} e = go (lastFrom p (suc at) l) e (last-from-inside p (suc at) l)
+  where
+    here : (b : Bool) → pick b (At at) Nowhere ≡ At i → at ≡ i
+    here true f = cc
+    here false f = absurd (let z : _≡_ {A = ℕ} 0 1 = cc in omega arith)
+
+    go : (o : Place) → orElse o (pick (p (x ∷ l)) (At at) Nowhere) ≡ At i → (o ≡ At i → i < suc at + length l) → i < at + suc (length l)
+    go (At j) f again = let h = again f in omega arith
+    go Nowhere f again = let q = here (p (x ∷ l)) f in omega arith
+
+pub last-inside : (p : List ℕ → Bool) (s : List ℕ) {i : ℕ} → lastWhere p s ≡ At i → i < length s
+last-inside p s e = let h = last-from-inside p 0 s e in omega arith
+
 -- One byte.
 module _ (b : ℕ) (s : List ℕ) (at : ℕ) (h : at < length s) where
   pub byte-here : getD s at 0 ≡ b → starts b (drop at s) ≡ true
@@ -88,12 +117,12 @@ module _ (b : ℕ) (s : List ℕ) (at : ℕ) (h : at < length s) where
   pub byte-other : (getD s at 0 ≡ b → ⊥) → starts b (drop at s) ≡ false
   byte-other e = rw (drop-cons s at 0 h, ne-eqb (getD s at 0) b e)
 
-pub last-inside : {s : List ℕ} {«end» : ℕ} {p : List ℕ → Bool} → Backing p s «end» → 0 < «end» → «end» - 1 < length s
-last-inside k h = let i = k .inside in omega arith
+pub backing-inside : {s : List ℕ} {«end» : ℕ} {p : List ℕ → Bool} → Backing p s «end» → 0 < «end» → «end» - 1 < length s
+backing-inside k h = let i = k .inside in omega arith
 
 pub ruleset seeking = (seeking-starts, seeking-ends, seeking-found, seeking-more, byte-here, byte-other, needs)
 
-pub ruleset backing = (backing-starts, backing-ends, backing-found, backing-more, byte-here, byte-other, last-inside, needs)
+pub ruleset backing = (backing-starts, backing-ends, backing-found, backing-more, byte-here, byte-other, backing-inside, needs)
 
 -- Two bytes.
 module _ (a b : ℕ) (s : List ℕ) (at : ℕ) (h : at + 1 < length s) where

@@ -1,8 +1,8 @@
 // UTF-8, as RFC 3629 has it.
 ghost use mathlib.Core.Path.{_≡_};
-ghost use Prim.Native.Nat.{_+_, _-_, _≤_, _<_};
-ghost use lib.ListN.{length, drop};
-ghost use Rattle.text.specs.Utf8.{sequenceOf, checkOf, tails, leadOf};
+ghost use Prim.Native.Nat.{ℕ, _+_, _-_, _≤_, _<_, max};
+ghost use lib.ListN.{length, getD, drop};
+ghost use Rattle.text.specs.Utf8.{sequenceOf, checkOf, tails, leadOf, AsciiTo};
 
 // What stands at a place of a text.
 pub enum Sequence {
@@ -131,14 +131,69 @@ pub fn sequence_at(s: &[u8], at: usize) -> Sequence
     )
 }
 
+// The greater of two bytes.
+fn greater(a: u8, b: u8) -> u8
+    ensures { λ r. ⌜ r ≡ max a b ⌝ }
+{
+    if a < b {
+        return b;
+    }
+    a
+}
+
+// A bound of the 16 bytes from a place on: the greatest of them. The compiler makes a few vector instructions of it.
+fn greatest_of_block(s: &[u8], at: usize) -> u8
+    requires { ⌜ at + 16 ≤ length (now s) ⌝ }
+    ensures { λ r. ⌜ ((k : ℕ) → k < 16 → getD (now (s .entry)) (at + k) 0 ≤ r) ⌝ }
+{
+    let mut greatest = 0;
+    let mut i = 0;
+    while i < 16 {
+        greatest = greater(greatest, s[at + i]);
+        i += 1;
+    }
+    greatest
+}
+
+// A place up to which all bytes from `start` on are ASCII, by whole blocks.
+fn ascii_blocks(s: &[u8], start: usize) -> usize
+    requires { ⌜ start ≤ length (now s) ⌝ }
+    ensures { λ r. ⌜ AsciiTo (now (s .entry)) start r ⌝ }
+{
+    let mut at = start;
+    while 16 <= s.len() - at {
+        if 0x7F < greatest_of_block(s, at) {
+            return at;
+        }
+        at += 16;
+    }
+    at
+}
+
+// The place up to which all bytes from `start` on are ASCII.
+fn ascii_bytes(s: &[u8], start: usize) -> usize
+    requires { ⌜ start ≤ length (now s) ⌝ }
+    ensures { λ r. ⌜ AsciiTo (now (s .entry)) start r ⌝ }
+{
+    let mut at = start;
+    while at < s.len() {
+        if 0x7F < s[at] {
+            return at;
+        }
+        at += 1;
+    }
+    at
+}
+
 // Whether a text is UTF-8.
 pub fn check_text(s: &[u8]) -> Check
     ensures { λ r. ⌜ r ≡ checkOf (now (s .entry)) ⌝ }
 {
-    let mut at = 0;
+    let mut at = ascii_blocks(s, 0);
     while at < s.len() {
         if s[at] < 0x80 {
-            at += 1;
+            let blocks = ascii_blocks(s, at + 1);
+            at = ascii_bytes(s, blocks);
             continue;
         }
         match sequence_at(s, at) {

@@ -1,0 +1,19 @@
+//! Holds the proved functions of Clumarief against Rust's standard library.
+//!
+//! A subject is one function and its judge (`report`), run over cases (`case`) that are made one after another
+//! (`every`, `texts`). Each of the other modules is one part of the comparison; `main` lists them.
+
+pub mod arguments;
+pub mod bytes;
+pub mod case;
+pub mod every;
+pub mod lines;
+pub mod numbers;
+pub mod proved;
+pub mod random;
+pub mod ranges;
+pub mod report;
+pub mod texts;
+pub mod trims;
+pub mod utf8;
+pub mod white;

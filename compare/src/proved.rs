@@ -1,0 +1,91 @@
+//! The proved functions, as they come out of `libprobes.a`, behind safe calls.
+
+/// A byte slice crosses as its address and its length.
+type Bytes = *const u8;
+
+extern "C" {
+    fn clumarief_probe_sequence(text: Bytes, length: usize, at: usize, answer: &mut [u64; 3]);
+    fn clumarief_probe_check(text: Bytes, length: usize, answer: &mut [u64; 3]);
+    fn clumarief_probe_white(code: u32) -> u32;
+    fn clumarief_probe_trim(text: Bytes, length: usize, answer: &mut [u64; 8]);
+    fn clumarief_probe_line(text: Bytes, length: usize, at: usize, answer: &mut [u64; 4]);
+    fn clumarief_probe_bytes(text: Bytes, length: usize, a: u8, b: u8, answer: &mut [u64; 3]);
+    fn clumarief_probe_same(s: Bytes, s_length: usize, t: Bytes, t_length: usize) -> u32;
+    fn clumarief_probe_number(text: Bytes, length: usize, answer: &mut [u64; 2]);
+    fn clumarief_probe_leading(text: Bytes, length: usize, answer: &mut [u64; 5]);
+    fn clumarief_probe_trailing(text: Bytes, length: usize, answer: &mut [u64; 4]);
+}
+
+/// What stands in an answer before the call: no judge gives it, so a slot that is not written shows.
+const UNWRITTEN: u64 = u64::MAX;
+
+// Safety of every call below: the address and the length are those of one slice that lives through the call, and the
+// answer is an array of the length that the function is declared with. The functions keep neither.
+
+/// 0 end, 1 good or 2 bad; the code point, 0 unless good; the length.
+pub fn sequence(text: &[u8], at: usize) -> [u64; 3] {
+    let mut answer = [UNWRITTEN; 3];
+    unsafe { clumarief_probe_sequence(text.as_ptr(), text.len(), at, &mut answer) };
+    answer
+}
+
+/// 0 valid or 1 broken; the valid bytes before that; the length of what is broken, 0 where the text ends in it.
+pub fn check(text: &[u8]) -> [u64; 3] {
+    let mut answer = [UNWRITTEN; 3];
+    unsafe { clumarief_probe_check(text.as_ptr(), text.len(), &mut answer) };
+    answer
+}
+
+/// 1 white space, 0 not.
+pub fn white(code: u32) -> u32 {
+    unsafe { clumarief_probe_white(code) }
+}
+
+/// The place that trimming the start leads to, and trimming the end; start and end when both are trimmed; the place
+/// after every leading U+FEFF; 1 where the first character is white; the places of the first and of the last white
+/// character, each plus 1, or 0.
+pub fn trim(text: &[u8]) -> [u64; 8] {
+    let mut answer = [UNWRITTEN; 8];
+    unsafe { clumarief_probe_trim(text.as_ptr(), text.len(), &mut answer) };
+    answer
+}
+
+/// 1 line or 0 none; its start, its end, and where the following line starts.
+pub fn line(text: &[u8], at: usize) -> [u64; 4] {
+    let mut answer = [UNWRITTEN; 4];
+    unsafe { clumarief_probe_line(text.as_ptr(), text.len(), at, &mut answer) };
+    answer
+}
+
+/// The first place of `a`, its last place, and the first place of `a` with `b` after it; each plus 1, or 0.
+pub fn bytes(text: &[u8], a: u8, b: u8) -> [u64; 3] {
+    let mut answer = [UNWRITTEN; 3];
+    unsafe { clumarief_probe_bytes(text.as_ptr(), text.len(), a, b, &mut answer) };
+    answer
+}
+
+/// 1 where both texts have the same bytes.
+pub fn same(s: &[u8], t: &[u8]) -> u32 {
+    unsafe { clumarief_probe_same(s.as_ptr(), s.len(), t.as_ptr(), t.len()) }
+}
+
+/// 1 where the text reads as a number, and the number.
+pub fn number(text: &[u8]) -> [u64; 2] {
+    let mut answer = [UNWRITTEN; 2];
+    unsafe { clumarief_probe_number(text.as_ptr(), text.len(), &mut answer) };
+    answer
+}
+
+/// The range before a method: 1 taken; start, end, place of the rest; 1 where its second part alone does not read.
+pub fn leading(text: &[u8]) -> [u64; 5] {
+    let mut answer = [UNWRITTEN; 5];
+    unsafe { clumarief_probe_leading(text.as_ptr(), text.len(), &mut answer) };
+    answer
+}
+
+/// The range after a method: 1 taken; start, end; 1 where its second part is there and does not read.
+pub fn trailing(text: &[u8]) -> [u64; 4] {
+    let mut answer = [UNWRITTEN; 4];
+    unsafe { clumarief_probe_trailing(text.as_ptr(), text.len(), &mut answer) };
+    answer
+}
