@@ -3,7 +3,7 @@ use mathlib.Core.Path.{_≡_, refl}
 use mathlib.Core.List.{List, [], _∷_}
 use mathlib.Core.Bool.{true, false}
 use Prim.Native.Nat.{ℕ}
-use Rattle.text.specs.Places.{firstFrom}
+use Rattle.places.specs.Places.{firstFrom}
 use Rattle.number.specs.declared.read.Number.the-variants.{Value, Unread}
 use Rattle.number.specs.declared.range.LeadingRange.the-variants as Leading
 use Rattle.number.specs.declared.range.TrailingRange.the-variants as Trailing

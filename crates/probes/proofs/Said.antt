@@ -8,18 +8,18 @@ use lib.ListN.{length}
 use mir.Val.{Fits}
 use mir.Syntax.{w64}
 use borrow.Author.Needs.{needs}
-use Rattle.text.specs.declared.utf8.Sequence.{Sequence}
-use Rattle.text.specs.declared.utf8.Sequence.the-variants.{End, Good, Bad}
-use Rattle.text.specs.declared.utf8.Check.{Check}
-use Rattle.text.specs.declared.utf8.Check.the-variants.{Valid, Broken}
-use Rattle.text.specs.declared.places.Place.{Place}
-use Rattle.text.specs.declared.places.Place.the-variants.{At, Nowhere}
-use Rattle.text.specs.declared.lines.NextLine.{NextLine}
-use Rattle.text.specs.declared.lines.NextLine.the-variants.{Line, NoLine}
+use Rattle.utf8.specs.declared.sequence.Sequence.{Sequence}
+use Rattle.utf8.specs.declared.sequence.Sequence.the-variants.{End, Good, Bad}
+use Rattle.utf8.specs.declared.check.Check.{Check}
+use Rattle.utf8.specs.declared.check.Check.the-variants.{Valid, Broken}
+use Rattle.places.specs.declared.find.Place.{Place}
+use Rattle.places.specs.declared.find.Place.the-variants.{At, Nowhere}
+use Rattle.places.specs.declared.lines.NextLine.{NextLine}
+use Rattle.places.specs.declared.lines.NextLine.the-variants.{Line, NoLine}
 use Rattle.text.specs.declared.trim.Span.{Span}
-use Rattle.text.specs.Places.{firstWhere, lastWhere}
+use Rattle.places.specs.Places.{firstWhere, lastWhere}
 use Rattle.text.specs.Trim.{trimStart, trimEnd, trimBoth, afterMarks, startsWhite, firstWhite, lastWhite}
-use Rattle.text.proofs.PlaceLaws.{first-inside, last-inside}
+use Rattle.places.proofs.PlaceLaws.{first-inside, last-inside}
 use Rattle.number.specs.declared.read.Number.{Number}
 use Rattle.number.specs.declared.read.Number.the-variants.{Value, Unread}
 use Rattle.number.specs.declared.range.LeadingRange.{LeadingRange}

@@ -15,7 +15,7 @@ pub use texts::clumarief_probe_white;
 ghost use mathlib.Core.Path.{_≡_};
 ghost use Prim.Native.Nat.{_<_, _^_};
 ghost use Rattle.probes.specs.Answers.{bit, placeNumber};
-use text::Place;
+use places::Place;
 
 // A test as a number.
 fn bit_number(b: bool) -> u32

@@ -1,22 +1,22 @@
 // Characters, white space, places and lines.
 use crate::bit_number;
 use crate::place_number;
-use text::Check;
-use text::NextLine;
-use text::Sequence;
+use utf8::Check;
+use places::NextLine;
+use utf8::Sequence;
 ghost use mathlib.Core.Path.{_≡_};
 ghost use lib.ListN.{drop};
-ghost use Rattle.text.specs.Utf8.{sequenceOf, checkOf};
+ghost use Rattle.utf8.specs.Utf8.{sequenceOf, checkOf};
 ghost use Rattle.text.specs.White.{isWhite};
-ghost use Rattle.text.specs.Places.{same};
-ghost use Rattle.text.specs.Lines.{nextLine};
+ghost use Rattle.places.specs.Places.{same};
+ghost use Rattle.places.specs.Lines.{nextLine};
 ghost use Rattle.probes.specs.Answers.{bit, sequenceNumbers, checkNumbers, trimNumbers, lineNumbers, byteNumbers};
 
 #[no_mangle]
 pub extern "C" fn clumarief_probe_sequence(text: &[u8], at: usize, answer: &mut [u64; 3])
     ensures { λ _. ⌜ now (answer .exit) ≡ sequenceNumbers (sequenceOf (drop at (now (text .entry)))) ⌝ }
 {
-    match text::sequence_at(text, at) {
+    match utf8::sequence_at(text, at) {
         Sequence::End => {
             *answer = [0, 0, 0];
         }
@@ -33,7 +33,7 @@ pub extern "C" fn clumarief_probe_sequence(text: &[u8], at: usize, answer: &mut 
 pub extern "C" fn clumarief_probe_check(text: &[u8], answer: &mut [u64; 3])
     ensures { λ _. ⌜ now (answer .exit) ≡ checkNumbers (checkOf (now (text .entry))) ⌝ }
 {
-    match text::check_text(text) {
+    match utf8::check_text(text) {
         Check::Valid => {
             *answer = [0, 0, 0];
         }
@@ -73,7 +73,7 @@ pub extern "C" fn clumarief_probe_trim(text: &[u8], answer: &mut [u64; 8])
 pub extern "C" fn clumarief_probe_line(text: &[u8], at: usize, answer: &mut [u64; 4])
     ensures { λ _. ⌜ now (answer .exit) ≡ lineNumbers (nextLine (now (text .entry)) at) ⌝ }
 {
-    match text::next_line(text, at) {
+    match places::next_line(text, at) {
         NextLine::Line { start, end, next } => {
             *answer = [1, start as u64, end as u64, next as u64];
         }
@@ -88,9 +88,9 @@ pub extern "C" fn clumarief_probe_bytes(text: &[u8], a: u8, b: u8, answer: &mut 
     ensures { λ _. ⌜ now (answer .exit) ≡ byteNumbers a b (now (text .entry)) ⌝ }
 {
     *answer = [
-        place_number(text::first_byte(text, a)),
-        place_number(text::last_byte(text, a)),
-        place_number(text::first_pair(text, a, b)),
+        place_number(places::first_byte(text, a)),
+        place_number(places::last_byte(text, a)),
+        place_number(places::first_pair(text, a, b)),
     ];
 }
 
@@ -98,5 +98,5 @@ pub extern "C" fn clumarief_probe_bytes(text: &[u8], a: u8, b: u8, answer: &mut 
 pub extern "C" fn clumarief_probe_same(s: &[u8], t: &[u8]) -> u32
     ensures { λ r. ⌜ r ≡ bit (same (now (s .entry)) (now (t .entry))) ⌝ }
 {
-    bit_number(text::same_bytes(s, t))
+    bit_number(places::same_bytes(s, t))
 }

@@ -12,14 +12,14 @@ use lib.Seq.{drop-cons, drop-drop, getD-drop}
 use borrow.Author.Needs.{needs}
 use Rattle.ground.specs.Choice.{pick, within, both}
 use Rattle.ground.proofs.Cases.{within-both, both-left, both-right, le-or-lt, clash}
-use Rattle.text.specs.declared.utf8.Sequence.{Sequence}
-use Rattle.text.specs.declared.utf8.Sequence.the-variants.{End, Good, Bad}
-use Rattle.text.specs.Utf8.{Lead, lead, leadOf, tails, afterLead, sequenceOf, pieces}
+use Rattle.utf8.specs.declared.sequence.Sequence.{Sequence}
+use Rattle.utf8.specs.declared.sequence.Sequence.the-variants.{End, Good, Bad}
+use Rattle.utf8.specs.Utf8.{Lead, lead, leadOf, tails, afterLead, sequenceOf, pieces}
 use Rattle.text.specs.White.{isWhite}
 use Rattle.text.specs.Trim.{allWhite, trimEnd, whiteLength, whiteLengthOf, Before}
-use Rattle.text.proofs.Leads.{lead-low-none}
-use Rattle.text.proofs.Sequences.{good-fits, end-empty, tails-fit, first-good, second-good}
-use Rattle.text.proofs.Pieces.{pieces-none, pieces-good, pieces-bad}
+use Rattle.utf8.proofs.Leads.{lead-low-none}
+use Rattle.utf8.proofs.Sequences.{good-fits, end-empty, tails-fit, first-good, second-good}
+use Rattle.utf8.proofs.Pieces.{pieces-none, pieces-good, pieces-bad}
 
 -- what holds of every row of the table holds of what any octet settles
 either-row : (P : Lead → Type 0) (b : Bool) {l m : Lead} → P l → P m → P (pick b l m)

@@ -13,14 +13,14 @@ use borrow.Author.Tests.{eq-eqb, ne-eqb}
 use borrow.Author.Needs.{needs}
 use Rattle.ground.specs.Choice.{pick}
 use Rattle.ground.proofs.Parts.{take-rest}
-use Rattle.text.specs.declared.utf8.Sequence.{Sequence}
-use Rattle.text.specs.declared.utf8.Sequence.the-variants.{End, Good, Bad}
-use Rattle.text.specs.Utf8.{sequenceOf, pieces}
+use Rattle.utf8.specs.declared.sequence.Sequence.{Sequence}
+use Rattle.utf8.specs.declared.sequence.Sequence.the-variants.{End, Good, Bad}
+use Rattle.utf8.specs.Utf8.{sequenceOf, pieces}
 use Rattle.text.specs.White.{isWhite}
 use Rattle.text.specs.Trim.{runOf, allWhite, trimStart, trimEnd, trimBoth, whiteSequence, startsWhite, whiteLength, whiteLengthOf}
-use Rattle.text.proofs.Sequences.{end-empty, good-fits}
-use Rattle.text.proofs.PlaceLaws.{seeking, backing}
-use Rattle.text.proofs.Pieces.{pieces-none, pieces-good, pieces-past, pieces-on, pieces-bad, good-inside}
+use Rattle.utf8.proofs.Sequences.{end-empty, good-fits}
+use Rattle.places.proofs.PlaceLaws.{seeking, backing}
+use Rattle.utf8.proofs.Pieces.{pieces-none, pieces-good, pieces-past, pieces-on, pieces-bad, good-inside}
 
 -- White space at the head of a text, by what was read there.
 module _ {t : Sequence} (l : List ℕ) (e : t ≡ sequenceOf l) where

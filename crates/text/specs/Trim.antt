@@ -6,13 +6,13 @@ use Prim.Native.Nat.{ℕ, suc, _+_, _-_, _≤_, _<_}
 use lib.Dec.{eqb}
 use lib.ListN.{drop}
 use Rattle.ground.specs.Choice.{pick, both}
-use Rattle.text.specs.declared.places.Place.{Place}
-use Rattle.text.specs.declared.utf8.Sequence.{Sequence}
-use Rattle.text.specs.declared.utf8.Sequence.the-variants.{End, Good, Bad}
+use Rattle.places.specs.declared.find.Place.{Place}
+use Rattle.utf8.specs.declared.sequence.Sequence.{Sequence}
+use Rattle.utf8.specs.declared.sequence.Sequence.the-variants.{End, Good, Bad}
 use Rattle.text.specs.declared.trim.Span.{Span}
-use Rattle.text.specs.Utf8.{sequenceOf, pieces}
+use Rattle.utf8.specs.Utf8.{sequenceOf, pieces}
 use Rattle.text.specs.White.{isWhite}
-use Rattle.text.specs.Places.{firstWhere, lastWhere}
+use Rattle.places.specs.Places.{firstWhere, lastWhere}
 
 -- the bytes of the characters at the head for which `p` holds
 unfoldable pub runOf : (ℕ → Bool) → List Sequence → ℕ

@@ -1,7 +1,7 @@
 // White space at the ends of a text and in it.
-use crate::places::Place;
-use crate::utf8::Sequence;
-use crate::utf8::sequence_at;
+use places::Place;
+use utf8::Sequence;
+use utf8::sequence_at;
 use crate::white::is_white;
 ghost use mathlib.Core.Path.{_≡_};
 ghost use lib.ListN.{drop};

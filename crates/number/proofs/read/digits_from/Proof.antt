@@ -1,10 +1,9 @@
+-- `number::read::digits_from` meets its contract, by the laws of Reading and an invariant that says: the rest decides as the whole does.
 use Rattle.number.proofs.Reading.{reading, Read}
 use Prim.Native.Nat.{_-_}
 use lib.ListN.{length}
 use Rattle.number.proofs.read.digits_from.Statement.{statement}
 use Rattle.number.proofs.read.digits_from.Tie as tie
-use Rattle.number.proofs.read.digits_from.Reads as reads
-use Rattle.number.proofs.read.digits_from.Lts as lts
 
 abbrev Inv-loop : tie.InvT-loop
 Inv-loop s start value₀ at₀ value at = Read s start value at
@@ -12,59 +11,45 @@ Inv-loop s start value₀ at₀ value at = Read s start value at
 abbrev μ-loop : tie.MeasureT-loop
 μ-loop s start value₀ at₀ value at = length s - at
 
--- src/read.rt:20:9
 returns : tie.Need-returns Inv-loop μ-loop
 returns c = search reading
 
--- src/read.rt:24:5
 loop-holds : tie.Need-loop-holds Inv-loop μ-loop
 loop-holds c = search reading
 
--- src/read.rt:25:21
 shared-slice-read-digit : tie.Need-shared-slice-read-digit Inv-loop μ-loop
 shared-slice-read-digit c = search reading
 
--- src/read.rt:27:13
 returns-2 : tie.Need-returns-2 Inv-loop μ-loop
 returns-2 c = search reading
 
--- src/read.rt:30:13
 returns-3 : tie.Need-returns-3 Inv-loop μ-loop
 returns-3 c = search reading
 
--- src/read.rt:32:17
 mul-value : tie.Need-mul-value Inv-loop μ-loop
 mul-value c = search reading
 
--- src/read.rt:32:30
 cast-value : tie.Need-cast-value Inv-loop μ-loop
 cast-value c = search reading
 
--- src/read.rt:32:17
 add-value : tie.Need-add-value Inv-loop μ-loop
 add-value c = search reading
 
--- src/read.rt:34:13
 returns-4 : tie.Need-returns-4 Inv-loop μ-loop
 returns-4 c = search reading
 
--- src/read.rt:36:9
 add-at : tie.Need-add-at Inv-loop μ-loop
 add-at c = search reading
 
--- src/read.rt:24:5
 loop-less : tie.Need-loop-less Inv-loop μ-loop
 loop-less c = search reading
 
--- src/read.rt:24:5
 loop-again : tie.Need-loop-again Inv-loop μ-loop
 loop-again c = search reading
 
--- src/read.rt:38:19
 cast-t14 : tie.Need-cast-t14 Inv-loop μ-loop
 cast-t14 c = search reading
 
--- src/read.rt:15:1
 returns-5 : tie.Need-returns-5 Inv-loop μ-loop
 returns-5 c = search reading
 

@@ -1,44 +1,32 @@
+-- `probes::numbers::clumarief_probe_leading` meets its contract, by the laws of Said.
 use Rattle.probes.proofs.Said.{said}
 use Rattle.probes.proofs.numbers.clumarief_probe_leading.Statement.{statement}
 use Rattle.probes.proofs.numbers.clumarief_probe_leading.Tie as tie
-use Rattle.probes.proofs.numbers.clumarief_probe_leading.Reads as reads
-use Rattle.probes.proofs.numbers.clumarief_probe_leading.Lts as lts
-use Rattle.number.proofs.leading_range.Reads as leading-range-reads
-use Rattle.probes.proofs.bit_number.Reads as bit-number-reads
 
--- src/numbers.rt:29:11
 leading-range-requires : tie.Need-leading-range-requires
 leading-range-requires c κs = search said
 
--- src/numbers.rt:30:31
 enum-known-start : tie.Need-enum-known-start
 enum-known-start c = search said
 
--- src/numbers.rt:31:27
 cast-t8 : tie.Need-cast-t8
 cast-t8 c = search said
 
--- src/numbers.rt:31:41
 cast-t9 : tie.Need-cast-t9
 cast-t9 c = search said
 
--- src/numbers.rt:33:34
 enum-known-second-unread : tie.Need-enum-known-second-unread
 enum-known-second-unread c = search said
 
--- src/numbers.rt:34:36
 bit-number-requires : tie.Need-bit-number-requires
 bit-number-requires c κs = search said
 
--- src/numbers.rt:34:36
 cast-t12 : tie.Need-cast-t12
 cast-t12 c = search said
 
--- src/numbers.rt:25:1
 returns : tie.Need-returns
 returns c = search said
 
--- src/numbers.rt:25:1
 returns-2 : tie.Need-returns-2
 returns-2 c = search said
 

@@ -1,44 +1,32 @@
+-- `probes::numbers::clumarief_probe_trailing` meets its contract, by the laws of Said.
 use Rattle.probes.proofs.Said.{said}
 use Rattle.probes.proofs.numbers.clumarief_probe_trailing.Statement.{statement}
 use Rattle.probes.proofs.numbers.clumarief_probe_trailing.Tie as tie
-use Rattle.probes.proofs.numbers.clumarief_probe_trailing.Reads as reads
-use Rattle.probes.proofs.numbers.clumarief_probe_trailing.Lts as lts
-use Rattle.number.proofs.trailing_range.Reads as trailing-range-reads
-use Rattle.probes.proofs.bit_number.Reads as bit-number-reads
 
--- src/numbers.rt:43:11
 trailing-range-requires : tie.Need-trailing-range-requires
 trailing-range-requires c κs = search said
 
--- src/numbers.rt:44:32
 enum-known-start : tie.Need-enum-known-start
 enum-known-start c = search said
 
--- src/numbers.rt:45:27
 cast-t7 : tie.Need-cast-t7
 cast-t7 c = search said
 
--- src/numbers.rt:45:41
 cast-t8 : tie.Need-cast-t8
 cast-t8 c = search said
 
--- src/numbers.rt:45:53
 bit-number-requires : tie.Need-bit-number-requires
 bit-number-requires c κs = search said
 
--- src/numbers.rt:45:53
 cast-t10 : tie.Need-cast-t10
 cast-t10 c = search said
 
--- src/numbers.rt:48:13
 enum-told : tie.Need-enum-told
 enum-told c = search said
 
--- src/numbers.rt:39:1
 returns : tie.Need-returns
 returns c = search said
 
--- src/numbers.rt:39:1
 returns-2 : tie.Need-returns-2
 returns-2 c = search said
 

@@ -1,12 +1,10 @@
+-- `text::trim::after_marks` meets its contract, by the laws of TrimLaws and an invariant that says: the rest decides as the whole does.
 use Rattle.text.proofs.TrimLaws.{running, Running}
 use Prim.Native.Nat.{_-_}
 use lib.ListN.{length}
 use lib.Dec.{eqb}
 use Rattle.text.proofs.trim.after_marks.Statement.{statement}
 use Rattle.text.proofs.trim.after_marks.Tie as tie
-use Rattle.text.proofs.trim.after_marks.Reads as reads
-use Rattle.text.proofs.trim.after_marks.Lts as lts
-use Rattle.text.proofs.utf8.sequence_at.Reads as sequence-at-reads
 
 abbrev Inv-loop : tie.InvT-loop
 Inv-loop s at₀ at = Running (eqb 0xFEFF) s at
@@ -14,51 +12,39 @@ Inv-loop s at₀ at = Running (eqb 0xFEFF) s at
 abbrev μ-loop : tie.MeasureT-loop
 μ-loop s at₀ at = length s - at
 
--- src/trim.rt:64:5
 loop-holds : tie.Need-loop-holds Inv-loop μ-loop
 loop-holds c = search running
 
--- src/trim.rt:65:15
 sequence-at-requires : tie.Need-sequence-at-requires Inv-loop μ-loop
 sequence-at-requires c κs = search running
 
--- src/trim.rt:67:17
 enum-told : tie.Need-enum-told Inv-loop μ-loop
 enum-told c = search running
 
--- src/trim.rt:67:17
 returns : tie.Need-returns Inv-loop μ-loop
 returns c = search running
 
--- src/trim.rt:69:30
 enum-known-code : tie.Need-enum-known-code Inv-loop μ-loop
 enum-known-code c = search running
 
--- src/trim.rt:71:21
 add-at : tie.Need-add-at Inv-loop μ-loop
 add-at c = search running
 
--- src/trim.rt:64:5
 loop-less : tie.Need-loop-less Inv-loop μ-loop
 loop-less c = search running
 
--- src/trim.rt:64:5
 loop-again : tie.Need-loop-again Inv-loop μ-loop
 loop-again c = search running
 
--- src/trim.rt:74:17
 returns-2 : tie.Need-returns-2 Inv-loop μ-loop
 returns-2 c = search running
 
--- src/trim.rt:77:17
 enum-told-2 : tie.Need-enum-told-2 Inv-loop μ-loop
 enum-told-2 c = search running
 
--- src/trim.rt:77:17
 returns-3 : tie.Need-returns-3 Inv-loop μ-loop
 returns-3 c = search running
 
--- src/trim.rt:60:1
 returns-4 : tie.Need-returns-4 Inv-loop μ-loop
 returns-4 c = search running
 

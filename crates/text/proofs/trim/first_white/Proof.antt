@@ -1,13 +1,11 @@
-use Rattle.text.proofs.PlaceLaws.{Seeking}
+-- `text::trim::first_white` meets its contract, by the laws of TrimLaws and an invariant that says: the rest decides as the whole does.
+use Rattle.places.proofs.PlaceLaws.{Seeking}
 use Rattle.text.proofs.TrimLaws.{first-white}
 use Prim.Native.Nat.{_-_}
 use lib.ListN.{length}
 use Rattle.text.specs.Trim.{startsWhite}
 use Rattle.text.proofs.trim.first_white.Statement.{statement}
 use Rattle.text.proofs.trim.first_white.Tie as tie
-use Rattle.text.proofs.trim.first_white.Reads as reads
-use Rattle.text.proofs.trim.first_white.Lts as lts
-use Rattle.text.proofs.trim.white_at.Reads as white-at-reads
 
 abbrev Inv-loop : tie.InvT-loop
 Inv-loop s at₀ at = Seeking startsWhite s at
@@ -15,31 +13,24 @@ Inv-loop s at₀ at = Seeking startsWhite s at
 abbrev μ-loop : tie.MeasureT-loop
 μ-loop s at₀ at = length s - at
 
--- src/trim.rt:149:5
 loop-holds : tie.Need-loop-holds Inv-loop μ-loop
 loop-holds c = search first-white
 
--- src/trim.rt:150:12
 white-at-requires : tie.Need-white-at-requires Inv-loop μ-loop
 white-at-requires c κs = search first-white
 
--- src/trim.rt:151:13
 returns : tie.Need-returns Inv-loop μ-loop
 returns c = search first-white
 
--- src/trim.rt:153:9
 add-at : tie.Need-add-at Inv-loop μ-loop
 add-at c = search first-white
 
--- src/trim.rt:149:5
 loop-less : tie.Need-loop-less Inv-loop μ-loop
 loop-less c = search first-white
 
--- src/trim.rt:149:5
 loop-again : tie.Need-loop-again Inv-loop μ-loop
 loop-again c = search first-white
 
--- src/trim.rt:145:1
 returns-2 : tie.Need-returns-2 Inv-loop μ-loop
 returns-2 c = search first-white
 

@@ -1,36 +1,26 @@
+-- `text::trim::trim_both` meets its contract, by the laws of TrimLaws.
 use Rattle.text.proofs.TrimLaws.{both-trims}
 use Rattle.text.proofs.trim.trim_both.Statement.{statement}
 use Rattle.text.proofs.trim.trim_both.Tie as tie
-use Rattle.text.proofs.trim.trim_both.Reads as reads
-use Rattle.text.proofs.trim.trim_both.Lts as lts
-use Rattle.text.proofs.trim.trim_end.Reads as trim-end-reads
-use Rattle.text.proofs.trim.trim_start.Reads as trim-start-reads
 
--- src/trim.rt:136:9
 trim-start-requires : tie.Need-trim-start-requires
 trim-start-requires c κs = search both-trims
 
--- src/trim.rt:137:27
 sub-trim-end : tie.Need-sub-trim-end
 sub-trim-end c = search both-trims
 
--- src/trim.rt:137:27
 part-trim-end-start : tie.Need-part-trim-end-start
 part-trim-end-start c = search both-trims
 
--- src/trim.rt:137:27
 part-trim-end-end : tie.Need-part-trim-end-end
 part-trim-end-end c = search both-trims
 
--- src/trim.rt:137:9
 trim-end-requires : tie.Need-trim-end-requires
 trim-end-requires c κs = search both-trims
 
--- src/trim.rt:140:14
 add-t5 : tie.Need-add-t5
 add-t5 c = search both-trims
 
--- src/trim.rt:133:1
 returns : tie.Need-returns
 returns c = search both-trims
 

@@ -1,9 +1,7 @@
+-- `text::trim::trim_end` meets its contract, by the laws of Sync and an invariant that says: the rest decides as the whole does.
 use Rattle.text.proofs.Sync.{ending, Ending}
 use Rattle.text.proofs.trim.trim_end.Statement.{statement}
 use Rattle.text.proofs.trim.trim_end.Tie as tie
-use Rattle.text.proofs.trim.trim_end.Reads as reads
-use Rattle.text.proofs.trim.trim_end.Lts as lts
-use Rattle.text.proofs.trim.white_before.Reads as white-before-reads
 
 abbrev Inv-loop : tie.InvT-loop
 Inv-loop s end₀ end = Ending s «end»
@@ -11,31 +9,24 @@ Inv-loop s end₀ end = Ending s «end»
 abbrev μ-loop : tie.MeasureT-loop
 μ-loop s end₀ end = «end»
 
--- src/trim.rt:122:5
 loop-holds : tie.Need-loop-holds Inv-loop μ-loop
 loop-holds c = search ending
 
--- src/trim.rt:123:13
 white-before-requires : tie.Need-white-before-requires Inv-loop μ-loop
 white-before-requires c κs = search ending
 
--- src/trim.rt:125:13
 returns : tie.Need-returns Inv-loop μ-loop
 returns c = search ending
 
--- src/trim.rt:127:9
 sub-end : tie.Need-sub-end Inv-loop μ-loop
 sub-end c = search ending
 
--- src/trim.rt:122:5
 loop-less : tie.Need-loop-less Inv-loop μ-loop
 loop-less c = search ending
 
--- src/trim.rt:122:5
 loop-again : tie.Need-loop-again Inv-loop μ-loop
 loop-again c = search ending
 
--- src/trim.rt:118:1
 returns-2 : tie.Need-returns-2 Inv-loop μ-loop
 returns-2 c = search ending
 

@@ -1,0 +1,3 @@
+-- Laws of the rules, one file a subject.
+pub mod PlaceLaws
+pub mod LineLaws

@@ -1,0 +1,11 @@
+// Places of bytes in a text, its lines, and whether two texts are the same. Every function takes any bytes.
+mod find;
+mod lines;
+
+pub use find::Place;
+pub use find::first_byte;
+pub use find::first_pair;
+pub use find::last_byte;
+pub use find::same_bytes;
+pub use lines::NextLine;
+pub use lines::next_line;

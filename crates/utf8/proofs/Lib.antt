@@ -1,0 +1,6 @@
+-- Laws of the rule, one file a subject.
+pub mod Leads
+pub mod Sequences
+pub mod Pieces
+pub mod Ascii
+pub mod Checking

@@ -1,0 +1,3 @@
+-- UTF-8: the written rule, from RFC 3629.
+pub mod Utf8
+pub mod Examples

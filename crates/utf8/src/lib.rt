@@ -1,0 +1,8 @@
+// UTF-8. Every function takes any bytes.
+mod check;
+mod sequence;
+
+pub use check::Check;
+pub use check::check_text;
+pub use sequence::Sequence;
+pub use sequence::sequence_at;
