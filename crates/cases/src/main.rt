@@ -7,6 +7,7 @@
 //     # a comment, or nothing: written as it is
 use libc::STDIN_FILENO;
 use places::NextLine;
+
 mod ranges;
 mod say;
 mod sequences;
@@ -33,7 +34,12 @@ fn replay(line: &[u8]) {
 fn each_line(s: &[u8]) {
     let mut at = 0;
     while at < s.len() {
-        let NextLine::Line { start: _, end, next } = places::next_line(s, at) else {
+        let NextLine::Line {
+            start: _,
+            end,
+            next,
+        } = places::next_line(s, at)
+        else {
             return;
         };
         replay(&s[at..end]);

@@ -36,7 +36,11 @@ fn before_case(s: &[u8]) {
 
 fn after_case(s: &[u8]) {
     match number::trailing_range(s) {
-        TrailingRange::Taken { start, end, second_unread } => {
+        TrailingRange::Taken {
+            start,
+            end,
+            second_unread,
+        } => {
             from_to(start, end);
             if second_unread {
                 say::words(b", short");

@@ -12,5 +12,8 @@ module _ {A : Type 0} where
   take-rest s a = take-all (length s - a) (drop a s) (rw length-drop (omega arith))
 
   -- `&s[..i]` has `i` elements
+  pub prefix-whole : (s : List A) (i : ℕ) → i ≤ length s → i ≡ length (take i s)
+  prefix-whole s i h = omega (arith, length-take i s)
+
   pub prefix-size : (s : List A) (i : ℕ) → i < length s → i ≡ length (take i s)
-  prefix-size s i h = omega (arith, length-take i s)
+  prefix-size s i h = prefix-whole s i (omega arith)

@@ -1,3 +1,5 @@
 -- The words that every rule is written in.
+pub mod Abnf
+pub mod Ascii
 pub mod Choice
 pub mod Put

@@ -1,8 +1,8 @@
 // Characters, white space, places and lines.
 use crate::bit_number;
 use crate::place_number;
-use utf8::Check;
 use places::NextLine;
+use utf8::Check;
 use utf8::Sequence;
 ghost use mathlib.Core.Path.{_≡_};
 ghost use lib.ListN.{drop};

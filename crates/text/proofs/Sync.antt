@@ -18,7 +18,7 @@ use Rattle.utf8.specs.Utf8.{Lead, lead, leadOf, tails, afterLead, sequenceOf, p
 use Rattle.text.specs.White.{isWhite}
 use Rattle.text.specs.Trim.{allWhite, trimEnd, whiteLength, whiteLengthOf, Before}
 use Rattle.utf8.proofs.Leads.{lead-low-none}
-use Rattle.utf8.proofs.Sequences.{good-fits, end-empty, tails-fit, first-good, second-good}
+use Rattle.utf8.proofs.Sequences.{good-fits, end-empty, tails-fit, first-good, second-good, went-on}
 use Rattle.utf8.proofs.Pieces.{pieces-none, pieces-good, pieces-bad}
 
 -- what holds of every row of the table holds of what any octet settles
@@ -48,10 +48,6 @@ any-tail x =
     (either-row Tail (within 0xF1 0xF3 x) (tail 4 0xF0 0x80 0xBF (lit≤ tt) (lit≤ tt) (lit≤ tt))
     (either-row Tail (within 0xF4 0xF4 x) (tail 4 0xF0 0x80 0x8F (lit≤ tt) (lit≤ tt) (lit≤ tt))
     (tail 0 0x00 0x80 0xBF (lit≤ tt) (lit≤ tt) (lit≤ tt))))))))))
-
-went-on : (b : Bool) (k : ℕ) (o : Sequence) {d m : ℕ} → pick b o (Bad k) ≡ Good d m → b ≡ true
-went-on true k o e = refl
-went-on false k o e = absurd (let z : _≡_ {A = ℕ} 0 1 = cc in omega arith)
 
 -- every octet of a good sequence but its first is a UTF8-tail
 tails-inner : (n low high code taken : ℕ) (l : List ℕ) {d m : ℕ} → 0x80 ≤ low → high ≤ 0xBF → tails n low high code taken l ≡ Good d m →

@@ -1,8 +1,8 @@
 // White space at the ends of a text and in it.
+use crate::white::is_white;
 use places::Place;
 use utf8::Sequence;
 use utf8::sequence_at;
-use crate::white::is_white;
 ghost use mathlib.Core.Path.{_≡_};
 ghost use lib.ListN.{drop};
 ghost use Rattle.text.specs.Trim.{trimStart, trimEnd, trimBoth, afterMarks, startsWhite, firstWhite, lastWhite, whiteLength, Before};

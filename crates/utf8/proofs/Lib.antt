@@ -4,3 +4,4 @@ pub mod Sequences
 pub mod Pieces
 pub mod Ascii
 pub mod Checking
+pub mod Grammatical

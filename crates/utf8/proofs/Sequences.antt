@@ -182,6 +182,10 @@ pub first-good : (b : Bool) (k : ℕ) {o : Sequence} {d m : ℕ} → pick b o (B
 first-good true k e = e
 first-good false k e = absurd (let z : _≡_ {A = ℕ} 0 1 = cc in omega arith)
 
+pub went-on : (b : Bool) (k : ℕ) (o : Sequence) {d m : ℕ} → pick b o (Bad k) ≡ Good d m → b ≡ true
+went-on true k o e = refl
+went-on false k o e = absurd (let z : _≡_ {A = ℕ} 0 1 = cc in omega arith)
+
 pub second-good : (b : Bool) (k : ℕ) {o : Sequence} {d m : ℕ} → pick b (Bad k) o ≡ Good d m → o ≡ Good d m
 second-good true k e = absurd (let z : _≡_ {A = ℕ} 0 1 = cc in omega arith)
 second-good false k e = e

@@ -1,0 +1,2 @@
+-- Statements about the written rules.
+pub mod Marked

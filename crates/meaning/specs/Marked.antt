@@ -1,0 +1,35 @@
+-- Document 01, "Marked examples": those marked P, as rows of one table. Each row asks one of the written rules and states its answer.
+use mathlib.Core.Path.{_≡_}
+use mathlib.Core.Bool.{true, false}
+use mathlib.Core.List.{List, [], _∷_}
+use Prim.Native.Nat.{ℕ}
+use Rattle.ground.specs.Ascii.{ascii}
+use Rattle.number.specs.declared.read.Number.{Number}
+use Rattle.number.specs.declared.read.Number.the-variants.{Value, Unread}
+use Rattle.number.specs.declared.range.TrailingRange.{TrailingRange}
+use Rattle.number.specs.declared.range.TrailingRange.the-variants.{Taken}
+use Rattle.number.specs.Numbers.{numberOf}
+use Rattle.number.specs.Ranges.{trailingRange}
+
+-- a rule that is asked, on what, and its answer
+pub data Row : Type 0 where
+  number : List ℕ → Number → Row
+  rangeAfter : List ℕ → TrailingRange → Row
+
+-- the rule gives that answer
+abbrev pub Holds : Row → Type 0
+Holds (number s answer) = numberOf s ≡ answer
+Holds (rangeAfter s answer) = trailingRange s ≡ answer
+
+abbrev pub AllHold : List Row → Type 0
+AllHold [] = Unit {0}
+AllHold (row ∷ rows) = Holds row × AllHold rows
+
+abbrev pub marked : List Row
+marked =
+    -- "P `:10` and P `:10:x` give (10,10), the second short"
+    rangeAfter (ascii ":10") (Taken 10 10 false) ∷
+    rangeAfter (ascii ":10:x") (Taken 10 10 true) ∷
+    -- "P `+7` is 7; P 4294967296 does not read"
+    number (ascii "+7") (Value 7) ∷
+    number (ascii "4294967296") Unread ∷ []
