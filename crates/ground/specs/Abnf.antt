@@ -23,6 +23,15 @@ pub data _∣_ (A B : List ℕ → Type 0) : List ℕ → Type 0 where
   left : {a : List ℕ} → A a → (A ∣ B) a
   right : {a : List ℕ} → B a → (A ∣ B) a
 
+-- [ A ]: one or none
+pub data Opt (A : List ℕ → Type 0) : List ℕ → Type 0 where
+  absent : Opt A []
+  present : {a : List ℕ} → A a → Opt A a
+
+-- %xAA.BB.CC: these octets
+pub data Exactly (w : List ℕ) : List ℕ → Type 0 where
+  exactly : Exactly w w
+
 -- *A: any number
 pub data Star (A : List ℕ → Type 0) : List ℕ → Type 0 where
   none : Star A []

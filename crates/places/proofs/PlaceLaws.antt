@@ -8,11 +8,11 @@ use native.Mathlib.Omega.{arith}
 use lib.Dec.{eqb}
 use lib.ListN.{length, getD, drop, length-drop, drop-of-length-le}
 use lib.Seq.{drop-cons, drop-length}
-use borrow.Author.Tests.{eq-eqb, ne-eqb}
+use borrow.Author.Tests.{eq-eqb, ne-eqb, eqb-true}
 use borrow.Author.Needs.{needs}
 use mathlib.Core.Logic.{_⊎_, inl, inr}
 use Rattle.ground.specs.Choice.{pick, both}
-use Rattle.ground.proofs.Cases.{clash, both-right, le-or-lt}
+use Rattle.ground.proofs.Cases.{clash, both-left, both-right, le-or-lt}
 use Rattle.places.specs.declared.find.Place.{Place}
 use Rattle.places.specs.declared.find.Place.the-variants.{At, Nowhere}
 use Rattle.places.specs.Places.{firstFrom, firstWhere, lastFrom, lastWhere, orElse, starts, startsPair, same}
@@ -215,3 +215,26 @@ module _ {s t : List ℕ} {i : ℕ} (k : Matching s t i) where
     matching-inside = let e = k .even in omega arith
 
 pub ruleset matching = (matching-starts, matching-uneven, matching-ends, matching-differs, matching-more, matching-inside, needs)
+
+-- two texts are the same exactly where they are equal
+pub same-equal : (s t : List ℕ) → same s t ≡ true → s ≡ t
+unfolding same
+same-equal [] [] e = refl
+same-equal [] (y ∷ t) e = clash e refl
+same-equal (x ∷ s) [] e = clash e refl
+same-equal (x ∷ s) (y ∷ t) e =
+    let head = eqb-true x y (both-left (eqb x y) (same s t) e) in
+    let tail = same-equal s t (both-right (eqb x y) (same s t) e) in
+    cc
+
+pub same-refl : (s : List ℕ) → same s s ≡ true
+unfolding same
+same-refl [] = refl
+same-refl (x ∷ s) = rw (eq-eqb x x refl) (same-refl s)
+
+pub same-differ : (s t : List ℕ) → (s ≡ t → ⊥) → same s t ≡ false
+same-differ s t n = go (same s t) refl
+  where
+    go : (b : Bool) → same s t ≡ b → b ≡ false
+    go true e = absurd (n (same-equal s t e))
+    go false e = refl
