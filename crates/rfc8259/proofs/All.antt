@@ -10,7 +10,7 @@ use Rattle.ground.specs.Abnf.{Octet, _⊹_, _∣_, Opt, Star, octet, _⨾_, lef
 use Rattle.ground.specs.Choice.{pick, either, within}
 use Rattle.ground.proofs.Cases.{within-both, within-yes, within-low, within-high, clash}
 use Rattle.rfc8259.specs.Grammar
-use Rattle.rfc8259.specs.Reader.{Out, got, bad, andThen, isWs, skip, oneOf, structural, isDigit, pastDigits, digits, optional, int, isMinus, isSign, past, isPoint, isE, frac, exp, numberOf}
+use Rattle.rfc8259.specs.Reader.{pastAll, Out, got, bad, andThen, isWs, skip, oneOf, structural, isDigit, pastDigits, digits, optional, int, isMinus, isSign, past, isPoint, isE, frac, exp, numberOf}
 
 -- The first octet, if there is one, is none of some.
 abbrev pub free : (ℕ → Bool) → List ℕ → Bool
@@ -41,7 +41,7 @@ only a p b f x e = ap p (exact a x e) ∙ f
 
 -- Section 2.
 skip-one : (x : ℕ) (s : List ℕ) → isWs x ≡ true → skip (x ∷ s) ≡ skip s
-unfolding skip
+unfolding pastAll
 skip-one x s e = rw e
 
 pub skip-past : {a : List ℕ} → Grammar.Ws a → (r : List ℕ) → skip (a ++ r) ≡ skip r
@@ -54,7 +54,7 @@ skip-past (more {b = b} (right (right (right (octet x e)))) w) r = skip-one x (b
 
 -- where no ws stands there is nothing to skip
 pub skip-none : (x : ℕ) (s : List ℕ) → isWs x ≡ false → skip (x ∷ s) ≡ x ∷ s
-unfolding skip
+unfolding pastAll
 skip-none x s e = rw e
 
 -- a structural character: what the reader sees after the ws before it, and what is left after the ws behind it
@@ -79,7 +79,7 @@ structural-all x n s r =
 
 -- Section 6.
 pub digits-past : {a : List ℕ} → Star Grammar.DIGIT a → (r : List ℕ) → free isDigit r ≡ true → pastDigits (a ++ r) ≡ r
-unfolding pastDigits _++_
+unfolding pastAll _++_
 digits-past none [] f = refl
 digits-past none (x ∷ r) f = rw (not-true (isDigit x) f)
 digits-past (more (octet x e) d) r f = rw e (digits-past d r f)

@@ -132,14 +132,30 @@ chars-at : (x : ℕ) (l : List ℕ) → charsFrom 0 (x ∷ l) ≡ ends (pieceOf 
 unfolding charsFrom
 chars-at x l = refl
 
+pub chars-none : charsFrom 0 [] ≡ bad
+unfolding charsFrom
+chars-none = refl
+
 nothing-there : pieceOf [] ≡ wrong
 unfolding pieceOf
 nothing-there = refl
 
+-- the rest of a string, by what stands at its head
+pub chars-stands : (l : List ℕ) {v : List ℕ} {n : ℕ} → pieceOf l ≡ stands v n → charsFrom 0 l ≡ andThen (charsFrom 0 (drop (suc n) l)) (λ w q. got (v ++ w) q)
+chars-stands [] p = absurd (let o = nothing-there in let z : _≡_ {A = ℕ} 0 1 = cc in omega arith)
+chars-stands (x ∷ l) {n = n} p = chars-at x l ∙ rw (p, chars-skip n l)
+
+pub chars-close : (l : List ℕ) → pieceOf l ≡ closes → charsFrom 0 l ≡ got [] (drop 1 l)
+chars-close [] p = absurd (let o = nothing-there in let z : _≡_ {A = ℕ} 0 1 = cc in omega arith)
+chars-close (x ∷ l) p = chars-at x l ∙ rw p
+
+pub chars-wrong : (l : List ℕ) → pieceOf l ≡ wrong → charsFrom 0 l ≡ bad
+chars-wrong [] p = chars-none
+chars-wrong (x ∷ l) p = chars-at x l ∙ rw p
+
 chars-cons : (l : List ℕ) {v w q : List ℕ} {n : ℕ} → pieceOf l ≡ stands v n → charsFrom 0 (drop (suc n) l) ≡ got w q → charsFrom 0 l ≡ got (v ++ w) q
 unfolding andThen
-chars-cons [] p e = absurd (let o = nothing-there in let z : _≡_ {A = ℕ} 0 1 = cc in omega arith)
-chars-cons (x ∷ l) {n = n} p e = chars-at x l ∙ rw (p, chars-skip n l, e)
+chars-cons l p e = chars-stands l p ∙ rw e
 
 quote-closes : (r : List ℕ) → charsFrom 0 (0x22 ∷ r) ≡ got [] r
 unfolding charsFrom pieceOf

@@ -10,7 +10,7 @@ use Rattle.ground.specs.Abnf.{Octet, _⊹_, _∣_, Opt, Exactly, Star, octet, _
 use Rattle.ground.specs.Choice.{pick, either, within}
 use Rattle.ground.proofs.Cases.{within-both, within-yes, clash}
 use Rattle.rfc8259.specs.Grammar
-use Rattle.rfc8259.specs.Reader.{Out, got, bad, andThen, isWs, skip, oneOf, structural, isDigit, pastDigits, digits, optional, int, isMinus, isSign, past, isPoint, isE, frac, exp, numberOf}
+use Rattle.rfc8259.specs.Reader.{pastAll, Out, got, bad, andThen, isWs, skip, oneOf, structural, isDigit, pastDigits, digits, optional, int, isMinus, isSign, past, isPoint, isE, frac, exp, numberOf}
 
 -- a part of a kind at the head, and what is left
 pub record Took (A : List ℕ → Type 0) (s r : List ℕ) : Type 0 where
@@ -68,14 +68,18 @@ star-more : {A : List ℕ → Type 0} {x : ℕ} {s r : List ℕ} → A (x ∷ []
 unfolding _++_
 star-more {x = x} a t = record { part = x ∷ t .part; cut = ap (λ l. x ∷ l) (t .cut); is = more a (t .is) }
 
-pub skip-took : (s : List ℕ) → Took Grammar.Ws s (skip s)
-unfolding skip _++_
-skip-took [] = record { part = []; cut = refl; is = none }
-skip-took (x ∷ s) = go (isWs x) refl (skip-took s)
+-- octets of one kind, as many as there are
+all-took : (A : List ℕ → Type 0) (p : ℕ → Bool) → ((x : ℕ) → p x ≡ true → A (x ∷ [])) → (s : List ℕ) → Took (Star A) s (pastAll p s)
+unfolding pastAll _++_
+all-took A p f [] = record { part = []; cut = refl; is = none }
+all-took A p f (x ∷ s) = go (p x) refl (all-took A p f s)
   where
-    go : (b : Bool) → isWs x ≡ b → Took Grammar.Ws s (skip s) → Took Grammar.Ws (x ∷ s) (pick b (skip s) (x ∷ s))
-    go true e t = star-more (ws-octet x e) t
+    go : (b : Bool) → p x ≡ b → Took (Star A) s (pastAll p s) → Took (Star A) (x ∷ s) (pick b (pastAll p s) (x ∷ s))
+    go true e t = star-more (f x e) t
     go false e t = record { part = []; cut = refl; is = none }
+
+pub skip-took : (s : List ℕ) → Took Grammar.Ws s (skip s)
+skip-took = all-took (Octet 0x20 0x20 ∣ Octet 0x09 0x09 ∣ Octet 0x0A 0x0A ∣ Octet 0x0D 0x0D) isWs ws-octet
 
 one-took : (p : ℕ → Bool) (s : List ℕ) {x : ℕ} {r : List ℕ} → oneOf p s ≡ got x r → (s ≡ x ∷ r) × (p x ≡ true)
 one-took p [] e = never-bad e
@@ -96,14 +100,8 @@ structural-took x s e =
     took-cat (skip-took s) (took-cat (octet-took x x (skip s) (t .reads)) (took-to (same-rest (t .goes)) (skip-took (t .left-over))))
 
 -- Section 6.
-pub past-digits-took : (s : List ℕ) → Took (Star Grammar.DIGIT) s (pastDigits s)
-unfolding pastDigits _++_
-past-digits-took [] = record { part = []; cut = refl; is = none }
-past-digits-took (x ∷ s) = go (isDigit x) refl (past-digits-took s)
-  where
-    go : (b : Bool) → isDigit x ≡ b → Took (Star Grammar.DIGIT) s (pastDigits s) → Took (Star Grammar.DIGIT) (x ∷ s) (pick b (pastDigits s) (x ∷ s))
-    go true e t = star-more (octet x e) t
-    go false e t = record { part = []; cut = refl; is = none }
+past-digits-took : (s : List ℕ) → Took (Star Grammar.DIGIT) s (pastDigits s)
+past-digits-took = all-took Grammar.DIGIT isDigit octet
 
 digits-took : (s : List ℕ) {y : ℕ} {r : List ℕ} → digits s ≡ got y r → Took (Grammar.DIGIT ⊹ Star Grammar.DIGIT) s r
 unfolding digits

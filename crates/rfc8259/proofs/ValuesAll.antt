@@ -13,7 +13,7 @@ use Rattle.ground.specs.Choice.{pick, either, within}
 use Rattle.ground.proofs.Cases.{within-both, within-yes, within-high, clash}
 use Rattle.rfc8259.specs.Grammar
 use Rattle.rfc8259.specs.Grammar.{Meaning, text, other, Named}
-use Rattle.rfc8259.specs.Reader.{Out, got, bad, andThen, isWs, skip, structural, past, int, numberOf, stringOf, pastWord, asText, asOther, flatOf, afterItem, itemsOf, insideOf, enclosedOf, Item, item, memberOf, nestedOf, valueOf, allRead, membersOf}
+use Rattle.rfc8259.specs.Reader.{pastAll, Out, got, bad, andThen, isWs, skip, structural, past, int, numberOf, stringOf, pastWord, asText, asOther, flatOf, afterItem, itemsOf, insideOf, enclosedOf, Item, item, memberOf, nestedOf, valueOf, allRead, membersOf}
 use Rattle.rfc8259.proofs.Took.{Took, Then, and-got, same-rest, never-bad, structural-took}
 use Rattle.rfc8259.proofs.StringsTook.{string-took}
 use Rattle.rfc8259.proofs.ValuesTook.{value-took, names, skip-twice}
@@ -113,7 +113,7 @@ list-cons : {A : Type 0} {x y : A} {xs ys : List A} → x ≡ y → xs ≡ ys �
 list-cons e g = cc
 
 skip-shrinks : (s : List ℕ) → length (skip s) ≤ length s
-unfolding skip
+unfolding pastAll
 skip-shrinks [] = omega arith
 skip-shrinks (x ∷ s) = go (isWs x) (skip-shrinks s)
   where
@@ -351,7 +351,7 @@ no-closing zero t = refl
 no-closing (suc depth) t = refl
 
 skip-empty : skip [] ≡ []
-unfolding skip
+unfolding pastAll
 skip-empty = refl
 
 reader : (depth : ℕ) → ((a : List ℕ) (m : Meaning) → Grammar.Value depth a m → (r : List ℕ) → stops r ≡ true → ReadAll (valueOf depth) a r m) →

@@ -13,7 +13,7 @@ use Rattle.ground.specs.Choice.{pick, within}
 use Rattle.ground.proofs.Cases.{within-yes}
 use Rattle.rfc8259.specs.Grammar
 use Rattle.rfc8259.specs.Grammar.{Meaning, text, other, Named}
-use Rattle.rfc8259.specs.Reader.{Out, got, bad, andThen, isWs, skip, structural, numberOf, stringOf, pastWord, asText, asOther, flatOf, afterItem, itemsOf, insideOf, enclosedOf, Item, item, memberOf, nestedOf, valueOf, allRead, membersOf}
+use Rattle.rfc8259.specs.Reader.{pastAll, Out, got, bad, andThen, isWs, skip, structural, numberOf, stringOf, pastWord, asText, asOther, flatOf, afterItem, itemsOf, insideOf, enclosedOf, Item, item, memberOf, nestedOf, valueOf, allRead, membersOf}
 use Rattle.rfc8259.proofs.Took.{Took, took-as, took-to, took-cat, Then, and-got, same-rest, same-value, never-bad, skip-took, structural-took, number-took}
 use Rattle.rfc8259.proofs.StringsTook.{string-took}
 
@@ -66,7 +66,7 @@ structural-here x q t y e f =
     took-cat (took-to e (skip-took q)) (took-cat (record { part = y ∷ []; cut = refl; is = here }) (skip-took t))
 
 pub skip-twice : (s : List ℕ) → skip (skip s) ≡ skip s
-unfolding skip
+unfolding pastAll
 skip-twice [] = refl
 skip-twice (x ∷ s) = go (isWs x) refl (skip-twice s)
   where
@@ -220,7 +220,7 @@ named-object (Grammar.filled o s c) = Grammar.filled o (named-items s) c
 
 -- where a character stands that is no ws, there is none to skip
 no-ws : (x : ℕ) (s : List ℕ) (c : ℕ) → eqb x c ≡ true → isWs c ≡ false → skip (x ∷ s) ≡ x ∷ s
-unfolding skip
+unfolding pastAll
 no-ws x s c e f = let is : isWs x ≡ false = ap isWs (eqb-true x c e) ∙ f in rw is
 
 -- Values, level by level.

@@ -21,11 +21,15 @@ andThen bad k = bad
 abbrev pub isWs : ℕ → Bool
 isWs x = either (within 0x20 0x20 x) (either (within 0x09 0x09 x) (either (within 0x0A 0x0A x) (within 0x0D 0x0D x)))
 
-unfoldable pub skip : List ℕ → List ℕ
-skip [] = []
-skip (x ∷ s) =
-    let more = skip s in
-    pick (isWs x) more (x ∷ s)
+-- a text without the octets at its head for which `p` holds
+unfoldable pub pastAll : (ℕ → Bool) → List ℕ → List ℕ
+pastAll p [] = []
+pastAll p (x ∷ s) =
+    let more = pastAll p s in
+    pick (p x) more (x ∷ s)
+
+abbrev pub skip : List ℕ → List ℕ
+skip s = pastAll isWs s
 
 -- one octet
 abbrev pub oneOf : (ℕ → Bool) → List ℕ → Out ℕ
@@ -40,11 +44,8 @@ structural x s = andThen (oneOf (within x x) (skip s)) (λ y r. got y (skip r))
 abbrev pub isDigit : ℕ → Bool
 isDigit x = within 0x30 0x39 x
 
-unfoldable pub pastDigits : List ℕ → List ℕ
-pastDigits [] = []
-pastDigits (x ∷ s) =
-    let more = pastDigits s in
-    pick (isDigit x) more (x ∷ s)
+abbrev pub pastDigits : List ℕ → List ℕ
+pastDigits s = pastAll isDigit s
 
 -- 1*DIGIT
 unfoldable pub digits : List ℕ → Out ℕ

@@ -1,0 +1,6 @@
+-- Laws of reading by places, one file a subject.
+pub mod Spaces
+pub mod Numbers
+pub mod Hex
+pub mod PieceLaws
+pub mod Strings

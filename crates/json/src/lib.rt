@@ -1,0 +1,9 @@
+// JSON in comments: a reader of RFC 8259 by places in a text. Every public function takes any bytes and ends.
+mod number;
+mod space;
+mod string;
+
+pub use space::After;
+pub use string::Piece;
+pub use string::piece_at;
+pub use string::string_end;
