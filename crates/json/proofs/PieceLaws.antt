@@ -2,11 +2,11 @@
 use mathlib.Core.Path.{_≡_, refl, sym, _∙_, ap}
 use mathlib.Core.Bool.{Bool, true, false}
 use mathlib.Core.List.{List, [], _∷_}
-use Prim.Native.Nat.{ℕ, suc, _+_, _*_, _-_, _^_, _≤_, _<_}
+use Prim.Native.Nat.{ℕ, suc, _+_, _*_, _-_, _/_, _%_, _^_, _≤_, _<_}
 use native.Mathlib.Nat.{add-assoc}
 use native.Mathlib.Numerals.{add-one}
 use native.Mathlib.Omega.{arith}
-use lib.Dec.{eqb}
+use lib.Dec.{eqb, ltb}
 use lib.ListN.{length, getD, drop, length-drop, drop-of-length-le}
 use lib.Seq.{drop-cons, drop-drop}
 use mir.Val.{Fits}
@@ -28,6 +28,19 @@ pub ruleset short-bytes = (cases, needs)
 -- an answer about what is the same
 piece-as : (s : List ℕ) (base : ℕ) (r : Piece) {p q : Reader.Piece} → q ≡ p → PieceMeans s base r p → PieceMeans s base r q
 piece-as s base r e m = rw e m
+
+-- a code point has four octets at most
+pub utf8-short : (c : ℕ) → length (utf8 c) ≤ 4
+unfolding utf8
+utf8-short c = go (ltb c 0x80) (ltb c 0x800) (ltb c 0x10000)
+  where
+    go : (x y z : Bool) →
+        length (pick x (c ∷ []) (pick y ((0xC0 + c / 64) ∷ (0x80 + c % 64) ∷ []) (pick z ((0xE0 + c / 4096) ∷ (0x80 + c / 64 % 64) ∷ (0x80 + c % 64) ∷ [])
+        ((0xF0 + c / 262144) ∷ (0x80 + c / 4096 % 64) ∷ (0x80 + c / 64 % 64) ∷ (0x80 + c % 64) ∷ [])))) ≤ 4
+    go true y z = omega arith
+    go false true z = omega arith
+    go false false true = omega arith
+    go false false false = omega arith
 
 -- where four digits read there are four
 long-enough : (l : List ℕ) → hex4 l < 65536 → 4 ≤ length l
@@ -88,6 +101,7 @@ module _ (s : List ℕ) (base high : ℕ) (i : base + 6 ≤ length s) where
             is = seen ∙ rw (within-yes 0xDC00 0xDFFF low l u);
             next = omega arith;
             inside = let k = inside in omega arith;
+            room = let c = utf8-short (0x10000 + (high - 0xD800) * 0x400 + (low - 0xDC00)) in omega arith;
           }
 
           pub second-fits : length s < 2 ^ 64 → Fits w64 (base + 6 + 6)
@@ -116,7 +130,7 @@ module _ (s : List ℕ) (base : ℕ) (i : base + 2 ≤ length s) {code : ℕ} (g
     unicode-fits b = let k = unicode-inside in omega arith
 
     alone : within 0xD800 0xDBFF code ≡ false → within 0xDC00 0xDFFF code ≡ false → Stood s base (base + 6) (utf8 code) (unicode (drop (base + 2) s))
-    alone p q = record { size = 5; is = whole ∙ rw (ne-eqb code 65536 n, p, q); next = omega arith; inside = unicode-inside }
+    alone p q = record { size = 5; is = whole ∙ rw (ne-eqb code 65536 n, p, q); next = omega arith; inside = unicode-inside; room = let c = utf8-short code in omega arith }
 
     pub unicode-below : code < 0xD800 → Stood s base (base + 6) (utf8 code) (unicode (drop (base + 2) s))
     unicode-below l = alone (within-low 0xD800 0xDBFF code l) (within-low 0xDC00 0xDFFF code (omega arith))
@@ -171,7 +185,7 @@ module _ (s : List ℕ) (base : ℕ) where
       escape-wrong z = small ∙ rw (eq-eqb byte 0 z)
 
       pub escape-short : (byte ≡ 0 → ⊥) → Stood s base (base + 1 + 1) (byte ∷ []) (escape (drop (base + 1) s))
-      escape-short z = record { size = 1; is = small ∙ rw (ne-eqb byte 0 z); next = omega arith; inside = omega arith }
+      escape-short z = record { size = 1; is = small ∙ rw (ne-eqb byte 0 z); next = omega arith; inside = omega arith; room = omega arith }
 
 pub ruleset escapes = (escape-end, escape-room, escape-unicode, escape-wrong, escape-short, needs)
 
@@ -205,6 +219,7 @@ module _ (s : List ℕ) (at : ℕ) (h : at < length s) where
         is = rw (here, ne-eqb (getD s at 0) 0x22 n, ne-eqb (getD s at 0) 0x5C k, within-yes 0x20 0xFF (getD s at 0) l (omega (arith, b at)));
         next = omega arith;
         inside = omega arith;
+        room = omega arith;
       }
 
 pub ruleset pieces-here = (piece-end, piece-closes, piece-escape, piece-control, piece-plain, needs)

@@ -39,12 +39,16 @@ pub record Stringing (s : List ℕ) (start at : ℕ) : Type 0 where
 pub string-starts : (s : List ℕ) (start : ℕ) → Stringing s start start
 string-starts s start = record { goes = omega arith; passed = []; decides = after-nothing (charsFrom 0 (drop start s)) }
 
+pub starts-passed : (s : List ℕ) (start : ℕ) → string-starts s start .passed ≡ []
+unfolding string-starts
+starts-passed s start = refl
+
 module _ {s : List ℕ} {start at : ℕ} (k : Stringing s start at) where
   pub string-cut : length s ≤ at → charsFrom 0 (drop start s) ≡ bad
   unfolding andThen
   string-cut h = k .decides ∙ rw (drop-of-length-le s h, chars-none)
 
-  stood-on : {n : ℕ} {v : List ℕ} → Stood s at n v (pieceOf (drop at s)) → Stringing s start n
+  pub stood-on : {n : ℕ} {v : List ℕ} → Stood s at n v (pieceOf (drop at s)) → Stringing s start n
   stood-on {n} {v} m = record {
     goes = omega (arith, k .goes, m .next);
     passed = k .passed ++ v;
@@ -53,6 +57,10 @@ module _ {s : List ℕ} {start at : ℕ} (k : Stringing s start at) where
         ∙ ap (after (k .passed)) (chars-stands (drop at s) (m .is) ∙ ap (λ l. after v (charsFrom 0 l)) (drop-drop (suc (m .size)) at s ∙ ap (λ i. drop i s) (sym (m .next))))
         ∙ after-both (k .passed) v (charsFrom 0 (drop n s));
   }
+
+  pub stood-passed : {n : ℕ} {v : List ℕ} (m : Stood s at n v (pieceOf (drop at s))) → stood-on m .passed ≡ k .passed ++ v
+  unfolding stood-on
+  stood-passed m = refl
 
   stood-falls : {n : ℕ} {v : List ℕ} → at < length s → Stood s at n v (pieceOf (drop at s)) → length s - n < length s - at
   stood-falls h m = omega (arith, m .next, m .inside)
@@ -82,6 +90,10 @@ module _ {s : List ℕ} {start at : ℕ} (k : Stringing s start at) where
       where
         closed : t ≡ Closes n → Closed s at n (pieceOf (drop at s))
         closed f = rw f at m
+
+    pub closed-value : {n : ℕ} (e : t ≡ Closes n) → string-closed e .value ≡ k .passed ++ []
+    unfolding string-closed
+    closed-value e = refl
 
     pub string-wrong : t ≡ Wrong → charsFrom 0 (drop start s) ≡ bad
     unfolding andThen

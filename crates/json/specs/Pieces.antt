@@ -16,6 +16,8 @@ pub record Stood (s : List ℕ) (base n : ℕ) (v : List ℕ) (p : Reader.Piece)
   pub is : p ≡ Reader.stands v size
   pub next : n ≡ base + suc size
   pub inside : n ≤ length s
+  -- no char stands for more bytes than it takes
+  pub room : length v ≤ suc size
 
 pub record Closed (s : List ℕ) (base n : ℕ) (p : Reader.Piece) : Type 0 where
   pub is : p ≡ Reader.closes
