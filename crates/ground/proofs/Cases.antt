@@ -4,9 +4,9 @@ use mathlib.Core.Bool.{Bool, true, false}
 use mathlib.Core.Logic.{_⊎_, inl, inr}
 use Prim.Native.Nat.{ℕ, _≤_, _<_}
 use native.Mathlib.Omega.{arith}
-use lib.Dec.{leb, ltb, eqb}
+use lib.Dec.{leb}
 use borrow.Author.Tests.{lt-ltb, le-ltb, le-leb, lt-leb, eq-eqb, ne-eqb, leb-true, leb-false}
-use Rattle.ground.specs.Choice.{pick, both, within}
+use Rattle.ground.specs.Choice.{both, within}
 
 -- for code without a loop: each test of the rule is rewritten by the branch that was taken
 pub ruleset cases = (lt-ltb, le-ltb, le-leb, lt-leb, eq-eqb, ne-eqb, arith)

@@ -1,5 +1,5 @@
 -- Hexadecimal digits, one and four. Assumes nothing.
-use mathlib.Core.Path.{_≡_, refl, sym, _∙_, ap}
+use mathlib.Core.Path.{_≡_, refl, sym, _∙_}
 use mathlib.Core.Bool.{Bool, true, false}
 use mathlib.Core.List.{List, [], _∷_}
 use Prim.Native.Nat.{ℕ, suc, _+_, _*_, _-_, _≤_, _<_}
@@ -8,8 +8,6 @@ use native.Mathlib.Omega.{arith}
 use lib.Dec.{eqb}
 use lib.ListN.{length, getD, drop, length-drop}
 use lib.Seq.{drop-cons}
-use mir.Val.{Fits}
-use mir.Syntax.{w32}
 use borrow.Author.Tests.{eq-eqb, ne-eqb, eqb-false}
 use borrow.Author.Needs.{needs}
 use Rattle.ground.specs.Choice.{pick, either, within}

@@ -1,7 +1,7 @@
 -- The length of what a string stands for. Assumes nothing.
-use mathlib.Core.Path.{_≡_, refl, sym, _∙_, ap}
-use mathlib.Core.List.{List, [], _∷_, _++_}
-use Prim.Native.Nat.{ℕ, suc, _+_, _-_, _^_, _≤_, _<_}
+use mathlib.Core.Path.{_≡_, sym, ap}
+use mathlib.Core.List.{List, []}
+use Prim.Native.Nat.{ℕ, _+_, _^_, _≤_, _<_}
 use native.Mathlib.Omega.{arith}
 use lib.ListN.{length, drop, length-append}
 use mir.Val.{Fits}
@@ -9,14 +9,12 @@ use mir.Syntax.{w64}
 use borrow.Author.Tests.{lt-ltb, le-ltb}
 use borrow.Author.Needs.{needs}
 use Rattle.rfc8259.specs.Encode.{utf8}
-use Rattle.rfc8259.specs.Reader.{Out, got, bad, andThen, pieceOf, charsFrom}
-use Rattle.json.specs.declared.decode.Decoded.{Decoded}
+use Rattle.rfc8259.specs.Reader.{pieceOf, charsFrom}
 use Rattle.json.specs.declared.decode.Decoded.the-variants.{Bytes, NoString}
 use Rattle.json.specs.declared.string.Piece.{Piece}
 use Rattle.json.specs.declared.string.Piece.the-variants.{Byte, Code, Closes, Wrong}
 use Rattle.json.specs.Decoded.{decodedLength}
-use Rattle.json.specs.Means.{Reached}
-use Rattle.json.specs.Pieces.{Stood, Closed, PieceMeans}
+use Rattle.json.specs.Pieces.{Stood, PieceMeans}
 use Rattle.json.proofs.Strings.{Stringing, string-starts, starts-passed, string-cut, stood-on, stood-passed, closed-value, string-closed, string-wrong, byte-falls, code-falls}
 
 module _ (c : ℕ) where

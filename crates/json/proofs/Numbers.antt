@@ -1,20 +1,19 @@
 -- Numbers, by places. Assumes nothing.
-use mathlib.Core.Path.{_≡_, refl, sym, _∙_, ap}
+use mathlib.Core.Path.{_≡_, _∙_, ap}
 use mathlib.Core.Bool.{Bool, true, false}
-use mathlib.Core.List.{List, [], _∷_}
-use Prim.Native.Nat.{ℕ, suc, _+_, _≤_, _<_}
+use mathlib.Core.List.{List, _∷_}
+use Prim.Native.Nat.{ℕ, _+_, _≤_, _<_}
 use native.Mathlib.Numerals.{add-one}
 use native.Mathlib.Omega.{arith}
 use lib.ListN.{length, getD, drop, drop-of-length-le}
 use lib.Seq.{drop-cons}
 use borrow.Author.Needs.{needs}
-use Rattle.ground.specs.Choice.{pick, either, within}
 use Rattle.ground.proofs.Cases.{within-yes, within-low, within-high}
-use Rattle.rfc8259.specs.Reader.{Out, got, bad, andThen, pastAll, isDigit, isSign, isMinus, isPoint, isE, oneOf, past, optional, digits, int, frac, exp, numberOf}
+use Rattle.rfc8259.specs.Reader.{Out, bad, andThen, isDigit, isSign, isMinus, isE, past, optional, digits, int, frac, exp, numberOf}
 use Rattle.json.specs.declared.space.After.{After}
 use Rattle.json.specs.declared.space.After.the-variants.{Next, Unread}
 use Rattle.json.specs.Means.{Reached, Means, Past, PastOne}
-use Rattle.json.proofs.Spaces.{Passing, passing-starts, passing-ends, passing-stops, passing-more, apart}
+use Rattle.json.proofs.Spaces.{passing-starts, passing-ends, passing-stops, passing-more, apart}
 
 -- What an answer means, case by case.
 pub means-next : {A : Type 0} (s : List ℕ) (o : Out A) (t : After) {n : ℕ} → Means s t o → t ≡ Next n → Reached s n o

@@ -1,26 +1,24 @@
 -- Chars of a string, by places. Assumes nothing.
-use mathlib.Core.Path.{_≡_, refl, sym, _∙_, ap}
+use mathlib.Core.Path.{_≡_, refl, _∙_}
 use mathlib.Core.Bool.{Bool, true, false}
 use mathlib.Core.List.{List, [], _∷_}
 use Prim.Native.Nat.{ℕ, suc, _+_, _*_, _-_, _/_, _%_, _^_, _≤_, _<_}
-use native.Mathlib.Nat.{add-assoc}
 use native.Mathlib.Numerals.{add-one}
 use native.Mathlib.Omega.{arith}
 use lib.Dec.{eqb, ltb}
 use lib.ListN.{length, getD, drop, length-drop, drop-of-length-le}
 use lib.Seq.{drop-cons, drop-drop}
 use mir.Val.{Fits}
-use mir.Syntax.{w8, w32, w64}
+use mir.Syntax.{w8, w64}
 use borrow.Author.Tests.{eq-eqb, ne-eqb}
 use borrow.Author.Needs.{needs}
 use Rattle.ground.specs.Choice.{pick, within}
 use Rattle.ground.proofs.Cases.{cases, within-yes, within-low, within-high}
 use Rattle.rfc8259.specs.Encode.{utf8}
 use Rattle.rfc8259.specs.Reader as Reader
-use Rattle.rfc8259.specs.Reader.{hexdig, hexValue, hex4, second, unicode, shortEscape, escape, pieceOf}
+use Rattle.rfc8259.specs.Reader.{hex4, second, unicode, shortEscape, escape, pieceOf}
 use Rattle.json.proofs.Hex.{hex4-most}
 use Rattle.json.specs.declared.string.Piece.{Piece}
-use Rattle.json.specs.declared.string.Piece.the-variants.{Byte, Code, Closes, Wrong}
 use Rattle.json.specs.Pieces.{Stood, Closed, PieceMeans, shortByte}
 
 pub ruleset short-bytes = (cases, needs)

@@ -1,8 +1,8 @@
 -- Runs of octets, white space and structural characters, by places. Assumes nothing.
 use mathlib.Core.Path.{_≡_, refl, sym, _∙_, ap}
 use mathlib.Core.Bool.{Bool, true, false}
-use mathlib.Core.List.{List, [], _∷_}
-use Prim.Native.Nat.{ℕ, suc, _+_, _-_, _≤_, _<_}
+use mathlib.Core.List.{List}
+use Prim.Native.Nat.{ℕ, _+_, _≤_, _<_}
 use native.Mathlib.Numerals.{add-one}
 use native.Mathlib.Omega.{arith}
 use lib.Dec.{eqb}
@@ -10,12 +10,10 @@ use lib.ListN.{length, getD, drop, drop-of-length-le}
 use lib.Seq.{drop-cons}
 use borrow.Author.Tests.{eqb-true, eqb-false}
 use borrow.Author.Needs.{needs}
-use Rattle.ground.specs.Choice.{pick, either, within}
+use Rattle.ground.specs.Choice.{within}
 use Rattle.ground.proofs.Cases.{within-yes, within-both}
-use Rattle.rfc8259.specs.Reader.{Out, got, bad, andThen, pastAll, isWs, skip, oneOf, structural}
-use Rattle.json.specs.declared.space.After.{After}
-use Rattle.json.specs.declared.space.After.the-variants.{Next, Unread}
-use Rattle.json.specs.Means.{Reached, Means, Past}
+use Rattle.rfc8259.specs.Reader.{got, bad, andThen, pastAll, isWs, skip, oneOf, structural}
+use Rattle.json.specs.Means.{Reached, Past}
 
 -- White space.
 module _ (b : ℕ) where

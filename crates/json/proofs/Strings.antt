@@ -1,20 +1,17 @@
 -- Strings, char by char: the rest decides, after the bytes that were passed. Assumes nothing.
 use mathlib.Core.Path.{_≡_, refl, sym, _∙_, ap}
-use mathlib.Core.List.{List, [], _∷_, _++_, append-assoc}
-use Prim.Native.Nat.{ℕ, suc, _+_, _-_, _≤_, _<_}
+use mathlib.Core.List.{List, [], _++_, append-assoc}
+use Prim.Native.Nat.{ℕ, suc, _-_, _≤_, _<_}
 use native.Mathlib.Omega.{arith}
 use lib.ListN.{length, drop, drop-of-length-le}
 use lib.Seq.{drop-drop}
 use borrow.Author.Needs.{needs}
-use Rattle.rfc8259.specs.Encode.{utf8}
 use Rattle.rfc8259.specs.Reader as Reader
 use Rattle.rfc8259.specs.Reader.{Out, got, bad, andThen, pieceOf, charsFrom}
 use Rattle.rfc8259.proofs.StringsAll.{chars-none, chars-stands, chars-close, chars-wrong}
-use Rattle.json.specs.declared.space.After.{After}
-use Rattle.json.specs.declared.space.After.the-variants.{Next, Unread}
 use Rattle.json.specs.declared.string.Piece.{Piece}
 use Rattle.json.specs.declared.string.Piece.the-variants.{Byte, Code, Closes, Wrong}
-use Rattle.json.specs.Means.{Reached, Means}
+use Rattle.json.specs.Means.{Reached}
 use Rattle.json.specs.Pieces.{Stood, Closed, PieceMeans}
 
 -- bytes in front of what a reader gives

@@ -1,6 +1,5 @@
 -- Document 01 "Method": "A number is an optional `+` and at least one digit, up to 4294967295".
 use mathlib.Core.List.{List, [], _∷_}
-use mathlib.Core.Bool.{Bool, true, false}
 use Prim.Native.Nat.{ℕ, _+_, _*_, _-_}
 use lib.Dec.{eqb, leb}
 use Rattle.ground.specs.Choice.{pick, within}

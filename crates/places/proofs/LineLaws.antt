@@ -1,8 +1,8 @@
 -- Lines: the readers of one line, and that the lines of a text are found one after the other. Assumes nothing.
 use mathlib.Core.Path.{_≡_, refl, sym, _∙_, ap}
 use mathlib.Core.Bool.{Bool, true, false}
-use mathlib.Core.List.{List, [], _∷_, _++_, map}
-use Prim.Native.Nat.{ℕ, zero, suc, _+_, _-_, _^_, _≤_, _<_}
+use mathlib.Core.List.{List, [], _∷_, _++_}
+use Prim.Native.Nat.{ℕ, suc, _+_, _-_, _^_, _≤_, _<_}
 use native.Mathlib.Nat.{add-zero, add-suc, suc-add, add-assoc}
 use native.Mathlib.Numerals.{add-one}
 use native.Mathlib.Omega.{arith}
@@ -16,9 +16,8 @@ use borrow.Author.Needs.{needs}
 use mathlib.Core.Logic.{_⊎_, inl, inr}
 use Rattle.ground.specs.Choice.{pick, both}
 use Rattle.ground.proofs.Cases.{le-or-lt}
-use Rattle.places.specs.declared.lines.NextLine.{NextLine}
 use Rattle.places.specs.declared.lines.NextLine.the-variants.{Line, NoLine}
-use Rattle.places.specs.Lines.{onto, rawLines, crEnd, withoutCr, lines, toLf, lineFrom, nextLine}
+use Rattle.places.specs.Lines.{onto, rawLines, crEnd, lines, toLf, lineFrom, nextLine}
 
 pub to-lf-le : (l : List ℕ) → toLf l ≤ length l
 unfolding toLf

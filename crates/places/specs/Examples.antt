@@ -1,7 +1,6 @@
 -- Small examples, computed from the rules.
 use mathlib.Core.Path.{_≡_, refl}
-use mathlib.Core.List.{List, [], _∷_}
-use Prim.Native.Nat.{ℕ}
+use mathlib.Core.List.{[], _∷_}
 use Rattle.ground.specs.Ascii.{ascii}
 use Rattle.places.specs.declared.find.Place.the-variants.{At}
 use Rattle.places.specs.declared.lines.NextLine.the-variants.{Line}

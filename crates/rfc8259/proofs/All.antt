@@ -1,16 +1,16 @@
 -- Complete: the reader takes what the grammar has. Here ws, structural characters and numbers. Assumes nothing.
-use mathlib.Core.Path.{_≡_, refl, sym, _∙_, ap}
+use mathlib.Core.Path.{_≡_, refl, _∙_, ap}
 use mathlib.Core.Bool.{Bool, true, false, not}
 use mathlib.Core.List.{List, [], _∷_, _++_, append-assoc}
-use Prim.Native.Nat.{ℕ, zero, suc, _≤_, _<_}
+use Prim.Native.Nat.{ℕ, _<_}
 use native.Mathlib.Omega.{arith}
 use lib.Dec.{lit<}
 use borrow.Author.Tests.{not-true}
 use Rattle.ground.specs.Abnf.{Octet, _⊹_, _∣_, Opt, Star, octet, _⨾_, left, right, absent, present, none, more}
-use Rattle.ground.specs.Choice.{pick, either, within}
+use Rattle.ground.specs.Choice.{either, within}
 use Rattle.ground.proofs.Cases.{within-both, within-yes, within-low, within-high, clash}
 use Rattle.rfc8259.specs.Grammar
-use Rattle.rfc8259.specs.Reader.{pastAll, Out, got, bad, andThen, isWs, skip, oneOf, structural, isDigit, pastDigits, digits, optional, int, isMinus, isSign, past, isPoint, isE, frac, exp, numberOf}
+use Rattle.rfc8259.specs.Reader.{pastAll, Out, got, andThen, isWs, skip, structural, isDigit, pastDigits, digits, optional, int, isMinus, isSign, past, isPoint, isE, frac, exp, numberOf}
 
 -- The first octet, if there is one, is none of some.
 abbrev pub free : (ℕ → Bool) → List ℕ → Bool

@@ -1,7 +1,7 @@
 -- What the reader says is what the grammar has, in both directions. Nobody has to believe a function. Assumes nothing.
 use mathlib.Core.Path.{_≡_, refl, sym, _∙_, ap}
 use mathlib.Core.Bool.{Bool, true, false}
-use mathlib.Core.List.{List, [], _∷_, _++_, map}
+use mathlib.Core.List.{List, [], _∷_}
 use mathlib.Core.Logic.{_↔_}
 use Prim.Native.Nat.{ℕ}
 use native.Mathlib.Omega.{arith}
@@ -10,7 +10,7 @@ use Rattle.ground.proofs.Cases.{clash}
 use Rattle.places.specs.Places.{same}
 use Rattle.places.proofs.PlaceLaws.{same-equal, same-refl}
 use Rattle.rfc8259.specs.Grammar.{Meaning, Named, JsonText}
-use Rattle.rfc8259.specs.Reader.{Out, got, bad, Item, membersOf}
+use Rattle.rfc8259.specs.Reader.{got, bad, Item, membersOf}
 use Rattle.rfc8259.specs.Members.{Unnamed, nobody, nor, Last, this, later, Found, missing, found, orEarlier, lastOf}
 use Rattle.rfc8259.proofs.ValuesTook.{names, json-took}
 use Rattle.rfc8259.proofs.ValuesAll.{json-all}

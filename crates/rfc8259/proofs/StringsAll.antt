@@ -1,18 +1,18 @@
 -- Complete: every char and every string of the grammar is read, with what it stands for. Assumes nothing.
-use mathlib.Core.Path.{_≡_, refl, sym, _∙_, ap}
+use mathlib.Core.Path.{_≡_, refl, _∙_, ap}
 use mathlib.Core.Bool.{Bool, true, false}
 use mathlib.Core.List.{List, [], _∷_, _++_, append-assoc}
-use Prim.Native.Nat.{ℕ, zero, suc, pred, _+_, _*_, _-_, _≤_, _<_}
+use Prim.Native.Nat.{ℕ, suc, _+_, _*_, _-_, _≤_, _<_}
 use native.Mathlib.Omega.{arith}
-use lib.Dec.{eqb, lit<}
+use lib.Dec.{eqb}
 use lib.ListN.{length, drop, length-append}
 use lib.Seq.{drop-at}
 use borrow.Author.Tests.{ne-eqb}
-use Rattle.ground.specs.Choice.{pick, either, within}
-use Rattle.ground.proofs.Cases.{within-both, within-yes, within-low, within-high, clash}
+use Rattle.ground.specs.Choice.{within}
+use Rattle.ground.proofs.Cases.{within-both, within-yes, within-high, clash}
 use Rattle.rfc8259.specs.Encode.{utf8}
 use Rattle.rfc8259.specs.Grammar
-use Rattle.rfc8259.specs.Reader.{Out, got, bad, andThen, Piece, stands, closes, wrong, hexdig, hexValue, hex4, second, unicode, shortEscape, escape, pieceOf, takes, ends, charsFrom, stringOf}
+use Rattle.rfc8259.specs.Reader.{got, bad, andThen, stands, closes, wrong, hexdig, hexValue, hex4, second, unicode, shortEscape, escape, pieceOf, takes, ends, charsFrom, stringOf}
 use Rattle.rfc8259.proofs.StringsTook.{chars-skip}
 
 -- Hexadecimal digits.

@@ -14,8 +14,8 @@ use Rattle.ground.specs.Choice.{pick, either, within}
 use Rattle.ground.proofs.Cases.{within-both, within-yes, clash, le-or-lt}
 use Rattle.rfc8259.specs.Encode.{utf8}
 use Rattle.rfc8259.specs.Grammar
-use Rattle.rfc8259.specs.Reader.{Out, got, bad, andThen, Piece, stands, closes, wrong, hexdig, hexValue, hex4, second, unicode, shortEscape, escape, pieceOf, takes, ends, charsFrom, stringOf}
-use Rattle.rfc8259.proofs.Took.{Took, Then, and-got, same-rest, same-value, never-bad}
+use Rattle.rfc8259.specs.Reader.{got, bad, andThen, Piece, stands, closes, wrong, hexdig, hexValue, hex4, second, unicode, shortEscape, escape, pieceOf, takes, ends, charsFrom, stringOf}
+use Rattle.rfc8259.proofs.Took.{Took, and-got, same-rest, same-value, never-bad}
 
 -- Choices that end in a char.
 module _ {v : List ℕ} {n : ℕ} where

@@ -2,15 +2,13 @@
 use mathlib.Core.Path.{_≡_, refl, sym, _∙_, ap}
 use mathlib.Core.Bool.{Bool, true, false}
 use mathlib.Core.List.{List, [], _∷_, _++_, append-assoc}
-use Prim.Native.Nat.{ℕ, zero, suc, pred, _+_, _*_, _-_, _≤_, _<_}
+use Prim.Native.Nat.{ℕ}
 use native.Mathlib.Omega.{arith}
-use lib.Dec.{eqb, eqb→eq}
-use borrow.Author.Tests.{eqb-true, eq-eqb}
-use Rattle.ground.specs.Abnf.{Octet, _⊹_, _∣_, Opt, Exactly, Star, octet, _⨾_, left, right, absent, present, exactly, none, more}
+use Rattle.ground.specs.Abnf.{Octet, _⊹_, _∣_, Opt, Star, octet, _⨾_, left, right, absent, present, none, more}
 use Rattle.ground.specs.Choice.{pick, either, within}
-use Rattle.ground.proofs.Cases.{within-both, within-yes, clash}
+use Rattle.ground.proofs.Cases.{clash}
 use Rattle.rfc8259.specs.Grammar
-use Rattle.rfc8259.specs.Reader.{pastAll, Out, got, bad, andThen, isWs, skip, oneOf, structural, isDigit, pastDigits, digits, optional, int, isMinus, isSign, past, isPoint, isE, frac, exp, numberOf}
+use Rattle.rfc8259.specs.Reader.{pastAll, Out, got, bad, andThen, isWs, skip, oneOf, structural, isDigit, pastDigits, digits, optional, int, isMinus, isSign, past, isPoint, isE, frac, numberOf}
 
 -- a part of a kind at the head, and what is left
 pub record Took (A : List ℕ → Type 0) (s r : List ℕ) : Type 0 where

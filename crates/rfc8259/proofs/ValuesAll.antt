@@ -2,22 +2,22 @@
 use mathlib.Core.Path.{_≡_, refl, sym, _∙_, ap}
 use mathlib.Core.Bool.{Bool, true, false}
 use mathlib.Core.List.{List, [], _∷_, _++_, append-assoc, append-nil, map}
-use Prim.Native.Nat.{ℕ, zero, suc, _+_, _≤_, _<_}
+use Prim.Native.Nat.{ℕ, zero, suc, _≤_, _<_}
 use native.Mathlib.Omega.{arith}
 use lib.Dec.{eqb, lit<}
 use lib.ListN.{length, length-append}
 use borrow.Author.Tests.{ne-eqb, eq-eqb, eqb-true}
-use Rattle.ground.specs.Abnf.{Octet, _⊹_, _∣_, Opt, Exactly, octet, _⨾_, left, right, absent, present, exactly, none, more}
+use Rattle.ground.specs.Abnf.{octet, _⨾_, left, right, absent, present, exactly, none, more}
 use Rattle.ground.specs.Ascii.{ascii}
-use Rattle.ground.specs.Choice.{pick, either, within}
-use Rattle.ground.proofs.Cases.{within-both, within-yes, within-high, clash}
+use Rattle.ground.specs.Choice.{pick, within}
+use Rattle.ground.proofs.Cases.{within-both, within-high}
 use Rattle.rfc8259.specs.Grammar
-use Rattle.rfc8259.specs.Grammar.{Meaning, text, other, Named}
-use Rattle.rfc8259.specs.Reader.{pastAll, Out, got, bad, andThen, isWs, skip, structural, past, int, numberOf, stringOf, pastWord, asText, asOther, flatOf, afterItem, itemsOf, insideOf, enclosedOf, Item, item, memberOf, nestedOf, valueOf, allRead, membersOf}
-use Rattle.rfc8259.proofs.Took.{Took, Then, and-got, same-rest, never-bad, structural-took}
+use Rattle.rfc8259.specs.Grammar.{Meaning, other, Named}
+use Rattle.rfc8259.specs.Reader.{pastAll, Out, got, bad, andThen, isWs, skip, structural, past, int, numberOf, stringOf, pastWord, flatOf, afterItem, itemsOf, insideOf, enclosedOf, Item, item, memberOf, nestedOf, valueOf, allRead, membersOf}
+use Rattle.rfc8259.proofs.Took.{Took, and-got, same-rest, never-bad, structural-took}
 use Rattle.rfc8259.proofs.StringsTook.{string-took}
 use Rattle.rfc8259.proofs.ValuesTook.{value-took, names, skip-twice}
-use Rattle.rfc8259.proofs.All.{isStop, stops, skip-past, skip-none, Stands, structural-stands, structural-all, number-all}
+use Rattle.rfc8259.proofs.All.{isStop, stops, skip-past, skip-none, structural-stands, structural-all, number-all}
 use Rattle.rfc8259.proofs.StringsAll.{string-all}
 
 -- The values that nest nothing: their first octet, and that they are read.

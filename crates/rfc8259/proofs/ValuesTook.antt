@@ -1,20 +1,20 @@
 -- Sound: the values and members that the reader takes are those of the grammar. Assumes nothing.
 use mathlib.Core.Path.{_≡_, refl, sym, _∙_, ap}
 use mathlib.Core.Bool.{Bool, true, false}
-use mathlib.Core.List.{List, [], _∷_, _++_, append-assoc, append-nil, map}
+use mathlib.Core.List.{List, [], _∷_, _++_, append-assoc, map}
 use Prim.Native.Nat.{ℕ, zero, suc}
 use native.Mathlib.Omega.{arith}
 use lib.Dec.{eqb}
 use lib.ListN.{length}
 use borrow.Author.Tests.{eqb-true}
-use Rattle.ground.specs.Abnf.{Octet, _⊹_, _∣_, Exactly, octet, _⨾_, left, right, exactly, none}
+use Rattle.ground.specs.Abnf.{Octet, Exactly, octet, left, right, exactly, none}
 use Rattle.ground.specs.Ascii.{ascii}
-use Rattle.ground.specs.Choice.{pick, within}
+use Rattle.ground.specs.Choice.{pick}
 use Rattle.ground.proofs.Cases.{within-yes}
 use Rattle.rfc8259.specs.Grammar
-use Rattle.rfc8259.specs.Grammar.{Meaning, text, other, Named}
+use Rattle.rfc8259.specs.Grammar.{Meaning, other, Named}
 use Rattle.rfc8259.specs.Reader.{pastAll, Out, got, bad, andThen, isWs, skip, structural, numberOf, stringOf, pastWord, asText, asOther, flatOf, afterItem, itemsOf, insideOf, enclosedOf, Item, item, memberOf, nestedOf, valueOf, allRead, membersOf}
-use Rattle.rfc8259.proofs.Took.{Took, took-as, took-to, took-cat, Then, and-got, same-rest, same-value, never-bad, skip-took, structural-took, number-took}
+use Rattle.rfc8259.proofs.Took.{Took, took-as, took-to, took-cat, and-got, same-rest, same-value, never-bad, skip-took, structural-took, number-took}
 use Rattle.rfc8259.proofs.StringsTook.{string-took}
 
 -- The values that nest nothing.

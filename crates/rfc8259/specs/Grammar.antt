@@ -3,7 +3,7 @@
 --
 -- The RFC counts in characters, and these are the octets of UTF-8 text: an octet from 80 on belongs to a character above 7F, which `unescaped` has.
 use mathlib.Core.Path.{_≡_}
-use mathlib.Core.Bool.{Bool, true, false}
+use mathlib.Core.Bool.{true, false}
 use mathlib.Core.List.{List, [], _∷_, _++_}
 use Prim.Native.Nat.{ℕ, zero, suc, _+_, _*_, _-_}
 use Rattle.ground.specs.Abnf.{Kind, Octet, _⊹_, _∣_, Opt, Exactly, Star}

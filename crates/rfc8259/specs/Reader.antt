@@ -1,7 +1,7 @@
 -- A reader of RFC 8259's grammar on lists: what was read, and what is left. proofs/ show that it reads exactly what the grammar has.
 use mathlib.Core.Bool.{Bool, true, false}
 use mathlib.Core.List.{List, [], _∷_, _++_}
-use Prim.Native.Nat.{ℕ, zero, suc, pred, _+_, _*_, _-_}
+use Prim.Native.Nat.{ℕ, zero, suc, _+_, _*_, _-_}
 use lib.Dec.{eqb}
 use lib.ListN.{length, drop}
 use Rattle.ground.specs.Ascii.{ascii}

@@ -1,18 +1,18 @@
 -- The search in a table of ranges: its order lets it stop at the first range that starts above. Assumes nothing.
 use mathlib.Core.Path.{_≡_, refl, sym, _∙_}
-use mathlib.Core.Bool.{Bool, true, false}
+use mathlib.Core.Bool.{true, false}
 use mathlib.Core.List.{List, [], _∷_}
-use Prim.Native.Nat.{ℕ, suc, _+_, _≤_, _<_}
+use Prim.Native.Nat.{ℕ, _+_, _≤_, _<_}
 use native.Mathlib.Numerals.{add-one, add-two}
 use native.Mathlib.Omega.{arith}
 use lib.Dec.{leb}
-use lib.ListN.{length, getD, drop, length-drop, drop-of-length-le}
+use lib.ListN.{length, getD, drop, length-drop}
 use lib.Seq.{drop-cons}
-use borrow.Author.Tests.{le-leb, lt-leb, leb-true}
+use borrow.Author.Tests.{le-leb, leb-true}
 use borrow.Author.Needs.{needs}
-use Rattle.ground.specs.Choice.{both, within}
+use Rattle.ground.specs.Choice.{both}
 use Rattle.ground.proofs.Cases.{within-yes, within-low, within-high, both-left, both-right}
-use Rattle.text.specs.White.{whiteRanges, inRanges, isWhite, risingFrom, rising}
+use Rattle.text.specs.White.{whiteRanges, inRanges, risingFrom, rising}
 
 -- the order of the table, proved once
 pub white-rising : rising whiteRanges ≡ true

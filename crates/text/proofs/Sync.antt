@@ -8,15 +8,15 @@ use native.Mathlib.Nat.{add-zero, le-of-suc-le-suc}
 use native.Mathlib.Omega.{arith}
 use lib.Dec.{eqb, lit≤}
 use lib.ListN.{length, getD, drop, length-drop}
-use lib.Seq.{drop-cons, drop-drop, getD-drop}
+use lib.Seq.{drop-drop, getD-drop}
 use borrow.Author.Needs.{needs}
-use Rattle.ground.specs.Choice.{pick, within, both}
+use Rattle.ground.specs.Choice.{pick, within}
 use Rattle.ground.proofs.Cases.{within-both, both-left, both-right, le-or-lt, clash}
 use Rattle.utf8.specs.declared.sequence.Sequence.{Sequence}
 use Rattle.utf8.specs.declared.sequence.Sequence.the-variants.{End, Good, Bad}
 use Rattle.utf8.specs.Utf8.{Lead, lead, leadOf, tails, afterLead, sequenceOf, pieces}
 use Rattle.text.specs.White.{isWhite}
-use Rattle.text.specs.Trim.{allWhite, trimEnd, whiteLength, whiteLengthOf, Before}
+use Rattle.text.specs.Trim.{allWhite, trimEnd, whiteLength, Before}
 use Rattle.utf8.proofs.Leads.{lead-low-none}
 use Rattle.utf8.proofs.Sequences.{good-fits, end-empty, tails-fit, first-good, second-good, went-on}
 use Rattle.utf8.proofs.Pieces.{pieces-none, pieces-good, pieces-bad}

@@ -17,7 +17,7 @@ use Rattle.utf8.specs.declared.sequence.Sequence.{Sequence}
 use Rattle.utf8.specs.declared.sequence.Sequence.the-variants.{End, Good, Bad}
 use Rattle.utf8.specs.Utf8.{sequenceOf, pieces}
 use Rattle.text.specs.White.{isWhite}
-use Rattle.text.specs.Trim.{runOf, allWhite, trimStart, trimEnd, trimBoth, whiteSequence, startsWhite, whiteLength, whiteLengthOf}
+use Rattle.text.specs.Trim.{runOf, allWhite, trimStart, trimEnd, trimBoth, startsWhite, whiteLength}
 use Rattle.utf8.proofs.Sequences.{end-empty, good-fits}
 use Rattle.places.proofs.PlaceLaws.{seeking, backing}
 use Rattle.utf8.proofs.Pieces.{pieces-none, pieces-good, pieces-past, pieces-on, pieces-bad, good-inside}

@@ -1,8 +1,7 @@
 -- Small examples, computed from the rules.
 use mathlib.Core.Path.{_≡_, refl}
-use mathlib.Core.List.{List, [], _∷_}
+use mathlib.Core.List.{[], _∷_}
 use mathlib.Core.Bool.{true}
-use Prim.Native.Nat.{ℕ}
 use Rattle.places.specs.declared.find.Place.the-variants.{At}
 use Rattle.places.specs.Places.{lastFrom}
 use Rattle.utf8.specs.Utf8.{leadOf, tails, afterLead, sequenceOf, piecesFrom}

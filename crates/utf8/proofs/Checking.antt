@@ -1,6 +1,6 @@
 -- The check of a whole text: what is found from here on is what is found of the whole. Assumes nothing.
 use mathlib.Core.Path.{_≡_, refl, sym, _∙_}
-use mathlib.Core.List.{List, [], _∷_}
+use mathlib.Core.List.{List}
 use Prim.Native.Nat.{ℕ, zero, suc, _+_, _-_, _^_, _≤_, _<_}
 use native.Mathlib.Omega.{arith}
 use mathlib.Core.Logic.{_⊎_, inl, inr}
@@ -11,7 +11,6 @@ use borrow.Author.Needs.{needs}
 use Rattle.ground.proofs.Cases.{le-or-lt}
 use Rattle.utf8.specs.declared.sequence.Sequence.{Sequence}
 use Rattle.utf8.specs.declared.sequence.Sequence.the-variants.{End, Good, Bad}
-use Rattle.utf8.specs.declared.check.Check.{Check}
 use Rattle.utf8.specs.declared.check.Check.the-variants.{Valid, Broken}
 use Rattle.utf8.specs.Utf8.{sequenceOf, pieces, checkFrom, checkOf, AsciiTo}
 use Rattle.utf8.proofs.Sequences.{sequence-ascii, end-empty}

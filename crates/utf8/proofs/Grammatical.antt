@@ -1,5 +1,5 @@
 -- The check accepts exactly the texts of RFC 3629's grammar. Assumes nothing.
-use mathlib.Core.Path.{_≡_, refl, sym, _∙_, ap}
+use mathlib.Core.Path.{_≡_, refl, _∙_, ap}
 use mathlib.Core.Bool.{Bool, true, false}
 use mathlib.Core.List.{List, [], _∷_, _++_}
 use mathlib.Core.Logic.{_↔_, _⊎_, inl, inr}
@@ -9,13 +9,13 @@ use native.Mathlib.Nat.{add-zero}
 use lib.Dec.{eqb, eqb·suc-zero}
 use lib.ListN.{length, take, drop, length-drop, take-append-drop}
 use lib.Seq.{drop-append-seam, take-add, drop-drop}
-use Rattle.ground.specs.Abnf.{Octet, _⊹_, _∣_, Star, octet, _⨾_, left, right, none, more}
+use Rattle.ground.specs.Abnf.{octet, _⨾_, left, right, none, more}
 use Rattle.ground.specs.Choice.{pick, within}
 use Rattle.ground.proofs.Cases.{within-both, within-high, clash, le-or-lt}
 use Rattle.utf8.specs.declared.sequence.Sequence.{Sequence}
 use Rattle.utf8.specs.declared.sequence.Sequence.the-variants.{End, Good, Bad}
 use Rattle.utf8.specs.declared.check.Check.the-variants.{Valid, Broken}
-use Rattle.utf8.specs.Grammar.{Breaks, UTF8-tail, UTF8-1, UTF8-2, UTF8-3, UTF8-4, UTF8-char, UTF8-octets}
+use Rattle.utf8.specs.Grammar.{Breaks, UTF8-char, UTF8-octets}
 use Rattle.utf8.proofs.Sequences.{first-good, second-good, went-on, tails-fit, end-empty, good-fits, sequence-end}
 use Rattle.utf8.proofs.Pieces.{pieces-none, pieces-good, pieces-bad}
 use Rattle.utf8.specs.Utf8.{Lead, lead, leadOf, tails, afterLead, sequenceOf, pieces, checkFrom, checkOf}

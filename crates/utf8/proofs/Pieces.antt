@@ -1,13 +1,12 @@
 -- A text as its sequences: the first one, and those of what it leaves. Assumes nothing.
-use mathlib.Core.Path.{_≡_, refl, sym, _∙_, ap}
+use mathlib.Core.Path.{_≡_, refl, _∙_}
 use mathlib.Core.List.{List, [], _∷_}
-use Prim.Native.Nat.{ℕ, zero, suc, pred, _+_, _≤_, _<_}
+use Prim.Native.Nat.{ℕ, zero, suc, _+_, _≤_, _<_}
 use native.Mathlib.Omega.{arith}
 use lib.ListN.{length, drop, length-drop}
 use lib.Seq.{drop-drop}
-use Rattle.utf8.specs.declared.sequence.Sequence.{Sequence}
 use Rattle.utf8.specs.declared.sequence.Sequence.the-variants.{End, Good, Bad}
-use Rattle.utf8.specs.Utf8.{sequenceOf, beyond, piecesFrom, pieces}
+use Rattle.utf8.specs.Utf8.{sequenceOf, piecesFrom, pieces}
 use Rattle.utf8.proofs.Sequences.{good-fits}
 
 skipped : (n : ℕ) (l : List ℕ) → piecesFrom n l ≡ pieces (drop n l)

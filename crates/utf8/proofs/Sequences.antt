@@ -1,24 +1,24 @@
 -- The sequence at the head of a text: what its reader needs, and what a good one takes up. Assumes nothing.
-use mathlib.Core.Path.{_≡_, refl, sym, _∙_, ap}
+use mathlib.Core.Path.{_≡_, refl, sym, _∙_}
 use mathlib.Core.Bool.{Bool, true, false}
 use mathlib.Core.List.{List, [], _∷_}
 use Prim.Native.Nat.{ℕ, zero, suc, pred, _+_, _*_, _-_, _^_, _≤_, _<_}
-use native.Mathlib.Nat.{add-assoc, le-of-suc-le-suc, pow-suc, pow-le-pow-right, sub-zero}
+use native.Mathlib.Nat.{add-assoc, pow-suc, pow-le-pow-right, sub-zero}
 use native.Mathlib.Numerals.{add-one, sub-one}
 use native.Mathlib.Omega.{arith}
-use lib.Dec.{leb, ltb, eqb, T, lit<}
+use lib.Dec.{eqb, lit<}
 use lib.ListN.{length, getD, drop, drop-of-length-le}
-use lib.Seq.{drop-cons, drop-drop}
+use lib.Seq.{drop-cons}
 use mir.Val.{Fits}
-use mir.Syntax.{w8, w32, w64}
-use borrow.Author.Tests.{eq-eqb, ne-eqb}
+use mir.Syntax.{w8, w32}
+use borrow.Author.Tests.{ne-eqb}
 use borrow.Author.Needs.{needs}
 use Rattle.ground.specs.Choice.{pick, within}
-use Rattle.ground.proofs.Cases.{within-yes, within-low, within-high, clash}
+use Rattle.ground.proofs.Cases.{within-yes, within-low, within-high}
 use Rattle.utf8.specs.declared.sequence.Sequence.{Sequence}
 use Rattle.utf8.specs.declared.sequence.Sequence.the-variants.{End, Good, Bad}
 use Rattle.utf8.specs.Utf8.{Lead, lead, leadOf, tails, afterLead, sequenceOf}
-use Rattle.utf8.proofs.Leads.{Bounds, lead-bounds, lead-low-none, lead-high-none}
+use Rattle.utf8.proofs.Leads.{lead-bounds, lead-low-none, lead-high-none}
 
 -- The loop over the octets after the first: the answer from here on is the answer of the whole.
 pub record Tailing (s : List ℕ) (at octets least greatest bits low high code taken : ℕ) : Type 0 where

@@ -1,7 +1,6 @@
 -- Small examples, computed from the rules.
 use mathlib.Core.Path.{_≡_, refl}
-use mathlib.Core.List.{List, [], _∷_}
-use Prim.Native.Nat.{ℕ}
+use mathlib.Core.List.{[], _∷_}
 use Rattle.utf8.specs.declared.sequence.Sequence.the-variants.{Good, Bad}
 use Rattle.utf8.specs.declared.check.Check.the-variants.{Broken}
 use Rattle.utf8.specs.Utf8.{leadOf, tails, afterLead, sequenceOf, piecesFrom, checkFrom, checkOf}

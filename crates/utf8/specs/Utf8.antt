@@ -1,6 +1,5 @@
 -- UTF-8: RFC 3629, sections 3 and 4, and the length that document 01's refusal 2 gives.
 use mathlib.Core.List.{List, [], _∷_}
-use mathlib.Core.Bool.{Bool, true, false}
 use Prim.Native.Nat.{ℕ, zero, suc, pred, _+_, _*_, _-_, _≤_, _<_}
 use lib.ListN.{length, getD}
 use lib.Dec.{eqb}
