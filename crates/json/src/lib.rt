@@ -1,5 +1,6 @@
 // JSON in comments: a reader of RFC 8259 by places in a text. Every public function takes any bytes and ends.
 mod decode;
+mod flat;
 mod number;
 mod space;
 mod string;
