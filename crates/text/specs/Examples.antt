@@ -1,16 +1,11 @@
 -- Small examples, computed from the rules.
 use mathlib.Core.Path.{_≡_, refl}
 use mathlib.Core.List.{[], _∷_}
-use mathlib.Core.Bool.{true}
 use Rattle.places.specs.declared.find.Place.the-variants.{At}
 use Rattle.places.specs.Places.{lastFrom}
 use Rattle.utf8.specs.Utf8.{leadOf, tails, afterLead, sequenceOf, piecesFrom}
-use Rattle.text.specs.White.{whiteRanges, inRanges, isWhite, risingFrom, rising}
+use Rattle.text.specs.White.{whiteRanges, inRanges, isWhite}
 use Rattle.text.specs.Trim.{runOf, trimStart, afterMarks, allWhite, trimEnd, lastWhite}
-
-white-table : rising whiteRanges ≡ true
-unfolding risingFrom whiteRanges
-white-table = refl
 
 -- U+3000, `a`, U+0020, U+00A0
 trims-start : trimStart (0xE3 ∷ 0x80 ∷ 0x80 ∷ 0x61 ∷ 0x20 ∷ 0xC2 ∷ 0xA0 ∷ []) ≡ 3
