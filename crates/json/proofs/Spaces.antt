@@ -67,9 +67,6 @@ module _ {p : ℕ → Bool} {s : List ℕ} {start at : ℕ} (k : Passing p s sta
     unfolding pastAll
     passing-more e = record { inside = omega arith; decides = k .decides ∙ rw (add-one, drop-cons s at 0 h, e) }
 
-pub told : (p : ℕ → Bool) (x : ℕ) {b y : Bool} → b ≡ p x → b ≡ y → p x ≡ y
-told p x w y = sym w ∙ y
-
 pub told-space : (x : ℕ) {b y : Bool} → b ≡ isWs x → b ≡ y → isWs x ≡ y
 told-space x w y = sym w ∙ y
 

@@ -155,9 +155,6 @@ module _ {a b : ℕ} {s : List ℕ} {at : ℕ} (k : Seeking (startsPair a b) s a
       go (inl e) = seeking-ends k e
       go (inr l) = seeking-ends (seeking-more k l (no-pair a b (drop at s) (rw length-drop (omega arith)))) h
 
-  pub pair-inside : at + 1 < length s → at < length s
-  pair-inside h = omega arith
-
   pub pair-more : at + 1 < length s → startsPair a b (drop at s) ≡ false → Seeking (startsPair a b) s (at + 1)
   pair-more h e = seeking-more k (omega arith) e
 
@@ -231,10 +228,3 @@ pub same-refl : (s : List ℕ) → same s s ≡ true
 unfolding same
 same-refl [] = refl
 same-refl (x ∷ s) = rw (eq-eqb x x refl) (same-refl s)
-
-pub same-differ : (s t : List ℕ) → (s ≡ t → ⊥) → same s t ≡ false
-same-differ s t n = go (same s t) refl
-  where
-    go : (b : Bool) → same s t ≡ b → b ≡ false
-    go true e = absurd (n (same-equal s t e))
-    go false e = refl

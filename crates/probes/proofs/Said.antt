@@ -83,10 +83,6 @@ bit-yes e = sym (rw e)
 pub bit-no : {b : Bool} → b ≡ false → 0 ≡ bit b
 bit-no e = sym (rw e)
 
-pub bit-fits : (b : Bool) → bit b < 2 ^ 64
-bit-fits true = omega arith
-bit-fits false = omega arith
-
 counts : (n : ℕ) (o : Place) → ((i : ℕ) → o ≡ At i → i < n) → n < 2 ^ 64 → placeNumber o < 2 ^ 64
 counts n (At i) f h = let l = f i refl in omega arith
 counts n Nowhere f h = omega arith

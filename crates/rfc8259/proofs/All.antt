@@ -8,7 +8,7 @@ use lib.Dec.{lit<}
 use borrow.Author.Tests.{not-true}
 use Rattle.ground.specs.Abnf.{Octet, _⊹_, _∣_, Opt, Star, octet, _⨾_, left, right, absent, present, none, more}
 use Rattle.ground.specs.Choice.{either, within}
-use Rattle.ground.proofs.Cases.{within-both, within-yes, within-low, within-high, clash}
+use Rattle.ground.proofs.Cases.{within-both, within-yes, within-high, clash}
 use Rattle.rfc8259.specs.Grammar
 use Rattle.rfc8259.specs.Reader.{pastAll, Out, got, andThen, isWs, skip, structural, isDigit, pastDigits, digits, optional, int, isMinus, isSign, past, isPoint, isE, frac, exp, numberOf}
 
@@ -28,9 +28,6 @@ stops (x ∷ s) = isStop x
 -- an octet of one range is in no other that lies apart from it
 apart-above : (a b c d x : ℕ) → d < a → within a b x ≡ true → within c d x ≡ false
 apart-above a b c d x h e = within-high c d x (let w = within-both a b x e in omega arith)
-
-apart-below : (a b c d x : ℕ) → b < c → within a b x ≡ true → within c d x ≡ false
-apart-below a b c d x h e = within-low c d x (let w = within-both a b x e in omega arith)
 
 exact : (a x : ℕ) → within a a x ≡ true → x ≡ a
 exact a x e = let w = within-both a a x e in omega arith
