@@ -4,8 +4,8 @@ use mathlib.Core.Bool.{Bool, true, false}
 use mathlib.Core.Logic.{_⊎_, inl, inr}
 use Prim.Native.Nat.{ℕ, _≤_, _<_}
 use native.Mathlib.Omega.{arith}
-use lib.Dec.{leb}
-use borrow.Author.Tests.{lt-ltb, le-ltb, le-leb, lt-leb, eq-eqb, ne-eqb, leb-true, leb-false}
+use lib.Dec.{leb, eqb}
+use borrow.Author.Tests.{lt-ltb, le-ltb, le-leb, lt-leb, eq-eqb, ne-eqb, leb-true, leb-false, eqb-true, eqb-false}
 use Rattle.ground.specs.Choice.{both, within}
 
 -- for code without a loop: each test of the rule is rewritten by the branch that was taken
@@ -32,6 +32,16 @@ module _ (low high x : ℕ) where
       go true true p q e = (leb-true low x p, leb-true x high q)
       go true false p q e = absurd (let z : _≡_ {A = ℕ} 0 1 = cc in omega arith)
       go false b p q e = absurd (let z : _≡_ {A = ℕ} 0 1 = cc in omega arith)
+
+-- a range of one
+pub within-one : (a x : ℕ) → within a a x ≡ eqb x a
+within-one a x = go (eqb x a) refl (within a a x) refl
+  where
+    go : (b : Bool) → eqb x a ≡ b → (w : Bool) → within a a x ≡ w → w ≡ b
+    go true e true f = refl
+    go true e false f = absurd (let q = eqb-true x a e in let y = within-yes a a x (omega arith) (omega arith) in let z : _≡_ {A = ℕ} 0 1 = cc in omega arith)
+    go false e true f = absurd (eqb-false x a e (let w = within-both a a x f in omega arith))
+    go false e false f = refl
 
 pub both-left : (a b : Bool) → both a b ≡ true → a ≡ true
 both-left true b e = refl

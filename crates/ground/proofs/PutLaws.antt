@@ -1,11 +1,12 @@
 -- Laws of `put`. Assumes nothing.
-use mathlib.Core.Path.{_≡_}
-use mathlib.Core.List.{List, _++_, append-assoc}
-use Prim.Native.Nat.{ℕ, _+_, _≤_}
-use native.Mathlib.Nat.{add-assoc}
+use mathlib.Core.Path.{_≡_, sym}
+use mathlib.Core.List.{List, [], _∷_, _++_, append-assoc}
+use Prim.Native.Nat.{ℕ, _+_, _≤_, _<_}
+use native.Mathlib.Nat.{add-assoc, add-zero}
+use native.Mathlib.Numerals.{add-one}
 use native.Mathlib.Omega.{arith}
-use lib.ListN.{length, take, drop, length-append, length-drop}
-use lib.Seq.{paste, take-length, take-at, drop-append-add, drop-drop, length-take-le}
+use lib.ListN.{length, take, drop, set, length-append, length-drop, take-append-drop}
+use lib.Seq.{paste, set-split, take-length, take-at, drop-append-add, drop-drop, length-take-le}
 use Rattle.ground.specs.Put.{put}
 
 module _ {A : Type 0} where
@@ -13,6 +14,14 @@ module _ {A : Type 0} where
   pub paste-put : (d : List A) (at : ℕ) (s : List A) → paste d at s (length s) ≡ put d at s
   unfolding put
   paste-put d at s = rw take-length (append-assoc (take at d) s (drop (at + length s) d))
+
+  pub put-nothing : (d : List A) (at : ℕ) → put d at [] ≡ d
+  unfolding put
+  put-nothing d at = rw (add-zero at) (take-append-drop at d)
+
+  pub put-one : (d : List A) (at : ℕ) (x : A) → at < length d → put d at (x ∷ []) ≡ set d at x
+  unfolding put
+  put-one d at x h = rw (add-one at) (sym (set-split d at x h))
 
   pub length-put : (d : List A) (at : ℕ) (s : List A) → at + length s ≤ length d → length (put d at s) ≡ length d
   unfolding put

@@ -60,7 +60,7 @@ module _ {s : List ℕ} {at : ℕ} {word : List ℕ} {i : ℕ} (k : Wording s at
 pub ruleset wording = (word-starts, word-read, word-cut, word-other, word-more, needs)
 
 -- What is read is given another meaning, at the same place.
-means-map : {A B : Type 0} (s : List ℕ) (o : Out A) (f : A → B) (r : After) → Means s r o → Means s r (andThen o (λ v q. got (f v) q))
+pub means-map : {A B : Type 0} (s : List ℕ) (o : Out A) (f : A → B) (r : After) → Means s r o → Means s r (andThen o (λ v q. got (f v) q))
 unfolding andThen
 means-map s o f (Next n) m = record { inside = m .inside; value = f (m .value); reads = rw (m .reads) }
 means-map s o f Unread m = rw m

@@ -4,5 +4,4 @@ pub mod Numbers
 pub mod Hex
 pub mod PieceLaws
 pub mod Strings
-pub mod Lengths
 pub mod Flats

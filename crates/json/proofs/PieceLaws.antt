@@ -2,10 +2,10 @@
 use mathlib.Core.Path.{_≡_, refl, _∙_}
 use mathlib.Core.Bool.{Bool, true, false}
 use mathlib.Core.List.{List, [], _∷_}
-use Prim.Native.Nat.{ℕ, suc, _+_, _*_, _-_, _/_, _%_, _^_, _≤_, _<_}
+use Prim.Native.Nat.{ℕ, suc, _+_, _*_, _-_, _^_, _≤_, _<_}
 use native.Mathlib.Numerals.{add-one}
 use native.Mathlib.Omega.{arith}
-use lib.Dec.{eqb, ltb}
+use lib.Dec.{eqb}
 use lib.ListN.{length, getD, drop, length-drop, drop-of-length-le}
 use lib.Seq.{drop-cons, drop-drop}
 use mir.Val.{Fits}
@@ -17,28 +17,16 @@ use Rattle.ground.proofs.Cases.{cases, within-yes, within-low, within-high}
 use Rattle.rfc8259.specs.Encode.{utf8}
 use Rattle.rfc8259.specs.Reader as Reader
 use Rattle.rfc8259.specs.Reader.{hex4, second, unicode, shortEscape, escape, pieceOf}
+use Rattle.rfc8259.proofs.EncodeLaws.{utf8-one, utf8-short}
 use Rattle.json.proofs.Hex.{hex4-most}
 use Rattle.json.specs.declared.string.Piece.{Piece}
-use Rattle.json.specs.Pieces.{Stood, Closed, PieceMeans, shortByte}
+use Rattle.json.specs.Pieces.{Stood, Coded, Closed, PieceMeans, shortByte}
 
 pub ruleset short-bytes = (cases, needs)
 
 -- an answer about what is the same
 piece-as : (s : List ℕ) (base : ℕ) (r : Piece) {p q : Reader.Piece} → q ≡ p → PieceMeans s base r p → PieceMeans s base r q
 piece-as s base r e m = rw e m
-
--- a code point has four octets at most
-pub utf8-short : (c : ℕ) → length (utf8 c) ≤ 4
-unfolding utf8
-utf8-short c = go (ltb c 0x80) (ltb c 0x800) (ltb c 0x10000)
-  where
-    go : (x y z : Bool) →
-        length (pick x (c ∷ []) (pick y ((0xC0 + c / 64) ∷ (0x80 + c % 64) ∷ []) (pick z ((0xE0 + c / 4096) ∷ (0x80 + c / 64 % 64) ∷ (0x80 + c % 64) ∷ [])
-        ((0xF0 + c / 262144) ∷ (0x80 + c / 4096 % 64) ∷ (0x80 + c / 64 % 64) ∷ (0x80 + c % 64) ∷ [])))) ≤ 4
-    go true y z = omega arith
-    go false true z = omega arith
-    go false false true = omega arith
-    go false false false = omega arith
 
 -- where four digits read there are four
 long-enough : (l : List ℕ) → hex4 l < 65536 → 4 ≤ length l
@@ -93,14 +81,17 @@ module _ (s : List ℕ) (base high : ℕ) (i : base + 6 ≤ length s) where
           inside : base + 12 ≤ length s
           inside = let k = four-inside s (base + 6 + 2) (rw (← g) (omega arith)) (omega arith) in omega arith
 
-          pub second-stood : Stood s base (base + 6 + 6) (utf8 (0x10000 + (high - 0xD800) * 0x400 + (low - 0xDC00))) (second high (drop (base + 6) s))
-          second-stood = record {
+          stood : Stood s base (base + 6 + 6) (utf8 (0x10000 + (high - 0xD800) * 0x400 + (low - 0xDC00))) (second high (drop (base + 6) s))
+          stood = record {
             size = 11;
             is = seen ∙ rw (within-yes 0xDC00 0xDFFF low l u);
             next = omega arith;
             inside = let k = inside in omega arith;
             room = let c = utf8-short (0x10000 + (high - 0xD800) * 0x400 + (low - 0xDC00)) in omega arith;
           }
+
+          pub second-stood : high ≤ 0xDBFF → Coded s base (base + 6 + 6) (0x10000 + (high - 0xD800) * 0x400 + (low - 0xDC00)) (second high (drop (base + 6) s))
+          second-stood most = record { stood = stood; several = omega arith; known = omega arith }
 
           pub second-fits : length s < 2 ^ 64 → Fits w64 (base + 6 + 6)
           second-fits b = let k = inside in omega arith
@@ -130,11 +121,21 @@ module _ (s : List ℕ) (base : ℕ) (i : base + 2 ≤ length s) {code : ℕ} (g
     alone : within 0xD800 0xDBFF code ≡ false → within 0xDC00 0xDFFF code ≡ false → Stood s base (base + 6) (utf8 code) (unicode (drop (base + 2) s))
     alone p q = record { size = 5; is = whole ∙ rw (ne-eqb code 65536 n, p, q); next = omega arith; inside = unicode-inside; room = let c = utf8-short code in omega arith }
 
-    pub unicode-below : code < 0xD800 → Stood s base (base + 6) (utf8 code) (unicode (drop (base + 2) s))
-    unicode-below l = alone (within-low 0xD800 0xDBFF code l) (within-low 0xDC00 0xDFFF code (omega arith))
+    below : code < 0xD800 → Stood s base (base + 6) (utf8 code) (unicode (drop (base + 2) s))
+    below l = alone (within-low 0xD800 0xDBFF code l) (within-low 0xDC00 0xDFFF code (omega arith))
 
-    pub unicode-above : 0xDFFF < code → Stood s base (base + 6) (utf8 code) (unicode (drop (base + 2) s))
-    unicode-above l = alone (within-high 0xD800 0xDBFF code (omega arith)) (within-high 0xDC00 0xDFFF code l)
+    pub unicode-one : code < 0x80 → Stood s base (base + 6) (code ∷ []) (unicode (drop (base + 2) s))
+    unicode-one l = rw (utf8-one code l) at below (omega arith)
+
+    pub unicode-below : 0x80 ≤ code → code < 0xD800 → Coded s base (base + 6) code (unicode (drop (base + 2) s))
+    unicode-below l h = record { stood = below h; several = l; known = omega arith }
+
+    pub unicode-above : 0xDFFF < code → Coded s base (base + 6) code (unicode (drop (base + 2) s))
+    unicode-above l = record {
+      stood = alone (within-high 0xD800 0xDBFF code (omega arith)) (within-high 0xDC00 0xDFFF code l);
+      several = omega arith;
+      known = let k = fits in omega arith;
+    }
 
     pub unicode-pair : 0xD800 ≤ code → code ≤ 0xDBFF → (r : Piece) → PieceMeans s base r (second code (drop (base + 6) s)) → PieceMeans s base r (unicode (drop (base + 2) s))
     unicode-pair l u r m =
@@ -144,7 +145,7 @@ module _ (s : List ℕ) (base : ℕ) (i : base + 2 ≤ length s) {code : ℕ} (g
     pub unicode-lone : 0xDBFF < code → code ≤ 0xDFFF → unicode (drop (base + 2) s) ≡ Reader.wrong
     unicode-lone l u = whole ∙ rw (ne-eqb code 65536 n, within-high 0xD800 0xDBFF code l, within-yes 0xDC00 0xDFFF code l u)
 
-pub ruleset unicodes = (unicode-none, unicode-inside, unicode-fits, unicode-below, unicode-above, unicode-pair, unicode-lone, needs)
+pub ruleset unicodes = (unicode-none, unicode-inside, unicode-fits, unicode-one, unicode-below, unicode-above, unicode-pair, unicode-lone, needs)
 
 -- Escapes.
 row : (t : Bool) (b n : ℕ) {p : Reader.Piece} → eqb b 0 ≡ false → p ≡ pick (eqb n 0) Reader.wrong (Reader.stands (n ∷ []) 1) →

@@ -8,33 +8,28 @@ use lib.Seq.{drop-drop}
 use borrow.Author.Needs.{needs}
 use Rattle.rfc8259.specs.Reader as Reader
 use Rattle.rfc8259.specs.Reader.{Out, got, bad, andThen, pieceOf, charsFrom}
+use Rattle.rfc8259.specs.Encode.{utf8}
+use Rattle.rfc8259.proofs.Items.{before, before-nothing, before-both}
 use Rattle.rfc8259.proofs.StringsAll.{chars-none, chars-stands, chars-close, chars-wrong}
 use Rattle.json.specs.declared.string.Piece.{Piece}
 use Rattle.json.specs.declared.string.Piece.the-variants.{Byte, Code, Closes, Wrong}
 use Rattle.json.specs.Means.{Reached}
-use Rattle.json.specs.Pieces.{Stood, Closed, PieceMeans}
+use Rattle.json.specs.Pieces.{Stood, Coded, Closed, PieceMeans}
 
--- bytes in front of what a reader gives
-abbrev after : List ℕ → Out (List ℕ) → Out (List ℕ)
-after v o = andThen o (λ w q. got (v ++ w) q)
+-- the answer is a code point
+pub coded-told : {s : List ℕ} {at : ℕ} {t : Piece} {p : Reader.Piece} {c n : ℕ} → t ≡ Code c n → PieceMeans s at t p → Coded s at n c p
+coded-told e m = rw e at m
 
-after-nothing : (o : Out (List ℕ)) → o ≡ after [] o
-unfolding andThen _++_
-after-nothing (got w q) = refl
-after-nothing bad = refl
-
-after-both : (a v : List ℕ) (o : Out (List ℕ)) → after a (after v o) ≡ after (a ++ v) o
-unfolding andThen
-after-both a v (got w q) = ap (λ l. got l q) (sym (append-assoc a v w))
-after-both a v bad = refl
+coded-stood : {s : List ℕ} {at : ℕ} {t : Piece} {p : Reader.Piece} {c n : ℕ} → t ≡ Code c n → PieceMeans s at t p → Stood s at n (utf8 c) p
+coded-stood e m = coded-told e m .stood
 
 pub record Stringing (s : List ℕ) (start at : ℕ) : Type 0 where
   pub goes : start ≤ at
   pub passed : List ℕ
-  pub decides : charsFrom 0 (drop start s) ≡ after passed (charsFrom 0 (drop at s))
+  pub decides : charsFrom 0 (drop start s) ≡ before passed (charsFrom 0 (drop at s))
 
 pub string-starts : (s : List ℕ) (start : ℕ) → Stringing s start start
-string-starts s start = record { goes = omega arith; passed = []; decides = after-nothing (charsFrom 0 (drop start s)) }
+string-starts s start = record { goes = omega arith; passed = []; decides = before-nothing (charsFrom 0 (drop start s)) }
 
 pub starts-passed : (s : List ℕ) (start : ℕ) → string-starts s start .passed ≡ []
 unfolding string-starts
@@ -51,8 +46,8 @@ module _ {s : List ℕ} {start at : ℕ} (k : Stringing s start at) where
     passed = k .passed ++ v;
     decides =
         k .decides
-        ∙ ap (after (k .passed)) (chars-stands (drop at s) (m .is) ∙ ap (λ l. after v (charsFrom 0 l)) (drop-drop (suc (m .size)) at s ∙ ap (λ i. drop i s) (sym (m .next))))
-        ∙ after-both (k .passed) v (charsFrom 0 (drop n s));
+        ∙ ap (before (k .passed)) (chars-stands (drop at s) (m .is) ∙ ap (λ l. before v (charsFrom 0 l)) (drop-drop (suc (m .size)) at s ∙ ap (λ i. drop i s) (sym (m .next))))
+        ∙ before-both (k .passed) v (charsFrom 0 (drop n s));
   }
 
   pub stood-passed : {n : ℕ} {v : List ℕ} (m : Stood s at n v (pieceOf (drop at s))) → stood-on m .passed ≡ k .passed ++ v
@@ -67,13 +62,13 @@ module _ {s : List ℕ} {start at : ℕ} (k : Stringing s start at) where
     byte-on e = stood-on (rw e at m)
 
     pub code-on : {c n : ℕ} → t ≡ Code c n → Stringing s start n
-    code-on e = stood-on (rw e at m)
+    code-on e = stood-on (coded-stood e m)
 
     pub byte-falls : {b n : ℕ} → at < length s → t ≡ Byte b n → length s - n < length s - at
     byte-falls h e = stood-falls h (rw e at m)
 
     pub code-falls : {c n : ℕ} → at < length s → t ≡ Code c n → length s - n < length s - at
-    code-falls h e = stood-falls h (rw e at m)
+    code-falls h e = stood-falls h (coded-stood e m)
 
     pub string-closed : {n : ℕ} → t ≡ Closes n → Reached s n (charsFrom 0 (drop start s))
     unfolding andThen

@@ -1,4 +1,3 @@
 -- How an answer by places speaks of the reader on lists.
 pub mod Means
-pub mod Decoded
 pub mod Pieces

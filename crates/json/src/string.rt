@@ -11,7 +11,7 @@ ghost use Rattle.json.specs.Pieces.{PieceMeans, shortByte};
 pub enum Piece {
     // A char that stands for one byte.
     Byte(u8, usize),
-    // A char that stands for a code point, in UTF-8.
+    // A char that stands for a code point above 7F, in UTF-8.
     Code(u32, usize),
     // The quotation mark at the end.
     Closes(usize),
@@ -112,6 +112,9 @@ fn unicode_at(s: &[u8], base: usize) -> Piece
     let code = hex4_at(s, base + 2);
     if code == 65536 {
         return Piece::Wrong;
+    }
+    if code < 0x80 {
+        return Piece::Byte(code as u8, base + 6);
     }
     if code < 0xD800 {
         return Piece::Code(code, base + 6);

@@ -42,7 +42,6 @@ unfolding pastAll
 skip-one x s e = rw e
 
 pub skip-past : {a : List ℕ} → Grammar.Ws a → (r : List ℕ) → skip (a ++ r) ≡ skip r
-unfolding _++_
 skip-past none r = refl
 skip-past (more {b = b} (left (octet x e)) w) r = skip-one x (b ++ r) (only 0x20 isWs true refl x e) ∙ skip-past w r
 skip-past (more {b = b} (right (left (octet x e))) w) r = skip-one x (b ++ r) (only 0x09 isWs true refl x e) ∙ skip-past w r
@@ -61,7 +60,6 @@ pub record Stands (x : ℕ) (a r : List ℕ) : Type 0 where
   pub leaves : skip tail ≡ skip r
 
 pub structural-stands : (x : ℕ) → isWs x ≡ false → {a : List ℕ} → Grammar.Structural x a → (r : List ℕ) → Stands x a r
-unfolding _++_
 structural-stands x n (_⨾_ {a = a} w (_⨾_ {b = b} (octet y e) v)) r = record {
   tail = b ++ r;
   seen = ap skip (append-assoc a (y ∷ b) r) ∙ skip-past w (y ∷ (b ++ r)) ∙ skip-none y (b ++ r) (ap isWs (exact x y e) ∙ n) ∙ ap (λ z. z ∷ (b ++ r)) (exact x y e);
@@ -76,17 +74,17 @@ structural-all x n s r =
 
 -- Section 6.
 pub digits-past : {a : List ℕ} → Star Grammar.DIGIT a → (r : List ℕ) → free isDigit r ≡ true → pastDigits (a ++ r) ≡ r
-unfolding pastAll _++_
+unfolding pastAll
 digits-past none [] f = refl
 digits-past none (x ∷ r) f = rw (not-true (isDigit x) f)
 digits-past (more (octet x e) d) r f = rw e (digits-past d r f)
 
 digits-all : {a : List ℕ} → (Grammar.DIGIT ⊹ Star Grammar.DIGIT) a → (r : List ℕ) → free isDigit r ≡ true → (y : ℕ) × (digits (a ++ r) ≡ got y r)
-unfolding digits andThen _++_
+unfolding digits andThen
 digits-all (_⨾_ {b = b} (octet x e) d) r f = (x, rw (e, digits-past d r f))
 
 int-all : {a : List ℕ} → Grammar.Int a → (r : List ℕ) → free isDigit r ≡ true → (y : ℕ) × (int (a ++ r) ≡ got y r)
-unfolding int _++_
+unfolding int
 int-all (left (octet x e)) r f = (x, rw e)
 int-all (right (octet x e ⨾ d)) r f = (x, rw (apart-above 0x31 0x39 0x30 0x30 x (lit< tt) e, e, digits-past d r f))
 
@@ -97,12 +95,12 @@ not-there p k [] f = refl
 not-there p k (x ∷ r) f = rw (not-true (p x) f)
 
 frac-all : {a : List ℕ} → Opt Grammar.Frac a → (r : List ℕ) → free isPoint r ≡ true → free isDigit r ≡ true → (y : ℕ) × (frac (a ++ r) ≡ got y r)
-unfolding optional _++_
+unfolding optional
 frac-all absent r f g = (0, not-there isPoint digits r f)
 frac-all (present (octet x e ⨾ d)) r f g = let (y, h) = digits-all d r g in (y, rw e h)
 
 sign-past : {a b : List ℕ} → Opt (Octet 0x2D 0x2D ∣ Octet 0x2B 0x2B) a → (Grammar.DIGIT ⊹ Star Grammar.DIGIT) b → (r : List ℕ) → past isSign (a ++ (b ++ r)) ≡ b ++ r
-unfolding past _++_
+unfolding past
 sign-past absent (octet x e ⨾ d) r = rw (apart-above 0x30 0x39 0x2D 0x2D x (lit< tt) e, apart-above 0x30 0x39 0x2B 0x2B x (lit< tt) e)
 sign-past (present (left (octet y o))) d r = rw o
 sign-past (present (right (octet y o))) d r = rw (only 0x2B isSign true refl y o)
@@ -112,7 +110,7 @@ exp-reads : {a : List ℕ} → (Opt (Octet 0x2D 0x2D ∣ Octet 0x2B 0x2B) ⊹ Gr
 exp-reads (_⨾_ {a = a} {b = b} s d) r f = let (y, h) = digits-all d r f in (y, ap digits (ap (past isSign) (append-assoc a b r) ∙ sign-past s d r) ∙ h)
 
 exp-all : {a : List ℕ} → Opt Grammar.Exp a → (r : List ℕ) → free isE r ≡ true → free isDigit r ≡ true → (y : ℕ) × (exp (a ++ r) ≡ got y r)
-unfolding optional _++_
+unfolding optional
 exp-all absent r f g = (0, not-there isE (λ q. digits (past isSign q)) r f)
 exp-all (present (left (octet x e) ⨾ d)) r f g = let (y, h) = exp-reads d r g in (y, rw e h)
 exp-all (present (right (octet x e) ⨾ d)) r f g = let (y, h) = exp-reads d r g in (y, rw (only 0x45 isE true refl x e) h)
@@ -147,18 +145,16 @@ stop-free-of p a b c d e f g = stop-free p (stop-is p a b c d e f g)
 
 -- what follows the int, and what follows the frac, goes on with no digit
 free-exp : (p : ℕ → Bool) → p 0x65 ≡ false → p 0x45 ≡ false → {a : List ℕ} → Opt Grammar.Exp a → (r : List ℕ) → free p r ≡ true → free p (a ++ r) ≡ true
-unfolding _++_
 free-exp p f g absent r s = s
 free-exp p f g (present (left (octet x e) ⨾ d)) r s = rw (only 0x65 p false f x e)
 free-exp p f g (present (right (octet x e) ⨾ d)) r s = rw (only 0x45 p false g x e)
 
 free-frac : {a : List ℕ} → Opt Grammar.Frac a → (r : List ℕ) → free isDigit r ≡ true → free isDigit (a ++ r) ≡ true
-unfolding _++_
 free-frac absent r s = s
 free-frac (present (octet x e ⨾ d)) r s = rw (only 0x2E isDigit false refl x e)
 
 minus-past : {a b : List ℕ} → Opt (Octet 0x2D 0x2D) a → Grammar.Int b → (r : List ℕ) → past isMinus (a ++ (b ++ r)) ≡ b ++ r
-unfolding past _++_
+unfolding past
 minus-past absent (left (octet x e)) r = rw (only 0x30 isMinus false refl x e)
 minus-past absent (right (octet x e ⨾ d)) r = rw (apart-above 0x31 0x39 0x2D 0x2D x (lit< tt) e)
 minus-past (present (octet y o)) i r = rw o

@@ -1,4 +1,4 @@
--- The reader reads exactly what the grammar has.
+-- The reader reads exactly what the grammar has, and what strings of well-formed text stand for is well formed.
 pub mod Took
 pub mod StringsTook
 pub mod ValuesTook
@@ -6,3 +6,7 @@ pub mod All
 pub mod StringsAll
 pub mod ValuesAll
 pub mod Readable
+pub mod Items
+pub mod Onward
+pub mod EncodeLaws
+pub mod WellFormed

@@ -34,16 +34,16 @@ value-is : (a b c d : ℕ) → a < 16 → b < 16 → c < 16 → d < 16 → hexVa
 value-is a b c d p q r s = rw (not-sixteen a p, not-sixteen b q, not-sixteen c r, not-sixteen d s)
 
 -- `\u` and four digits: what the reader finds after the `\u`
-record Four (t : List ℕ) (u : ℕ) : Type 0 where
+pub record Four (t : List ℕ) (u : ℕ) : Type 0 where
   x : ℕ
   y : ℕ
   z : ℕ
   w : ℕ
   are : t ≡ 0x5C ∷ 0x75 ∷ x ∷ y ∷ z ∷ w ∷ []
   read : (r : List ℕ) → hex4 (x ∷ y ∷ z ∷ w ∷ r) ≡ u
-  small : u < 65536
+  pub small : u < 65536
 
-four : {t : List ℕ} {u : ℕ} → Grammar.Unicode t u → Four t u
+pub four : {t : List ℕ} {u : ℕ} → Grammar.Unicode t u → Four t u
 unfolding hex4
 four (Grammar.u4 {x} {y} {z} {w} {a} {b} {c} {d} p q r s) = record {
   x = x;
@@ -80,7 +80,7 @@ narrower a b c d x l h n = go (within c d x) refl
     go false e = refl
 
 plane-reads : {t : List ℕ} {u : ℕ} → Grammar.Unicode t u → within 0xD800 0xDFFF u ≡ false → (r : List ℕ) → pieceOf (t ++ r) ≡ stands (utf8 u) 5
-unfolding pieceOf escape unicode _++_
+unfolding pieceOf escape unicode
 plane-reads {t} {u} c n r =
     let f = four c in
     let fits : eqb u 65536 ≡ false = ne-eqb u 65536 (λ e. let s = f .small in omega arith) in
@@ -88,12 +88,12 @@ plane-reads {t} {u} c n r =
 
 second-reads : (u : ℕ) {t : List ℕ} {v : ℕ} → Grammar.Unicode t v → within 0xDC00 0xDFFF v ≡ true → (r : List ℕ) →
     second u (t ++ r) ≡ stands (utf8 (0x10000 + (u - 0xD800) * 0x400 + (v - 0xDC00))) 11
-unfolding second _++_
+unfolding second
 second-reads u {t} {v} c p r = let f = four c in rw (f .are) (rw (f .read r, p))
 
 pair-reads : {t s : List ℕ} {u v : ℕ} → Grammar.Unicode t u → Grammar.Unicode s v → within 0xD800 0xDBFF u ≡ true → within 0xDC00 0xDFFF v ≡ true → (r : List ℕ) →
     pieceOf (t ++ (s ++ r)) ≡ stands (utf8 (0x10000 + (u - 0xD800) * 0x400 + (v - 0xDC00))) 11
-unfolding pieceOf escape unicode _++_
+unfolding pieceOf escape unicode
 pair-reads {t} {s} {u} {v} c d p q r =
     let f = four c in
     let fits : eqb u 65536 ≡ false = ne-eqb u 65536 (λ e. let w = f .small in omega arith) in
@@ -109,7 +109,6 @@ record CharRead (a v r : List ℕ) : Type 0 where
   reads : pieceOf (a ++ r) ≡ stands v n
 
 char-all : {a v : List ℕ} → Grammar.Char a v → (r : List ℕ) → CharRead a v r
-unfolding _++_
 char-all (Grammar.unescaped-low x e) r =
     let w = within-both 0x20 0x21 x e in
     record { n = 0; size = refl; reads = plain x r (λ q. omega arith) (λ q. omega arith) (omega arith) (omega arith) }
@@ -162,7 +161,6 @@ unfolding charsFrom pieceOf
 quote-closes r = refl
 
 chars-all : {a v : List ℕ} → Grammar.Chars a v → (r : List ℕ) → charsFrom 0 (a ++ (0x22 ∷ r)) ≡ got v r
-unfolding _++_
 chars-all Grammar.no-char r = quote-closes r
 chars-all (Grammar.char {a} {b} c cs) r =
     let rest : List ℕ = b ++ (0x22 ∷ r) in
@@ -171,5 +169,5 @@ chars-all (Grammar.char {a} {b} c cs) r =
     ap (charsFrom 0) (append-assoc a b (0x22 ∷ r)) ∙ chars-cons (a ++ rest) (h .reads) (ap (charsFrom 0) after ∙ chars-all cs r)
 
 pub string-all : {a v : List ℕ} → Grammar.String a v → (r : List ℕ) → stringOf (a ++ r) ≡ got v r
-unfolding stringOf _++_
+unfolding stringOf
 string-all (Grammar.quoted {a} c) r = ap (charsFrom 0) (append-assoc a (0x22 ∷ []) r) ∙ chars-all c r

@@ -141,7 +141,7 @@ surrogate-reads : (t : List ℕ) (low high : ℕ) → high < 65536 → within lo
 surrogate-reads t low high h e = hex4-reads t (ne-eqb (hex4 t) 65536 (λ z. let w = within-both low high (hex4 t) e in omega arith))
 
 second-took : (u : ℕ) (t : List ℕ) {v : List ℕ} {n : ℕ} → second u t ≡ stands v n → Second u t v n
-unfolding second _++_
+unfolding second
 second-took u [] e = not-wrong e
 second-took u (x ∷ []) e = not-wrong e
 second-took u (x ∷ (y ∷ s)) {v} {n} e =
@@ -174,7 +174,6 @@ record Escaped (s v : List ℕ) (n : ℕ) : Type 0 where
   is : Grammar.Char (0x5C ∷ part) v
 
 paired : (t v : List ℕ) (n : ℕ) → within 0xD800 0xDBFF (hex4 t) ≡ true → second (hex4 t) (drop 4 t) ≡ stands v n → Escaped (0x75 ∷ t) v n
-unfolding _++_
 paired t v n p e =
     let d = surrogate-reads t 0xD800 0xDBFF (lit< tt) p in
     let m = second-took (hex4 t) (drop 4 t) e in
@@ -188,7 +187,6 @@ paired t v n p e =
     }
 
 single : (t v : List ℕ) (n : ℕ) → eqb (hex4 t) 65536 ≡ false → within 0xD800 0xDFFF (hex4 t) ≡ false → stands (utf8 (hex4 t)) 5 ≡ stands v n → Escaped (0x75 ∷ t) v n
-unfolding _++_
 single t v n p q e =
     let d = hex4-reads t p in
     record {
@@ -217,7 +215,7 @@ unicode-took t v n e = let (p, f) = passed (eqb (hex4 t) 65536) e in go p (withi
     go p false q f = let (r, g) = passed (within 0xDC00 0xDFFF (hex4 t)) f in single t v n p (no-surrogate (hex4 t) q r) g
 
 escape-took : (s v : List ℕ) (n : ℕ) → escape s ≡ stands v n → Escaped s v n
-unfolding escape _++_
+unfolding escape
 escape-took [] v n e = not-wrong e
 escape-took (x ∷ s) v n e = go (eqb x 0x75) refl e
   where
@@ -247,7 +245,7 @@ unescaped x p q e = go (le-or-lt x 0x21) (le-or-lt x 0x5B)
     go (inr h) (inr k) = Grammar.unescaped-high x (within-yes 0x5D 0xFF x (let n = eqb-false x 0x5C q in omega arith) (b .1))
 
 pub piece-took : (s v : List ℕ) (n : ℕ) → pieceOf s ≡ stands v n → CharTook s v n
-unfolding pieceOf _++_
+unfolding pieceOf
 piece-took [] v n e = not-wrong e
 piece-took (x ∷ s) v n e = go (eqb x 0x22) refl (eqb x 0x5C) refl (within 0x20 0xFF x) refl e
   where
@@ -352,7 +350,7 @@ char-then fuel x s w v r n p h again e =
 
 chars-step : (fuel : ℕ) (s v r : List ℕ) → length s ≤ suc fuel → ((t u q : List ℕ) → length t ≤ fuel → charsFrom 0 t ≡ got u q → CharsTook t u q) →
     charsFrom 0 s ≡ got v r → CharsTook s v r
-unfolding charsFrom _++_
+unfolding charsFrom
 chars-step fuel [] v r h again e = never-bad e
 chars-step fuel (x ∷ s) v r h again e = go (pieceOf (x ∷ s)) refl e
   where
@@ -373,7 +371,7 @@ chars-took zero s v r h e = chars-empty s v r h e
 chars-took (suc fuel) s v r h e = chars-step fuel s v r h (λ t u q. chars-took fuel t u q) e
 
 pub string-took : (s : List ℕ) {v r : List ℕ} → stringOf s ≡ got v r → Took (λ a. Grammar.String a v) s r
-unfolding stringOf _++_
+unfolding stringOf
 string-took [] e = never-bad e
 string-took (x ∷ s) {v} {r} e = go (eqb x 0x22) refl e
   where

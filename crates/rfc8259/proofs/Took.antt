@@ -63,12 +63,11 @@ ws-octet x e = go (within 0x20 0x20 x) refl (within 0x09 0x09 x) refl (within 0x
     go false p false q false r false o f = clash f refl
 
 star-more : {A : List ℕ → Type 0} {x : ℕ} {s r : List ℕ} → A (x ∷ []) → Took (Star A) s r → Took (Star A) (x ∷ s) r
-unfolding _++_
 star-more {x = x} a t = record { part = x ∷ t .part; cut = ap (λ l. x ∷ l) (t .cut); is = more a (t .is) }
 
 -- octets of one kind, as many as there are
 all-took : (A : List ℕ → Type 0) (p : ℕ → Bool) → ((x : ℕ) → p x ≡ true → A (x ∷ [])) → (s : List ℕ) → Took (Star A) s (pastAll p s)
-unfolding pastAll _++_
+unfolding pastAll
 all-took A p f [] = record { part = []; cut = refl; is = none }
 all-took A p f (x ∷ s) = go (p x) refl (all-took A p f s)
   where
@@ -88,7 +87,6 @@ one-took p (y ∷ s) {x} {r} e = go (p y) refl e
     go false q f = never-bad f
 
 octet-took : (low high : ℕ) (s : List ℕ) {x : ℕ} {r : List ℕ} → oneOf (within low high) s ≡ got x r → Took (Octet low high) s r
-unfolding _++_
 octet-took low high s {x} e = let (c, p) = one-took (within low high) s e in record { part = x ∷ []; cut = c; is = octet x p }
 
 pub structural-took : (x : ℕ) (s : List ℕ) {y : ℕ} {r : List ℕ} → structural x s ≡ got y r → Took (Grammar.Structural x) s r
@@ -108,11 +106,9 @@ digits-took s e =
     took-cat (octet-took 0x30 0x39 s (t .reads)) (took-to (same-rest (t .goes)) (past-digits-took (t .left-over)))
 
 took-here : {A : List ℕ → Type 0} {x : ℕ} {s : List ℕ} → A (x ∷ []) → Took A (x ∷ s) s
-unfolding _++_
 took-here {x = x} a = record { part = x ∷ []; cut = refl; is = a }
 
 took-nothing : {A : List ℕ → Type 0} {s : List ℕ} → A [] → Took A s s
-unfolding _++_
 took-nothing a = record { part = []; cut = refl; is = a }
 
 int-took : (s : List ℕ) {y : ℕ} {r : List ℕ} → int s ≡ got y r → Took Grammar.Int s r

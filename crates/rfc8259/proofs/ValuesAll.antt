@@ -41,7 +41,6 @@ record Numeral (a : List ℕ) : Type 0 where
   high : x ≤ 0x39
 
 numeral : {a : List ℕ} → Grammar.Number a → Numeral a
-unfolding _++_
 numeral (absent ⨾ left (octet x e) ⨾ r) = let w = within-both 0x30 0x30 x e in record { x = x; s = _; are = refl; low = omega arith; high = omega arith }
 numeral (absent ⨾ right (octet x e ⨾ d) ⨾ r) = let w = within-both 0x31 0x39 x e in record { x = x; s = _; are = refl; low = omega arith; high = omega arith }
 numeral (present (octet x e) ⨾ r) = let w = within-both 0x2D 0x2D x e in record { x = x; s = _; are = refl; low = omega arith; high = omega arith }
@@ -58,12 +57,11 @@ number-flat x s r y l h e =
     rw (ne-eqb x 0x22 (λ q. omega arith), ne-eqb x 0x66 (λ q. omega arith), ne-eqb x 0x6E (λ q. omega arith), ne-eqb x 0x74 (λ q. omega arith), e)
 
 numeral-flat : {a : List ℕ} (f : Numeral a) (r : List ℕ) (y : ℕ) → numberOf (a ++ r) ≡ got y r → flatOf (a ++ r) ≡ got other r
-unfolding _++_
 numeral-flat f r y e =
     ap (λ l. flatOf (l ++ r)) (f .are) ∙ number-flat (f .x) (f .s ++ r) r y (f .low) (f .high) (ap (λ l. numberOf (l ++ r)) (sym (f .are)) ∙ e)
 
 flat-all : {a : List ℕ} {m : Meaning} → Grammar.Flat a m → (r : List ℕ) → stops r ≡ true → flatOf (a ++ r) ≡ got m r
-unfolding flatOf pastWord ascii _++_ andThen
+unfolding flatOf pastWord ascii andThen
 flat-all (Grammar.name (left exactly)) r s = refl
 flat-all (Grammar.name (right (left exactly))) r s = refl
 flat-all (Grammar.name (right (right exactly))) r s = refl
@@ -93,16 +91,13 @@ pub record ReadAll {X : Type 0} (p : List ℕ → Out X) (a r : List ℕ) (x : X
   pub leaves : skip rest ≡ skip r
 
 flat-dark : {a : List ℕ} (f : First a) (r : List ℕ) → skip (a ++ r) ≡ f .x ∷ (f .s ++ r)
-unfolding _++_
 flat-dark f r = ap (λ l. skip (l ++ r)) (f .are) ∙ skip-none (f .x) (f .s ++ r) (f .dark)
 
 flat-same : {a : List ℕ} (f : First a) (r : List ℕ) → skip (a ++ r) ≡ a ++ r
-unfolding _++_
 flat-same f r = flat-dark f r ∙ ap (λ l. l ++ r) (sym (f .are))
 
 -- what begins with a structural character that stops a value stops it
 structural-stops : (x : ℕ) → isStop x ≡ true → {c : List ℕ} → Grammar.Structural x c → (r : List ℕ) → stops (c ++ r) ≡ true
-unfolding _++_
 structural-stops x s (_⨾_ none (octet y e ⨾ v)) r = let q : y ≡ x = let w = within-both x x y e in omega arith in ap isStop q ∙ s
 structural-stops x s (_⨾_ (more (left (octet y e)) w) v) r = only-stop 0x20 refl y e
 structural-stops x s (_⨾_ (more (right (left (octet y e))) w) v) r = only-stop 0x09 refl y e
@@ -244,7 +239,6 @@ abbrev namedOf : Item → Named
 namedOf i = i .named
 
 string-dark : {s k : List ℕ} → Grammar.String s k → (l : List ℕ) → skip (s ++ l) ≡ s ++ l
-unfolding _++_
 string-dark (Grammar.quoted c) l = skip-none 0x22 _ refl
 
 member-all : (Inner : List ℕ → Meaning → Type 0) (inner : List ℕ → Out Meaning) →

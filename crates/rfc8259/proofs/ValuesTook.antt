@@ -18,8 +18,8 @@ use Rattle.rfc8259.proofs.Took.{Took, took-as, took-to, took-cat, and-g
 use Rattle.rfc8259.proofs.StringsTook.{string-took}
 
 -- The values that nest nothing.
-word-took : (w s : List ℕ) {m : Meaning} {r : List ℕ} → pastWord w s ≡ got m r → (s ≡ w ++ r) × (other ≡ m)
-unfolding pastWord _++_
+pub word-took : (w s : List ℕ) {m : Meaning} {r : List ℕ} → pastWord w s ≡ got m r → (s ≡ w ++ r) × (other ≡ m)
+unfolding pastWord
 word-took [] s e = (same-rest e, same-value e)
 word-took (c ∷ w) [] e = never-bad e
 word-took (c ∷ w) (x ∷ s) {m} {r} e = go (eqb x c) refl (λ f. word-took w s f) e
@@ -59,7 +59,6 @@ flat-took (x ∷ s) {m} {r} e = go (eqb x 0x22) (eqb x 0x66) (eqb x 0x6E) (eqb x
 
 -- A structural character, where the reader has passed the ws before it.
 structural-here : (x : ℕ) (q t : List ℕ) (y : ℕ) → skip q ≡ y ∷ t → eqb y x ≡ true → Took (Grammar.Structural x) q (skip t)
-unfolding _++_
 structural-here x q t y e f =
     let is = eqb-true y x f in
     let here : Octet x x (y ∷ []) = octet y (within-yes x x y (omega arith) (omega arith)) in
@@ -181,7 +180,7 @@ module _ {X : Type 0} (P : List ℕ → X → Type 0) (p : List ℕ → Out X) (
 member-as : (Inner : List ℕ → Meaning → Type 0) (s q : List ℕ) {n m : Named} → n ≡ m → Took (λ a. Grammar.Member Inner a n) s q → Took (λ a. Grammar.Member Inner a m) s q
 member-as Inner s q e t = rw e at t
 
-member-took :
+pub member-took :
     (Inner : List ℕ → Meaning → Type 0) (inner : List ℕ → Out Meaning) → ((s : List ℕ) (m : Meaning) (r : List ℕ) → inner s ≡ got m r → Took (λ a. Inner a m) s r) →
     (s : List ℕ) (i : Item) (r : List ℕ) → memberOf inner s ≡ got i r → Took (λ a. Grammar.Member Inner a (i .named)) s r
 unfolding memberOf

@@ -38,35 +38,35 @@ unfolding Sound
 one x ys e n last = left (octet x e)
 
 two : (x : ℕ) (ys : List ℕ) → within 0xC2 0xDF x ≡ true → Sound x ys (lead 2 0xC0 0x80 0xBF)
-unfolding Sound _++_
+unfolding Sound
 two x ys e n (next p last) = right (left (octet x e ⨾ octet _ p))
 
 three-E0 : (x : ℕ) (ys : List ℕ) → within 0xE0 0xE0 x ≡ true → Sound x ys (lead 3 0xE0 0xA0 0xBF)
-unfolding Sound _++_
+unfolding Sound
 three-E0 x ys e n (next p (next q last)) = right (right (left (left (octet x e ⨾ octet _ p ⨾ octet _ q))))
 
 three-E1 : (x : ℕ) (ys : List ℕ) → within 0xE1 0xEC x ≡ true → Sound x ys (lead 3 0xE0 0x80 0xBF)
-unfolding Sound _++_
+unfolding Sound
 three-E1 x ys e n (next p (next q last)) = right (right (left (right (left (octet x e ⨾ octet _ p ⨾ octet _ q)))))
 
 three-ED : (x : ℕ) (ys : List ℕ) → within 0xED 0xED x ≡ true → Sound x ys (lead 3 0xE0 0x80 0x9F)
-unfolding Sound _++_
+unfolding Sound
 three-ED x ys e n (next p (next q last)) = right (right (left (right (right (left (octet x e ⨾ octet _ p ⨾ octet _ q))))))
 
 three-EE : (x : ℕ) (ys : List ℕ) → within 0xEE 0xEF x ≡ true → Sound x ys (lead 3 0xE0 0x80 0xBF)
-unfolding Sound _++_
+unfolding Sound
 three-EE x ys e n (next p (next q last)) = right (right (left (right (right (right (octet x e ⨾ octet _ p ⨾ octet _ q))))))
 
 four-F0 : (x : ℕ) (ys : List ℕ) → within 0xF0 0xF0 x ≡ true → Sound x ys (lead 4 0xF0 0x90 0xBF)
-unfolding Sound _++_
+unfolding Sound
 four-F0 x ys e n (next p (next q (next r last))) = right (right (right (left (octet x e ⨾ octet _ p ⨾ octet _ q ⨾ octet _ r))))
 
 four-F1 : (x : ℕ) (ys : List ℕ) → within 0xF1 0xF3 x ≡ true → Sound x ys (lead 4 0xF0 0x80 0xBF)
-unfolding Sound _++_
+unfolding Sound
 four-F1 x ys e n (next p (next q (next r last))) = right (right (right (right (left (octet x e ⨾ octet _ p ⨾ octet _ q ⨾ octet _ r)))))
 
 four-F4 : (x : ℕ) (ys : List ℕ) → within 0xF4 0xF4 x ≡ true → Sound x ys (lead 4 0xF0 0x80 0x8F)
-unfolding Sound _++_
+unfolding Sound
 four-F4 x ys e n (next p (next q (next r last))) = right (right (right (right (right (octet x e ⨾ octet _ p ⨾ octet _ q ⨾ octet _ r)))))
 
 no-row : (x : ℕ) (ys : List ℕ) → Sound x ys (lead 0 0x00 0x80 0xBF)
@@ -150,7 +150,7 @@ module _ (x : ℕ) where
   row-F4 e = let w = within-both 0xF4 0xF4 x e in rw (within-high 0x00 0x7F x (omega arith), within-high 0xC2 0xDF x (omega arith), within-high 0xE0 0xE0 x (omega arith), within-high 0xE1 0xEC x (omega arith), within-high 0xED 0xED x (omega arith), within-high 0xEE 0xEF x (omega arith), within-high 0xF0 0xF0 x (omega arith), within-high 0xF1 0xF3 x (omega arith), e)
 
 tails-read : (n low high code taken : ℕ) {ys : List ℕ} → Tails n low high ys → (r : List ℕ) → (d : ℕ) × (tails n low high code taken (ys ++ r) ≡ Good d (taken + length ys))
-unfolding tails _++_
+unfolding tails
 tails-read zero low high code taken last r = (code, rw add-zero)
 tails-read (suc n) low high code taken (next {y = y} {ys = ys} p t) r =
     let (d, e) = tails-read n 0x80 0xBF (code * 64 + (y - 0x80)) (taken + 1) t r in
@@ -159,7 +159,7 @@ tails-read (suc n) low high code taken (next {y = y} {ys = ys} p t) r =
 -- a first octet with its row, and the octets after it
 reads : (x : ℕ) (ys : List ℕ) (n mark low high : ℕ) → leadOf x ≡ lead (suc n) mark low high → Tails n low high ys → (r : List ℕ) →
     (d : ℕ) × (sequenceOf ((x ∷ ys) ++ r) ≡ Good d (length (x ∷ ys)))
-unfolding sequenceOf afterLead _++_
+unfolding sequenceOf afterLead
 reads x ys n mark low high e t r =
     let (d, f) = tails-read n low high (x - mark) 1 t r in
     (d, rw (e, eqb·suc-zero n) (f ∙ ap (Good d) (omega arith)))

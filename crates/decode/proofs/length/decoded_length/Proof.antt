@@ -1,10 +1,10 @@
--- `json::decode::decoded_length` meets its contract, by the laws of Lengths and an invariant that says: the rest decides as the whole does.
-use Rattle.json.proofs.Lengths.{counting}
+-- `decode::length::decoded_length` meets its contract, by the laws of Lengths and an invariant that says: the rest decides as the whole does.
+use Rattle.decode.proofs.Lengths.{counting}
 use Prim.Native.Nat.{_-_}
 use lib.ListN.{length}
-use Rattle.json.proofs.Lengths.{Counting}
-use Rattle.json.proofs.decode.decoded_length.Statement.{statement}
-use Rattle.json.proofs.decode.decoded_length.Tie as tie
+use Rattle.decode.proofs.Lengths.{Counting}
+use Rattle.decode.proofs.length.decoded_length.Statement.{statement}
+use Rattle.decode.proofs.length.decoded_length.Tie as tie
 
 abbrev Inv-loop : tie.InvT-loop
 Inv-loop s start total₀ at₀ total at = Counting s start total at

@@ -1,12 +1,12 @@
 // What a string stands for, without writing it down.
-use crate::string::Piece;
-use crate::string::piece_at;
+use json::Piece;
+use json::piece_at;
 ghost use mathlib.Core.Path.{_≡_};
 ghost use Prim.Native.Nat.{_≤_};
 ghost use lib.ListN.{length, drop};
 ghost use Rattle.rfc8259.specs.Encode.{utf8};
 ghost use Rattle.rfc8259.specs.Reader.{charsFrom};
-ghost use Rattle.json.specs.Decoded.{decodedLength};
+ghost use Rattle.decode.specs.Decoded.{decodedLength};
 
 // How many bytes a string stands for.
 pub enum Decoded {

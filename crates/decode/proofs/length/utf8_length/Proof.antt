@@ -1,7 +1,7 @@
--- `json::decode::utf8_length` meets its contract, by the laws of Lengths.
-use Rattle.json.proofs.Lengths.{utf8-lengths}
-use Rattle.json.proofs.decode.utf8_length.Statement.{statement}
-use Rattle.json.proofs.decode.utf8_length.Tie as tie
+-- `decode::length::utf8_length` meets its contract, by the laws of Lengths.
+use Rattle.decode.proofs.Lengths.{utf8-lengths}
+use Rattle.decode.proofs.length.utf8_length.Statement.{statement}
+use Rattle.decode.proofs.length.utf8_length.Tie as tie
 
 returns : tie.Need-returns
 returns c = search utf8-lengths

@@ -6,33 +6,29 @@ use native.Mathlib.Omega.{arith}
 use lib.ListN.{length, drop, length-append}
 use mir.Val.{Fits}
 use mir.Syntax.{w64}
-use borrow.Author.Tests.{lt-ltb, le-ltb}
 use borrow.Author.Needs.{needs}
 use Rattle.rfc8259.specs.Encode.{utf8}
+use Rattle.rfc8259.proofs.EncodeLaws.{utf8-one, utf8-two, utf8-three, utf8-four}
 use Rattle.rfc8259.specs.Reader.{pieceOf, charsFrom}
-use Rattle.json.specs.declared.decode.Decoded.the-variants.{Bytes, NoString}
+use Rattle.decode.specs.declared.length.Decoded.the-variants.{Bytes, NoString}
 use Rattle.json.specs.declared.string.Piece.{Piece}
 use Rattle.json.specs.declared.string.Piece.the-variants.{Byte, Code, Closes, Wrong}
-use Rattle.json.specs.Decoded.{decodedLength}
+use Rattle.decode.specs.Decoded.{decodedLength}
 use Rattle.json.specs.Pieces.{Stood, PieceMeans}
-use Rattle.json.proofs.Strings.{Stringing, string-starts, starts-passed, string-cut, stood-on, stood-passed, closed-value, string-closed, string-wrong, byte-falls, code-falls}
+use Rattle.json.proofs.Strings.{Stringing, coded-told, string-starts, starts-passed, string-cut, stood-on, stood-passed, closed-value, string-closed, string-wrong, byte-falls, code-falls}
 
 module _ (c : ℕ) where
   pub length-one : c < 0x80 → 1 ≡ length (utf8 c)
-  unfolding utf8
-  length-one h = sym (rw (lt-ltb c 0x80 h))
+  length-one h = sym (ap length (utf8-one c h))
 
   pub length-two : 0x80 ≤ c → c < 0x800 → 2 ≡ length (utf8 c)
-  unfolding utf8
-  length-two l h = sym (rw (le-ltb c 0x80 l, lt-ltb c 0x800 h))
+  length-two l h = sym (ap length (utf8-two c l h))
 
   pub length-three : 0x800 ≤ c → c < 0x10000 → 3 ≡ length (utf8 c)
-  unfolding utf8
-  length-three l h = sym (rw (le-ltb c 0x80 (omega arith), le-ltb c 0x800 l, lt-ltb c 0x10000 h))
+  length-three l h = sym (ap length (utf8-three c l h))
 
   pub length-four : 0x10000 ≤ c → 4 ≡ length (utf8 c)
-  unfolding utf8
-  length-four l = sym (rw (le-ltb c 0x80 (omega arith), le-ltb c 0x800 (omega arith), le-ltb c 0x10000 l))
+  length-four l = sym (ap length (utf8-four c l))
 
 pub ruleset utf8-lengths = (length-one, length-two, length-three, length-four, needs)
 
@@ -67,10 +63,10 @@ module _ {s : List ℕ} {start total at : ℕ} (k : Counting s start total at) w
     byte-fits b e = count-fits b (rw e at m)
 
     pub code-counts : {c n r : ℕ} → t ≡ Code c n → r ≡ length (utf8 c) → Counting s start (total + r) n
-    code-counts e f = rw f (counts-on (rw e at m))
+    code-counts e f = rw f (counts-on (coded-told e m .stood))
 
     pub code-fits : {c n r : ℕ} → length s < 2 ^ 64 → t ≡ Code c n → r ≡ length (utf8 c) → Fits w64 (total + r)
-    code-fits b e f = rw f (count-fits b (rw e at m))
+    code-fits b e f = rw f (count-fits b (coded-told e m .stood))
 
     pub count-closed : {n : ℕ} → t ≡ Closes n → Bytes total ≡ decodedLength (charsFrom 0 (drop start s))
     count-closed e =

@@ -1,0 +1,3 @@
+-- The answer for a comment, and how answers by places speak of the reader on lists.
+pub mod Members
+pub mod Answer

@@ -1,0 +1,2 @@
+-- What a string stands for.
+pub mod Decoded
