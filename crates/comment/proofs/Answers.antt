@@ -13,14 +13,13 @@ use borrow.Author.Needs.{needs}
 use Rattle.ground.specs.Ascii.{ascii}
 use Rattle.ground.specs.Choice.{pick}
 use Rattle.places.specs.Places.{same}
-use Rattle.rfc8259.specs.Grammar.{Meaning}
-use Rattle.rfc8259.specs.Reader.{Out, got, bad, isWs, skip, structural, charsFrom, enclosedOf, Item, item, memberOf, valueOf, allRead, membersOf}
-use Rattle.rfc8259.specs.Members.{Found, missing, found, lastOf}
+use Rattle.rfc8259.specs.Reader.{Out, got, bad, isWs, structural, charsFrom, enclosedOf, Item, item, memberOf, valueOf, allRead, membersOf}
+use Rattle.rfc8259.specs.Members.{found, lastOf}
 use Rattle.rfc8259.proofs.Took.{never-bad}
 use Rattle.rfc8259.proofs.Onward.{Parts, member-parts, value-text, value-other, no-value, last-later}
 use Rattle.json.specs.declared.space.After.{After}
 use Rattle.json.specs.declared.space.After.the-variants.{Next, Unread}
-use Rattle.json.specs.Means.{Reached, Means, Past}
+use Rattle.json.specs.Means.{Means, Past}
 use Rattle.json.proofs.Numbers.{means-next, means-unread}
 use Rattle.decode.specs.Decoded.{decodedIs}
 use Rattle.comment.specs.declared.value.Member.{Member}
@@ -32,7 +31,7 @@ use Rattle.comment.specs.declared.answer.Comment.the-variants.{Unreadabl
 use Rattle.comment.specs.Members.{MemberAt, MemberMeans}
 use Rattle.comment.specs.Answer.{standsAs, standsIn, answerOf, commentOf, headStands, endOf}
 use Rattle.comment.proofs.Listing.{Listing, Turn, listing-on, listing-passed, listing-closed, listing-wrong, empty-reads, listing-starts, starts-passed}
-use Rattle.comment.proofs.Values.{member-told, member-turn, object-cut, object-none, object-falls, space-inside, read-inside, member-inside, place-inside}
+use Rattle.comment.proofs.Values.{member-told, member-turn, object-cut, object-none, object-falls, space-inside, read-inside, member-inside}
 
 -- A value by its first byte.
 module _ (s : List ℕ) (value : ℕ) (h : value < length s) where

@@ -1,6 +1,6 @@
 -- Values, members, objects and arrays, by places. Assumes nothing.
 use mathlib.Core.Path.{_≡_, refl, _∙_}
-use mathlib.Core.List.{List, [], _∷_}
+use mathlib.Core.List.{List, _∷_}
 use Prim.Native.Nat.{ℕ, zero, suc, _+_, _-_, _≤_, _<_}
 use native.Mathlib.Numerals.{add-one}
 use native.Mathlib.Omega.{arith}
@@ -14,9 +14,9 @@ use Rattle.rfc8259.proofs.Items.{value-shorter, member-shorter}
 use Rattle.rfc8259.proofs.Onward.{no-value}
 use Rattle.json.specs.declared.space.After.{After}
 use Rattle.json.specs.declared.space.After.the-variants.{Next, Unread}
-use Rattle.json.specs.Means.{Reached, Means, Past}
+use Rattle.json.specs.Means.{Means, Past}
 use Rattle.json.proofs.Numbers.{means-next, means-unread, means-as}
-use Rattle.json.proofs.Flats.{means-map, flat-end}
+use Rattle.json.proofs.Flats.{means-map}
 use Rattle.comment.specs.declared.value.Member.{Member}
 use Rattle.comment.specs.declared.value.Member.the-variants.{Read, NoMember}
 use Rattle.comment.specs.Members.{MemberAt, MemberMeans}

@@ -1,4 +1,5 @@
 -- Document 01 "Comments": what stands last under `id` and under `signature`, over the members that RFC 8259's reader gives.
+use mathlib.Core.Bool.{Bool}
 use mathlib.Core.List.{List, [], _∷_}
 use Prim.Native.Nat.{ℕ, _+_, _-_}
 use lib.Dec.{eqb}
@@ -8,6 +9,7 @@ use Rattle.ground.specs.Choice.{pick}
 use Rattle.rfc8259.specs.Grammar.{Meaning, text, other}
 use Rattle.rfc8259.specs.Reader.{Out, got, bad, Item, membersOf}
 use Rattle.rfc8259.specs.Members.{Found, missing, found, lastOf}
+use Rattle.decode.specs.Decoded.{decodedIs}
 use Rattle.comment.specs.declared.answer.Stands.{Stands}
 use Rattle.comment.specs.declared.answer.Stands.the-variants.{Missing, Other, Text}
 use Rattle.comment.specs.declared.answer.Comment.{Comment}
@@ -30,6 +32,10 @@ answerOf s bad = Unreadable
 -- the answer for a comment
 abbrev pub commentOf : List ℕ → Comment
 commentOf s = answerOf s (membersOf s)
+
+-- "`id` is compared with `com.android.tools.r8.residualsignature`"
+abbrev pub residualOf : Out (List ℕ) → Bool
+residualOf o = decodedIs (ascii "com.android.tools.r8.residualsignature") o
 
 -- a value by the text from the place `at` on
 abbrev pub headStands : ℕ → List ℕ → Stands

@@ -11,7 +11,7 @@ ghost use lib.ListN.{length, drop};
 ghost use Rattle.ground.specs.Choice.{pick};
 ghost use Rattle.rfc8259.specs.Reader.{charsFrom};
 ghost use Rattle.decode.specs.Decoded.{decodedIs};
-ghost use Rattle.comment.specs.Answer.{headStands, endOf, commentOf};
+ghost use Rattle.comment.specs.Answer.{headStands, endOf, commentOf, residualOf};
 
 // What stands last under a name.
 pub enum Stands {
@@ -91,4 +91,11 @@ pub fn read_comment(s: &[u8]) -> Comment
         place = again;
     }
     Comment::Unreadable
+}
+
+// Whether a string, whose first char is at `start`, says that a comment holds a residual signature.
+pub fn is_residual(s: &[u8], start: usize) -> bool
+    ensures { λ r. ⌜ r ≡ residualOf (charsFrom 0 (drop start (now (s .entry)))) ⌝ }
+{
+    decoded_is(s, start, b"com.android.tools.r8.residualsignature")
 }

@@ -4,4 +4,5 @@ mod value;
 
 pub use answer::Comment;
 pub use answer::Stands;
+pub use answer::is_residual;
 pub use answer::read_comment;

@@ -3,15 +3,13 @@ use mathlib.Core.Path.{_≡_, refl, sym, _∙_, ap}
 use mathlib.Core.Bool.{Bool, true, false}
 use mathlib.Core.List.{List, [], _∷_, _++_}
 use Prim.Native.Nat.{ℕ, zero, suc}
-use native.Mathlib.Omega.{arith}
 use lib.Dec.{eqb}
-use borrow.Author.Tests.{ne-eqb, eqb-true}
 use Rattle.ground.specs.Ascii.{ascii}
 use Rattle.ground.specs.Choice.{pick}
 use Rattle.ground.proofs.Cases.{clash}
 use Rattle.places.specs.Places.{same}
 use Rattle.rfc8259.specs.Grammar.{Meaning, text, other}
-use Rattle.rfc8259.specs.Reader.{Out, got, bad, andThen, structural, charsFrom, stringOf, pastWord, numberOf, asText, asOther, flatOf, enclosedOf, Item, item, memberOf, nestedOf, valueOf}
+use Rattle.rfc8259.specs.Reader.{Out, got, bad, structural, charsFrom, stringOf, pastWord, numberOf, asText, asOther, flatOf, enclosedOf, Item, item, memberOf, nestedOf, valueOf}
 use Rattle.rfc8259.specs.Members.{Found, missing, found, orEarlier, lastOf}
 use Rattle.rfc8259.proofs.Took.{and-got, same-value, same-rest, never-bad}
 use Rattle.rfc8259.proofs.ValuesTook.{word-took}

@@ -2,8 +2,6 @@
 use Rattle.comment.proofs.Answers.{ending}
 use Rattle.comment.proofs.answer.ended.Statement.{statement}
 use Rattle.comment.proofs.answer.ended.Tie as tie
-use Rattle.comment.proofs.answer.ended.Reads as reads
-use Rattle.comment.proofs.answer.ended.Lts as lts
 
 returns : tie.Need-returns
 returns c = search ending

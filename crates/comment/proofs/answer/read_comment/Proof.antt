@@ -1,18 +1,11 @@
+-- `comment::answer::read_comment` meets its contract, by the laws of Answers and an invariant that says: the rest decides as the whole does.
 use Rattle.comment.proofs.Values.{member-inside}
 use Rattle.comment.proofs.Answers.{value-starts, reading-wrong, reading-ends}
--- `comment::answer::read_comment` meets its contract, by the laws of Answers and an invariant that says: the rest decides as the whole does.
 use Rattle.comment.proofs.Answers.{reading, Reading}
 use Prim.Native.Nat.{_-_}
 use lib.ListN.{length}
 use Rattle.comment.proofs.answer.read_comment.Statement.{statement}
 use Rattle.comment.proofs.answer.read_comment.Tie as tie
-use Rattle.comment.proofs.answer.read_comment.Reads as reads
-use Rattle.comment.proofs.answer.read_comment.Lts as lts
-use Rattle.comment.proofs.answer.ended.Reads as ended-reads
-use Rattle.comment.proofs.answer.stands_now.Reads as stands-now-reads
-use Rattle.comment.proofs.value.member_at.Reads as member-at-reads
-use Rattle.json.proofs.skip_space.Reads as skip-space-reads
-use Rattle.json.proofs.structural_at.Reads as structural-at-reads
 
 abbrev Inv-loop : tie.InvT-loop
 Inv-loop s at place₀ id₀ signature₀ t11 t12 place id signature = Reading s at place id signature

@@ -2,10 +2,6 @@
 use Rattle.comment.proofs.Answers.{standing}
 use Rattle.comment.proofs.answer.stands_now.Statement.{statement}
 use Rattle.comment.proofs.answer.stands_now.Tie as tie
-use Rattle.comment.proofs.answer.stands_now.Reads as reads
-use Rattle.comment.proofs.answer.stands_now.Lts as lts
-use Rattle.comment.proofs.answer.value_stands.Reads as value-stands-reads
-use Rattle.decode.proofs.decoded_is.Reads as decoded-is-reads
 
 decoded-is-requires : tie.Need-decoded-is-requires
 decoded-is-requires c κs = search standing

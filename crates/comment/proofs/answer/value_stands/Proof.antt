@@ -2,8 +2,6 @@
 use Rattle.comment.proofs.Answers.{value-standing}
 use Rattle.comment.proofs.answer.value_stands.Statement.{statement}
 use Rattle.comment.proofs.answer.value_stands.Tie as tie
-use Rattle.comment.proofs.answer.value_stands.Reads as reads
-use Rattle.comment.proofs.answer.value_stands.Lts as lts
 
 shared-slice-read-if1 : tie.Need-shared-slice-read-if1
 shared-slice-read-if1 c = search value-standing

@@ -4,11 +4,6 @@ use Prim.Native.Nat.{_-_}
 use lib.ListN.{length}
 use Rattle.decode.proofs.compare.decoded_is.Statement.{statement}
 use Rattle.decode.proofs.compare.decoded_is.Tie as tie
-use Rattle.decode.proofs.compare.decoded_is.Reads as reads
-use Rattle.decode.proofs.compare.decoded_is.Lts as lts
-use Rattle.decode.proofs.length.utf8_length.Reads as utf8-length-reads
-use Rattle.decode.proofs.octets.has_octets.Reads as has-octets-reads
-use Rattle.json.proofs.piece_at.Reads as piece-at-reads
 
 abbrev Inv-loop : tie.InvT-loop
 Inv-loop s start text i₀ at₀ i at = Comparing s start text i at

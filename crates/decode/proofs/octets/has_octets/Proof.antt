@@ -1,13 +1,9 @@
-use Rattle.decode.proofs.OctetLaws.{heading-more}
 -- `decode::octets::has_octets` meets its contract, by the laws of OctetLaws and an invariant that says: the rest decides as the whole does.
+use Rattle.decode.proofs.OctetLaws.{heading-more}
 use Rattle.decode.proofs.OctetLaws.{heading, Heading}
 use Prim.Native.Nat.{_-_}
 use Rattle.decode.proofs.octets.has_octets.Statement.{statement}
 use Rattle.decode.proofs.octets.has_octets.Tie as tie
-use Rattle.decode.proofs.octets.has_octets.Reads as reads
-use Rattle.decode.proofs.octets.has_octets.Lts as lts
-use Rattle.decode.proofs.length.utf8_length.Reads as utf8-length-reads
-use Rattle.decode.proofs.octets.octet.Reads as octet-reads
 
 abbrev Inv-loop : tie.InvT-loop
 Inv-loop text at code n k₀ k = Heading text at code k

@@ -2,8 +2,6 @@
 use Rattle.decode.proofs.OctetLaws.{octets}
 use Rattle.decode.proofs.octets.octet.Statement.{statement}
 use Rattle.decode.proofs.octets.octet.Tie as tie
-use Rattle.decode.proofs.octets.octet.Reads as reads
-use Rattle.decode.proofs.octets.octet.Lts as lts
 
 cast-result : tie.Need-cast-result
 cast-result c = search octets

@@ -3,10 +3,6 @@ use Rattle.decode.proofs.OctetLaws.{putting, Putting}
 use Prim.Native.Nat.{_-_}
 use Rattle.decode.proofs.octets.put_octets.Statement.{statement}
 use Rattle.decode.proofs.octets.put_octets.Tie as tie
-use Rattle.decode.proofs.octets.put_octets.Reads as reads
-use Rattle.decode.proofs.octets.put_octets.Lts as lts
-use Rattle.decode.proofs.length.utf8_length.Reads as utf8-length-reads
-use Rattle.decode.proofs.octets.octet.Reads as octet-reads
 
 abbrev Inv-loop : tie.InvT-loop
 Inv-loop room₀ at code n k₀ room k = Putting room₀ at code room k

@@ -2,10 +2,6 @@
 use Rattle.decode.proofs.Writing.{deciding}
 use Rattle.decode.proofs.write.decode_at.Statement.{statement}
 use Rattle.decode.proofs.write.decode_at.Tie as tie
-use Rattle.decode.proofs.write.decode_at.Reads as reads
-use Rattle.decode.proofs.write.decode_at.Lts as lts
-use Rattle.decode.proofs.length.decoded_length.Reads as decoded-length-reads
-use Rattle.decode.proofs.write.write_pieces.Reads as write-pieces-reads
 
 decoded-length-requires : tie.Need-decoded-length-requires
 decoded-length-requires c κs = search deciding

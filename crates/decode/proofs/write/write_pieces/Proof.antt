@@ -4,11 +4,6 @@ use Prim.Native.Nat.{_-_}
 use lib.ListN.{length}
 use Rattle.decode.proofs.write.write_pieces.Statement.{statement}
 use Rattle.decode.proofs.write.write_pieces.Tie as tie
-use Rattle.decode.proofs.write.write_pieces.Reads as reads
-use Rattle.decode.proofs.write.write_pieces.Lts as lts
-use Rattle.decode.proofs.length.utf8_length.Reads as utf8-length-reads
-use Rattle.decode.proofs.octets.put_octets.Reads as put-octets-reads
-use Rattle.json.proofs.piece_at.Reads as piece-at-reads
 
 abbrev Inv-loop : tie.InvT-loop
 Inv-loop room₀ at s start to₀ from₀ room to from = Writing s start room₀ at room to from

@@ -2,10 +2,6 @@
 use Rattle.json.proofs.PieceLaws.{unicodes}
 use Rattle.json.proofs.string.unicode_at.Statement.{statement}
 use Rattle.json.proofs.string.unicode_at.Tie as tie
-use Rattle.json.proofs.string.unicode_at.Reads as reads
-use Rattle.json.proofs.string.unicode_at.Lts as lts
-use Rattle.json.proofs.string.hex4_at.Reads as hex4-at-reads
-use Rattle.json.proofs.string.second_at.Reads as second-at-reads
 
 add-hex4-at : tie.Need-add-hex4-at
 add-hex4-at c = search unicodes
