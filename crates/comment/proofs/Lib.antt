@@ -2,3 +2,4 @@
 pub mod Listing
 pub mod Values
 pub mod Answers
+pub mod Grammatical

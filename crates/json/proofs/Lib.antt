@@ -5,3 +5,4 @@ pub mod Hex
 pub mod PieceLaws
 pub mod Strings
 pub mod Flats
+pub mod Once

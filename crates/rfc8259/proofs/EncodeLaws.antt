@@ -1,11 +1,11 @@
 -- The octets of a code point are a UTF8-char of RFC 3629, section 4, where it is no surrogate. Assumes nothing.
-use mathlib.Core.Path.{_≡_}
+use mathlib.Core.Path.{_≡_, sym, _∙_, ap}
 use mathlib.Core.Bool.{false}
 use mathlib.Core.List.{List, [], _∷_}
 use mathlib.Core.Logic.{_⊎_, inl, inr}
 use Prim.Native.Nat.{ℕ, _+_, _/_, _%_, _≤_, _<_}
 use native.Mathlib.Omega.{arith}
-use lib.ListN.{length}
+use lib.ListN.{length, getD}
 use borrow.Author.Tests.{lt-ltb, le-ltb}
 use Rattle.ground.specs.Abnf.{Octet, octet, _⨾_, left, right}
 use Rattle.ground.specs.Choice.{within}
@@ -130,3 +130,49 @@ utf8-char c h e = by-form UTF8-char c (one-octet c) (two-octets c) (λ l u. thre
 -- a code point has four octets at most
 pub utf8-short : (c : ℕ) → length (utf8 c) ≤ 4
 utf8-short c = by-form (λ l. length l ≤ 4) c (λ l. omega arith) (λ l u. omega arith) (λ l u. omega arith) (λ l. omega arith)
+
+-- numbers with the same digits in base 64 are the same
+same-digits : (x y : ℕ) → x / 64 ≡ y / 64 → x % 64 ≡ y % 64 → x ≡ y
+same-digits x y p q = omega arith
+
+twice : (x : ℕ) → x / 64 / 64 ≡ x / 4096
+twice x = omega arith
+
+thrice : (x : ℕ) → x / 4096 / 64 ≡ x / 262144
+thrice x = omega arith
+
+same-two : (x y : ℕ) → x / 4096 ≡ y / 4096 → x / 64 % 64 ≡ y / 64 % 64 → x % 64 ≡ y % 64 → x ≡ y
+same-two x y p q r = same-digits x y (same-digits (x / 64) (y / 64) (twice x ∙ p ∙ sym (twice y)) q) r
+
+same-three : (x y : ℕ) → x / 262144 ≡ y / 262144 → x / 4096 % 64 ≡ y / 4096 % 64 → x / 64 % 64 ≡ y / 64 % 64 → x % 64 ≡ y % 64 → x ≡ y
+same-three x y p q = same-two x y (same-digits (x / 4096) (y / 4096) (thrice x ∙ p ∙ sym (thrice y)) q)
+
+without : (n x y : ℕ) → n + x ≡ n + y → x ≡ y
+without n x y e = omega arith
+
+-- no two code points have the same octets
+pub utf8-once : (c d : ℕ) → utf8 c ≡ utf8 d → c ≡ d
+utf8-once c d = by-form (λ l. l ≡ utf8 d → c ≡ d) c ones twos threes fours
+  where
+    ones : c < 0x80 → c ∷ [] ≡ utf8 d → c ≡ d
+    ones h =
+        by-form (λ m. c ∷ [] ≡ m → c ≡ d) d (λ l e. let p = ap (λ m. getD m 0 0) e in omega arith) (λ l u e. let n = ap length e in omega arith)
+        (λ l u e. let n = ap length e in omega arith) (λ l e. let n = ap length e in omega arith)
+
+    twos : 0x80 ≤ c → c < 0x800 → two c ≡ utf8 d → c ≡ d
+    twos h i =
+        by-form (λ m. two c ≡ m → c ≡ d) d (λ l e. let n = ap length e in omega arith)
+        (λ l u e. let p = ap (λ m. getD m 0 0) e in let q = ap (λ m. getD m 1 0) e in omega arith)
+        (λ l u e. let n = ap length e in omega arith) (λ l e. let n = ap length e in omega arith)
+
+    threes : 0x800 ≤ c → c < 0x10000 → three c ≡ utf8 d → c ≡ d
+    threes h i =
+        by-form (λ m. three c ≡ m → c ≡ d) d (λ l e. let n = ap length e in omega arith) (λ l u e. let n = ap length e in omega arith)
+        (λ l u e. same-two c d (without 0xE0 _ _ (ap (λ m. getD m 0 0) e)) (without 0x80 _ _ (ap (λ m. getD m 1 0) e)) (without 0x80 _ _ (ap (λ m. getD m 2 0) e)))
+        (λ l e. let n = ap length e in omega arith)
+
+    fours : 0x10000 ≤ c → four c ≡ utf8 d → c ≡ d
+    fours h =
+        by-form (λ m. four c ≡ m → c ≡ d) d (λ l e. let n = ap length e in omega arith) (λ l u e. let n = ap length e in omega arith)
+        (λ l u e. let n = ap length e in omega arith)
+        (λ l e. same-three c d (without 0xF0 _ _ (ap (λ m. getD m 0 0) e)) (without 0x80 _ _ (ap (λ m. getD m 1 0) e)) (without 0x80 _ _ (ap (λ m. getD m 2 0) e)) (without 0x80 _ _ (ap (λ m. getD m 3 0) e)))

@@ -254,7 +254,7 @@ value-took zero s m r e = flat-took s e
 value-took (suc depth) s m r e = nested-took (Grammar.Value depth) (valueOf depth) (λ t n q. value-took depth t n q) s m r e
 
 -- A whole text.
-all-read : (o : Out (List Item)) {items : List Item} {r : List ℕ} → allRead o ≡ got items r → (o ≡ got items []) × (r ≡ [])
+pub all-read : (o : Out (List Item)) {items : List Item} {r : List ℕ} → allRead o ≡ got items r → (o ≡ got items []) × (r ≡ [])
 all-read (got xs []) e = (cc, sym (same-rest e))
 all-read (got xs (x ∷ q)) e = never-bad e
 all-read bad e = never-bad e
