@@ -1,6 +1,8 @@
-//! bench [--seed N] [--runs N]: times the proved functions beside Rust's standard library, in one process.
+//! bench [--seed N] [--runs N]: times the proved functions beside Rust's standard library, in one process, and alone on
+//! comments made to be slow.
 //! Status: 0 done, 1 the two disagree, 2 bad arguments.
 
+mod hostile;
 mod race;
 
 use clumarief_compare::random::Random;
@@ -102,5 +104,7 @@ fn main() -> ExitCode {
         "The proved trim gives 8 places in one call: \"trim\" sets it beside `str::trim` alone,\n\
          \"8 places\" beside the methods of `str` for all of them."
     );
+    println!("\nnanoseconds a byte, at lengths in KiB");
+    hostile::run(runs);
     ExitCode::SUCCESS
 }

@@ -1,14 +1,14 @@
-//! compare [--seed N] [--more N]: holds the proved functions against Rust's standard library.
+//! compare [--seed N] [--more N]: holds the proved functions against Rust's standard library and `serde_json`.
 //! Status: 0 all agree, 1 a disagreement, 2 bad arguments.
 
 use clumarief_compare::report::{Disagreement, Held, Report, Settings};
-use clumarief_compare::{arguments, bytes, lines, numbers, ranges, trims, utf8, white};
+use clumarief_compare::{arguments, bytes, comments, lines, numbers, ranges, trims, utf8, white};
 use std::env;
 use std::process::ExitCode;
 
 type Part = fn(&Settings, &mut Report) -> Held;
 
-const PARTS: [Part; 7] = [
+const PARTS: [Part; 8] = [
     utf8::run,
     white::run,
     trims::run,
@@ -16,6 +16,7 @@ const PARTS: [Part; 7] = [
     bytes::run,
     numbers::run,
     ranges::run,
+    comments::run,
 ];
 
 const USAGE: &str = "usage: compare [--seed N] [--more N]

@@ -14,12 +14,29 @@ extern "C" {
     fn clumarief_probe_number(text: Bytes, length: usize, answer: &mut [u64; 2]);
     fn clumarief_probe_leading(text: Bytes, length: usize, answer: &mut [u64; 5]);
     fn clumarief_probe_trailing(text: Bytes, length: usize, answer: &mut [u64; 4]);
+    fn clumarief_probe_comment(text: Bytes, length: usize, answer: &mut [u64; 5]);
+    fn clumarief_probe_decoded_length(
+        text: Bytes,
+        length: usize,
+        start: usize,
+        answer: &mut [u64; 2],
+    );
+    fn clumarief_probe_decode(
+        text: Bytes,
+        length: usize,
+        start: usize,
+        room: *mut u8,
+        room_length: usize,
+        at: usize,
+        answer: &mut [u64; 2],
+    );
+    fn clumarief_probe_residual(text: Bytes, length: usize, start: usize) -> u32;
 }
 
 /// What stands in an answer before the call: no judge gives it, so a slot that is not written shows.
 const UNWRITTEN: u64 = u64::MAX;
 
-// Safety of every call below: the address and the length are those of one slice that lives through the call, and the
+// Safety of every call below: an address and a length are those of one slice that lives through the call, and the
 // answer is an array of the length that the function is declared with. The functions keep neither.
 
 /// 0 end, 1 good or 2 bad; the code point, 0 unless good; the length.
@@ -88,4 +105,43 @@ pub fn trailing(text: &[u8]) -> [u64; 4] {
     let mut answer = [UNWRITTEN; 4];
     unsafe { clumarief_probe_trailing(text.as_ptr(), text.len(), &mut answer) };
     answer
+}
+
+/// 1 where the comment reads; then what stands under `id` and under `signature`: 0 nothing, 1 no string, or 2 a string;
+/// and the place of its first character, or 0.
+pub fn comment(text: &[u8]) -> [u64; 5] {
+    let mut answer = [UNWRITTEN; 5];
+    unsafe { clumarief_probe_comment(text.as_ptr(), text.len(), &mut answer) };
+    answer
+}
+
+/// 1 where a string's characters start there, and how many bytes they stand for.
+pub fn decoded_length(text: &[u8], start: usize) -> [u64; 2] {
+    let mut answer = [UNWRITTEN; 2];
+    unsafe { clumarief_probe_decoded_length(text.as_ptr(), text.len(), start, &mut answer) };
+    answer
+}
+
+/// Writes what the string's characters stand for into the room from `at` on: 0 no string, 1 written and where that
+/// ends, or 2 too little room.
+pub fn decode(text: &[u8], start: usize, room: &mut [u8], at: usize) -> [u64; 2] {
+    let mut answer = [UNWRITTEN; 2];
+    let (address, length) = (room.as_mut_ptr(), room.len());
+    unsafe {
+        clumarief_probe_decode(
+            text.as_ptr(),
+            text.len(),
+            start,
+            address,
+            length,
+            at,
+            &mut answer,
+        );
+    }
+    answer
+}
+
+/// 1 where the string there stands for the id of a residual signature.
+pub fn residual(text: &[u8], start: usize) -> u32 {
+    unsafe { clumarief_probe_residual(text.as_ptr(), text.len(), start) }
 }

@@ -78,7 +78,7 @@ impl<C: Case, A: PartialEq + Debug> Subject<C, A> {
         let mut said = format!("disagreement: {}\n{}", self.name, least.show());
         said += &format!("  proved: {proved:?}\n");
         if let Some(judged) = judged {
-            said += &format!("  std:    {judged:?}\n");
+            said += &format!("  judge:  {judged:?}\n");
         }
         Disagreement(said)
     }

@@ -10,12 +10,9 @@ use borrow.Author.Needs.{needs}
 use Rattle.ground.proofs.Parts.{prefix-size, prefix-whole}
 use Rattle.places.specs.declared.find.Place.{Place}
 use Rattle.places.specs.declared.find.Place.the-variants.{At}
-use Rattle.places.specs.declared.lines.NextLine.{NextLine}
-use Rattle.places.specs.declared.lines.NextLine.the-variants.{Line}
 use Rattle.places.specs.Places.{firstWhere, starts}
-use Rattle.places.specs.Lines.{nextLine}
 use Rattle.places.proofs.PlaceLaws.{first-inside}
-use Rattle.places.proofs.LineLaws.{LineAt, line-split}
+use Rattle.places.proofs.Taking.{Taking, taking-starts, line-next, line-falls, line-starts, line-ends}
 use Rattle.utf8.specs.declared.sequence.Sequence.{Sequence}
 use Rattle.utf8.specs.declared.sequence.Sequence.the-variants.{Good, Bad}
 use Rattle.utf8.specs.Utf8.{sequenceOf}
@@ -39,29 +36,7 @@ pub ruleset filled = (prefix-whole, needs)
 
 pub ruleset filling = (filling-starts, filling-more, needs)
 
--- a place up to which lines or sequences were taken
-pub record Taking (s : List ℕ) (at : ℕ) : Type 0 where
-  pub inside : at ≤ length s
-
-pub taking-starts : (s : List ℕ) → Taking s 0
-taking-starts s = omega arith
-
-module _ (s : List ℕ) (at : ℕ) {a e n : ℕ} {t : NextLine} (p : t ≡ nextLine s at) (q : t ≡ Line a e n) where
-  here : LineAt s at e n
-  here = line-split s at (sym p ∙ q)
-
-  pub line-next : Taking s n
-  line-next = record { inside = here .inside }
-
-  pub line-falls : at < length s → length s - n < length s - at
-  line-falls h = let l = here in omega arith
-
-  pub line-starts : at ≤ e
-  line-starts = here .starts
-
-  pub line-ends : e ≤ length s
-  line-ends = let l = here in omega arith
-
+-- sequences are taken one after the other
 module _ (s : List ℕ) (at : ℕ) {t : Sequence} (p : t ≡ sequenceOf (drop at s)) where
   module _ {d m : ℕ} (q : t ≡ Good d m) where
     reach : (0 < m) × (m ≤ length (drop at s))

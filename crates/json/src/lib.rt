@@ -1,4 +1,4 @@
-// JSON in comments: a reader of RFC 8259 by places in a text. Every public function takes any bytes and ends.
+// JSON: a reader of RFC 8259 by places in a text. Every function takes any bytes and ends; some ask for a place inside the text.
 mod flat;
 mod number;
 mod space;

@@ -20,7 +20,7 @@ use Rattle.number.specs.declared.range.LeadingRange.the-variants as Lead
 use Rattle.number.specs.declared.range.TrailingRange.{TrailingRange}
 use Rattle.number.specs.declared.range.TrailingRange.the-variants as Trailing
 use Rattle.number.specs.Numbers.{numberOf}
-use Rattle.number.specs.Ranges.{firstColon, bothRead, leadingRange, toColon, oneNumber, twoNumbers, afterColon, trailingRange}
+use Rattle.number.specs.Ranges.{firstColon, bothRead, cutTwice, cutOnce, leadingRange, toColon, oneNumber, twoNumbers, afterColon, trailingRange}
 
 -- The range before the method.
 module _ (s : List ℕ) {p : Place} (e : p ≡ firstColon s) where
@@ -76,6 +76,26 @@ module _ (s : List ℕ) {p : Place} (e : p ≡ firstColon s) where
 
 pub ruleset leading =
     (lead-no-colon, lead-inside, prefix-size, lead-after-fits, lead-after, lead-one-colon, lead-reaches, lead-fits, lead-rest-fits, lead-first-unread, lead-second-unread, lead-taken, needs)
+
+-- What is left starts in the text.
+pub leading-rest : (s : List ℕ) {a b rest : ℕ} → leadingRange s ≡ Leading.Taken a b rest → rest ≤ length s
+leading-rest s {a} {b} {rest} e = once (firstColon s) refl e
+  where
+    read : (n m : Number) (r : ℕ) → bothRead n m r ≡ Leading.Taken a b rest → r ≡ rest
+    read (Value x) (Value y) r f = cc
+    read (Value x) Unread r f = absurd (let z : _≡_ {A = ℕ} 0 1 = cc in omega arith)
+    read Unread m r f = absurd (let z : _≡_ {A = ℕ} 0 1 = cc in omega arith)
+
+    twice : (i : ℕ) → i < length s → (p : Place) → firstColon (drop (i + 1) s) ≡ p → cutTwice s i p (drop (i + 1) s) ≡ Leading.Taken a b rest → rest ≤ length s
+    twice i h Nowhere q f = absurd (let z : _≡_ {A = ℕ} 0 1 = cc in omega arith)
+    twice i h (At j) q f =
+        let second = first-inside (starts 0x3A) (drop (i + 1) s) q in
+        let is = read (numberOf (take i s)) (numberOf (take j (drop (i + 1) s))) (i + 1 + j + 1) f in
+        omega (arith, length-drop (i + 1) s)
+
+    once : (p : Place) → firstColon s ≡ p → cutOnce s p ≡ Leading.Taken a b rest → rest ≤ length s
+    once Nowhere q f = absurd (let z : _≡_ {A = ℕ} 0 1 = cc in omega arith)
+    once (At i) q f = twice i (first-inside (starts 0x3A) s q) (firstColon (drop (i + 1) s)) refl f
 
 -- The range after the `)`.
 module _ (s : List ℕ) {p : Place} (e : p ≡ firstColon s) where

@@ -1,3 +1,5 @@
 -- Laws of the rules, one file a subject.
 pub mod PlaceLaws
 pub mod LineLaws
+pub mod Holds
+pub mod Taking

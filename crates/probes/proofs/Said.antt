@@ -26,7 +26,15 @@ use Rattle.number.specs.declared.range.LeadingRange.{LeadingRange}
 use Rattle.number.specs.declared.range.TrailingRange.{TrailingRange}
 use Rattle.number.specs.declared.range.LeadingRange.the-variants as Leading
 use Rattle.number.specs.declared.range.TrailingRange.the-variants as Trailing
+use Rattle.comment.specs.declared.answer.Stands.{Stands}
+use Rattle.comment.specs.declared.answer.Comment.{Comment}
+use Rattle.comment.specs.declared.answer.Comment.the-variants.{Unreadable, Readable}
+use Rattle.decode.specs.declared.length.Decoded.{Decoded}
+use Rattle.decode.specs.declared.length.Decoded.the-variants as decoded
+use Rattle.decode.specs.declared.write.Written.{Written}
+use Rattle.decode.specs.declared.write.Written.the-variants as written
 use Rattle.probes.specs.Answers.{bit, placeNumber, trimNumbers, sequenceNumbers, checkNumbers, lineNumbers, numberNumbers, leadingNumbers, trailingNumbers}
+use Rattle.probes.specs.Answers.{standsKind, standsPlace, commentNumbers, decodedNumbers, writtenNumbers}
 
 module _ {t x : Sequence} (e : t ≡ x) where
   pub said-end : t ≡ End → 0 ∷ 0 ∷ 0 ∷ [] ≡ sequenceNumbers x
@@ -75,6 +83,35 @@ module _ {t x : TrailingRange} (e : t ≡ x) where
 
 pub ruleset said =
     (said-end, said-good, said-bad, said-valid, said-broken, said-line, said-no-line, said-value, said-unread, said-leading, said-no-leading, said-trailing, said-no-trailing, needs)
+
+module _ {t x : Comment} (e : t ≡ x) where
+  pub said-unreadable : t ≡ Unreadable → 0 ∷ 0 ∷ 0 ∷ 0 ∷ 0 ∷ [] ≡ commentNumbers x
+  said-unreadable g = sym (rw (sym e ∙ g))
+
+  pub said-readable :
+      {id signature : Stands} {k p l q : ℕ} → t ≡ Readable id signature →
+      k ≡ standsKind id → p ≡ standsPlace id → l ≡ standsKind signature → q ≡ standsPlace signature →
+      1 ∷ k ∷ p ∷ l ∷ q ∷ [] ≡ commentNumbers x
+  said-readable g a b c d = sym (rw (sym e ∙ g, a, b, c, d))
+
+module _ {t x : Decoded} (e : t ≡ x) where
+  pub said-bytes : {n : ℕ} → t ≡ decoded.Bytes n → 1 ∷ n ∷ [] ≡ decodedNumbers x
+  said-bytes g = sym (rw (sym e ∙ g))
+
+  pub said-no-bytes : t ≡ decoded.NoString → 0 ∷ 0 ∷ [] ≡ decodedNumbers x
+  said-no-bytes g = sym (rw (sym e ∙ g))
+
+module _ {t x : Written} (e : t ≡ x) where
+  pub said-done : {n : ℕ} → t ≡ written.Done n → 1 ∷ n ∷ [] ≡ writtenNumbers x
+  said-done g = sym (rw (sym e ∙ g))
+
+  pub said-no-room : t ≡ written.NoRoom → 2 ∷ 0 ∷ [] ≡ writtenNumbers x
+  said-no-room g = sym (rw (sym e ∙ g))
+
+  pub said-no-string : t ≡ written.NoString → 0 ∷ 0 ∷ [] ≡ writtenNumbers x
+  said-no-string g = sym (rw (sym e ∙ g))
+
+pub ruleset said-comments = (said-unreadable, said-readable, said-bytes, said-no-bytes, said-done, said-no-room, said-no-string, needs)
 
 -- A test, and a place in a text, as numbers.
 pub bit-yes : {b : Bool} → b ≡ true → 1 ≡ bit b

@@ -1,7 +1,12 @@
 // C functions over the layers below the loader, for differential runs and for timing. Each writes its answer as numbers.
+mod comments;
 mod numbers;
 mod texts;
 
+pub use comments::clumarief_probe_comment;
+pub use comments::clumarief_probe_decode;
+pub use comments::clumarief_probe_decoded_length;
+pub use comments::clumarief_probe_residual;
 pub use numbers::clumarief_probe_leading;
 pub use numbers::clumarief_probe_number;
 pub use numbers::clumarief_probe_trailing;

@@ -1,5 +1,6 @@
 -- `cases::each_line` meets its contract, by the laws of Safe and an invariant that says: the rest decides as the whole does.
-use Rattle.cases.proofs.Safe.{taking, Taking}
+use Rattle.places.proofs.Taking.{Taking}
+use Rattle.cases.proofs.Safe.{taking}
 use Prim.Native.Nat.{_-_}
 use lib.ListN.{length}
 use Rattle.cases.proofs.each_line.Statement.{statement}

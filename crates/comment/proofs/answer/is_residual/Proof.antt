@@ -12,7 +12,7 @@ decoded-is-requires c κs = search ending
 
 returns : tie.Need-returns
 unfolding ascii
-returns c = c .decoded-is .ensures
+returns c = search ending
 
 pub is-residual-spec : {M : Type 1} → statement M
 is-residual-spec = tie.close (tie.spec slice-aggregate-decoded-is decoded-is-requires returns)

@@ -1,0 +1,2 @@
+-- What the program needs so that it stays within its slices and ends.
+mod Safe

@@ -1,0 +1,78 @@
+-- Document 01 "Text and lines": what a line is. Parts are places in the line; `by` is the place in it at which the text spoken of starts.
+use mathlib.Core.List.{List}
+use Prim.Native.Nat.{ℕ, _+_}
+use Rattle.ground.specs.Choice.{pick}
+use Rattle.places.specs.declared.find.Place.{Place}
+use Rattle.places.specs.declared.find.Place.the-variants.{At, Nowhere}
+use Rattle.places.specs.Places.{firstWhere, starts}
+use Rattle.text.specs.declared.trim.Span.{Span}
+use Rattle.text.specs.Trim.{trimBoth, startsWhite}
+use Rattle.line.specs.declared.arrow.Arrow.{Arrow}
+use Rattle.line.specs.declared.arrow.Arrow.the-variants.{Sides, NoArrow}
+use Rattle.line.specs.declared.field.Field as field
+use Rattle.line.specs.declared.field.Field.the-variants as fields
+use Rattle.line.specs.declared.method.MethodParts as method
+use Rattle.line.specs.declared.method.MethodParts.the-variants as methods
+use Rattle.line.specs.declared.line.Line.{Line}
+use Rattle.line.specs.declared.line.Line.the-variants.{Blank, Comment, Class, Field, Method, Refused}
+use Rattle.line.specs.Spans.{shift, isEmpty, partOf}
+use Rattle.line.specs.Arrows.{arrowOf, classOf}
+use Rattle.line.specs.Fields.{fieldOf}
+use Rattle.line.specs.Methods.{shiftMethod, methodOf}
+
+-- a place in what starts at the place `by`
+abbrev pub placeFrom : ℕ → Place → Place
+placeFrom by Nowhere = Nowhere
+placeFrom by (At i) = At (by + i)
+
+-- "The JSON starts at the first `{` of the trimmed line."
+abbrev pub commentAt : ℕ → List ℕ → Line
+commentAt by s = Comment (placeFrom by (firstWhere (starts 0x7B) s))
+
+-- a class line, else 3
+abbrev pub classBy : ℕ → Arrow → Line
+classBy by NoArrow = Refused 3
+classBy by (Sides display raw) = Class (shift by display) (shift by raw)
+
+abbrev pub classAt : ℕ → List ℕ → Line
+classAt by s = classBy by (classOf s)
+
+-- a method, else 6
+abbrev pub methodBy : ℕ → Span → method.MethodParts → Line
+methodBy by raw methods.NoMethod = Refused 6
+methodBy by raw (methods.Parts m) = Method (shiftMethod by m) raw
+
+abbrev pub methodAt : ℕ → Span → List ℕ → Line
+methodAt by raw left = methodBy by raw (methodOf left)
+
+-- a field, else 7
+abbrev pub fieldBy : ℕ → Span → field.Field → Line
+fieldBy by raw fields.NoField = Refused 7
+fieldBy by raw (fields.Parts declared name) = Field (shift by declared) (shift by name) raw
+
+abbrev pub fieldAt : ℕ → Span → List ℕ → Line
+fieldAt by raw left = fieldBy by raw (fieldOf left)
+
+-- "Left side with `(` is a method, else a field."
+abbrev pub bySide : ℕ → Span → List ℕ → Place → Line
+bySide by raw left Nowhere = fieldAt by raw left
+bySide by raw left (At i) = methodAt by raw left
+
+-- "Member: same split", else 5
+abbrev pub memberBy : ℕ → List ℕ → Arrow → Line
+memberBy by s NoArrow = Refused 5
+memberBy by s (Sides left raw) = bySide (by + left .start) (shift by raw) (partOf s left) (firstWhere (starts 0x28) (partOf s left))
+
+abbrev pub memberAt : ℕ → List ℕ → Line
+memberAt by s = memberBy by s (arrowOf s)
+
+-- "The trimmed line decides: empty is blank; first character `#` is a comment; otherwise a line whose first character is not white space is a
+-- class line, else a member line."
+abbrev pub lineIn : List ℕ → Span → Line
+lineIn s part =
+    pick (isEmpty part) Blank
+    (pick (starts 0x23 (partOf s part)) (commentAt (part .start) (partOf s part))
+    (pick (startsWhite s) (memberAt (part .start) (partOf s part)) (classAt (part .start) (partOf s part))))
+
+abbrev pub lineOf : List ℕ → Line
+lineOf s = lineIn s (trimBoth s)

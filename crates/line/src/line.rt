@@ -1,0 +1,128 @@
+// What a line is, with the places of its parts in it.
+use crate::arrow::Arrow;
+use crate::arrow::class_sides;
+use crate::arrow::split_arrow;
+use crate::field::Field;
+use crate::field::field_parts;
+use crate::method::Method;
+use crate::method::MethodParts;
+use crate::method::method_parts;
+use crate::method::shifted_method;
+use crate::spans::shifted;
+use places::Place;
+use places::first_byte;
+use text::Span;
+use text::starts_white;
+use text::trim_both;
+ghost use mathlib.Core.Path.{_≡_};
+ghost use Prim.Native.Nat.{_+_, _≤_};
+ghost use lib.ListN.{length};
+ghost use Rattle.line.specs.Spans.{largest};
+ghost use Rattle.line.specs.Kinds.{lineOf, commentAt, classAt, memberAt, methodAt, fieldAt};
+
+pub enum Line {
+    Blank,
+    // The place of its `{`.
+    Comment(Place),
+    Class {
+        display: Span,
+        raw: Span,
+    },
+    Field {
+        declared: Span,
+        name: Span,
+        raw: Span,
+    },
+    Method {
+        method: Method,
+        raw: Span,
+    },
+    // The number of the refusal.
+    Refused(u32),
+}
+
+fn comment_line(s: &[u8], by: usize) -> Line
+    requires { ⌜ by + length (now s) ≤ largest ⌝ }
+    ensures { λ r. ⌜ r ≡ commentAt by (now (s .entry)) ⌝ }
+{
+    let Place::At(brace) = first_byte(s, b'{') else {
+        return Line::Comment(Place::Nowhere);
+    };
+    Line::Comment(Place::At(by + brace))
+}
+
+fn class_line(s: &[u8], by: usize) -> Line
+    requires { ⌜ by + length (now s) ≤ largest ⌝ }
+    ensures { λ r. ⌜ r ≡ classAt by (now (s .entry)) ⌝ }
+{
+    let Arrow::Sides { left, right } = class_sides(s) else {
+        return Line::Refused(3);
+    };
+    Line::Class {
+        display: shifted(by, left),
+        raw: shifted(by, right),
+    }
+}
+
+fn method_line(left: &[u8], by: usize, raw: Span) -> Line
+    requires { ⌜ by + length (now left) ≤ largest ⌝ }
+    ensures { λ r. ⌜ r ≡ methodAt by raw (now (left .entry)) ⌝ }
+{
+    let MethodParts::Parts(method) = method_parts(left) else {
+        return Line::Refused(6);
+    };
+    Line::Method {
+        method: shifted_method(by, method),
+        raw,
+    }
+}
+
+fn field_line(left: &[u8], by: usize, raw: Span) -> Line
+    requires { ⌜ by + length (now left) ≤ largest ⌝ }
+    ensures { λ r. ⌜ r ≡ fieldAt by raw (now (left .entry)) ⌝ }
+{
+    let Field::Parts { declared, name } = field_parts(left) else {
+        return Line::Refused(7);
+    };
+    Line::Field {
+        declared: shifted(by, declared),
+        name: shifted(by, name),
+        raw,
+    }
+}
+
+fn member_line(s: &[u8], by: usize) -> Line
+    requires { ⌜ by + length (now s) ≤ largest ⌝ }
+    ensures { λ r. ⌜ r ≡ memberAt by (now (s .entry)) ⌝ }
+{
+    let Arrow::Sides { left, right } = split_arrow(s) else {
+        return Line::Refused(5);
+    };
+    let start = left.start;
+    let end = left.end;
+    let side = &s[start..end];
+    let raw = shifted(by, right);
+    let Place::At(_) = first_byte(side, b'(') else {
+        return field_line(side, by + start, raw);
+    };
+    method_line(side, by + start, raw)
+}
+
+pub fn read_line(s: &[u8]) -> Line
+    ensures { λ r. ⌜ r ≡ lineOf (now (s .entry)) ⌝ }
+{
+    let part = trim_both(s);
+    let start = part.start;
+    let end = part.end;
+    if start == end {
+        return Line::Blank;
+    }
+    let trimmed = &s[start..end];
+    if s[start] == b'#' {
+        return comment_line(trimmed, start);
+    }
+    if starts_white(s) {
+        return member_line(trimmed, start);
+    }
+    class_line(trimmed, start)
+}
