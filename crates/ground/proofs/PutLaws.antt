@@ -1,12 +1,12 @@
 -- Laws of `put`. Assumes nothing.
-use mathlib.Core.Path.{_≡_, sym}
+use mathlib.Core.Path.{_≡_, sym, _∙_}
 use mathlib.Core.List.{List, [], _∷_, _++_, append-assoc}
-use Prim.Native.Nat.{ℕ, _+_, _≤_, _<_}
+use Prim.Native.Nat.{ℕ, suc, _+_, _≤_, _<_}
 use native.Mathlib.Nat.{add-assoc, add-zero}
 use native.Mathlib.Numerals.{add-one}
 use native.Mathlib.Omega.{arith}
-use lib.ListN.{length, take, drop, set, length-append, length-drop, take-append-drop}
-use lib.Seq.{paste, set-split, take-length, take-at, drop-append-add, drop-drop, length-take-le}
+use lib.ListN.{length, getD, take, drop, set, length-append, length-drop, take-append-drop, List·getD-append}
+use lib.Seq.{paste, set-split, set-at, take-suc, append-snoc, getD-take, take-length, take-at, drop-append-add, drop-drop, length-take-le}
 use Rattle.ground.specs.Put.{put}
 
 module _ {A : Type 0} where
@@ -37,3 +37,24 @@ module _ {A : Type 0} where
       rw (← front, drop-append-add, drop-drop, front) in
       rw (whole, take-at (take at d ++ a) (drop (at + length a) d) (at + length a) front, back, length-append, ← add-assoc)
       (simp append-assoc)
+
+  -- what stands there already
+  pub put-same : (d : List A) (at n : ℕ) → at + n ≤ length d → put d at (take n (drop at d)) ≡ d
+  unfolding put
+  put-same d at n h =
+      let size : length (take n (drop at d)) ≡ n = length-take-le n (drop at d) (omega (arith, length-drop at d)) in
+      rw (size, ← drop-drop n at d, take-append-drop n (drop at d)) (take-append-drop at d)
+
+  -- one more in front
+  pub put-before : (d : List A) (at : ℕ) (v : List A) (x z : A) → at < length d → set (put d (at + 1) v) at x ≡ put d at (x ∷ v)
+  unfolding put
+  put-before d at v x z h =
+      let front : take (at + 1) d ≡ take at d ++ (getD d at z ∷ []) = rw (add-one at) (take-suc d at z h) in
+      let back : at + 1 + length v ≡ at + suc (length v) = omega arith in
+      rw (front, append-snoc (take at d) (getD d at z) (v ++ drop (at + 1 + length v) d), back)
+      (set-at (take at d) (getD d at z) (v ++ drop (at + suc (length v)) d) x at (length-take-le at d (omega arith)))
+
+  -- what stands before is not touched
+  pub getD-put : (d : List A) (at : ℕ) (v : List A) (i : ℕ) (z : A) → i < at → at ≤ length d → getD (put d at v) i z ≡ getD d i z
+  unfolding put
+  getD-put d at v i z h k = List·getD-append (take at d) (v ++ drop (at + length v) d) z i (rw (length-take-le at d k) h) ∙ getD-take at d i z h

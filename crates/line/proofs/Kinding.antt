@@ -31,7 +31,7 @@ use Rattle.line.specs.Arrows.{arrowOf, classOf}
 use Rattle.line.specs.Fields.{fieldOf}
 use Rattle.line.specs.Methods.{shiftMethod, MethodIn, methodOf}
 use Rattle.line.specs.Kinds.{placeFrom, commentAt, classBy, classAt, methodBy, methodAt, fieldBy, fieldAt, bySide, memberBy, memberAt, lineIn, lineOf}
-use Rattle.line.proofs.Splits.{trim-inside, trim-order}
+use Rattle.text.proofs.TrimLaws.{trim-inside, trim-order}
 use Rattle.line.proofs.Lying.{arrow-lies, class-lies, field-lies, shift-lies, part-length}
 use Rattle.line.proofs.Methods.{method-lies, shift-method-lies}
 

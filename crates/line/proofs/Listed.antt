@@ -23,7 +23,7 @@ use Rattle.text.specs.Trim.{trimBoth}
 use Rattle.line.specs.declared.arguments.NextArgument.the-variants.{Argument, NoArgument}
 use Rattle.line.specs.Spans.{isEmpty}
 use Rattle.line.specs.Arguments.{commaParts, gap, firstFilled, nextArgument}
-use Rattle.line.proofs.Splits.{trim-inside, trim-order}
+use Rattle.text.proofs.TrimLaws.{trim-inside, trim-order}
 
 -- The first comma splits.
 record Split (at : ℕ) (l : List ℕ) (i : ℕ) : Type 0 where

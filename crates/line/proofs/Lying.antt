@@ -26,7 +26,7 @@ use Rattle.line.specs.Arrows.{sidesOf, splitAt, arrowOf, classOf}
 use Rattle.line.specs.Fields.{fieldAt, fieldOf}
 use Rattle.line.specs.Signatures.{nameAt, nameOf, linesAfter, signatureAt, signatureOf}
 use Rattle.line.specs.Methods.{shiftName}
-use Rattle.line.proofs.Splits.{trim-inside, trim-order}
+use Rattle.text.proofs.TrimLaws.{trim-inside, trim-order}
 
 pub trim-lies : (s : List ℕ) → Lies (trimBoth s) (length s)
 trim-lies s = record { order = trim-order s; within = trim-inside s }

@@ -24,7 +24,7 @@ use Rattle.line.specs.declared.signature.Signature.the-variants.{Parts, 
 use Rattle.line.specs.Spans.{span, shift, partOf, Lies, largest}
 use Rattle.line.specs.Fields.{fieldAt, fieldOf}
 use Rattle.line.specs.Signatures.{nameAt, nameOf, linesAfter, signatureAt, signatureOf}
-use Rattle.line.proofs.Splits.{trim-inside, trim-order}
+use Rattle.text.proofs.TrimLaws.{trim-inside, trim-order}
 
 -- Fields.
 module _ (s : List ℕ) {p : Place} (e : p ≡ lastWhite s) where

@@ -33,7 +33,7 @@ use Rattle.line.specs.declared.method.MethodParts.the-variants.{Parts, N
 use Rattle.line.specs.Spans.{span, shift, partOf, Lies, NameIn, largest}
 use Rattle.line.specs.Signatures.{signatureOf}
 use Rattle.line.specs.Methods.{shiftName, shiftMethod, MethodIn, settledOf, withSignature, typeAt, methodFrom, methodAfter, methodOf}
-use Rattle.line.proofs.Splits.{trim-inside, trim-order}
+use Rattle.text.proofs.TrimLaws.{trim-inside, trim-order}
 use Rattle.line.proofs.Lying.{part-length, trim-lies, signature-lies, shift-lies, shift-name-lies}
 
 -- Names.

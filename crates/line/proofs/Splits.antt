@@ -15,22 +15,11 @@ use Rattle.places.specs.Places.{firstWhere, startsPair}
 use Rattle.places.proofs.Holds.{pair-inside}
 use Rattle.text.specs.declared.trim.Span.{Span}
 use Rattle.text.specs.Trim.{trimStart, trimBoth}
-use Rattle.text.proofs.TrimLaws.{trim-start-inside, trim-end-inside}
+use Rattle.text.proofs.TrimLaws.{trim-inside, trim-order}
 use Rattle.line.specs.declared.arrow.Arrow.{Arrow}
 use Rattle.line.specs.declared.arrow.Arrow.the-variants.{Sides, NoArrow}
 use Rattle.line.specs.Spans.{shift, Lies, largest}
 use Rattle.line.specs.Arrows.{sidesOf, splitAt, arrowOf, classOf}
-
--- A trimmed part lies in its text.
-pub trim-inside : (s : List ℕ) → trimBoth s .«end» ≤ length s
-trim-inside s =
-    let a = trim-start-inside s in
-    let b = trim-end-inside (drop (trimStart s) s) in
-    let c = length-drop (trimStart s) s in
-    omega arith
-
-pub trim-order : (s : List ℕ) → trimBoth s .start ≤ trimBoth s .«end»
-trim-order s = omega arith
 
 -- Both sides.
 module _ (l : Span) (n : ℕ) (r : Span) where

@@ -158,3 +158,13 @@ module _ (s : List ℕ) {a : ℕ} (e : a ≡ trimStart s) where
     both-trimmed = rw (ends, e)
 
 pub ruleset both-trims = (both-part, both-fits, both-trimmed, needs)
+
+pub trim-inside : (s : List ℕ) → trimBoth s .«end» ≤ length s
+trim-inside s =
+    let a = trim-start-inside s in
+    let b = trim-end-inside (drop (trimStart s) s) in
+    let c = length-drop (trimStart s) s in
+    omega arith
+
+pub trim-order : (s : List ℕ) → trimBoth s .start ≤ trimBoth s .«end»
+trim-order s = omega arith

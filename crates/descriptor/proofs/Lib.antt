@@ -1,0 +1,4 @@
+-- Laws of descriptors, one file a subject.
+pub mod Writes
+pub mod Typing
+pub mod Settling

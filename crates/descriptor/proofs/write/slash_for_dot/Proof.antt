@@ -1,0 +1,15 @@
+-- `descriptor::write::slash_for_dot` meets its contract, by the laws of Writes.
+use Rattle.descriptor.proofs.Writes.{slashing}
+use Rattle.descriptor.proofs.write.slash_for_dot.Statement.{statement}
+use Rattle.descriptor.proofs.write.slash_for_dot.Tie as tie
+use Rattle.descriptor.proofs.write.slash_for_dot.Reads as reads
+use Rattle.descriptor.proofs.write.slash_for_dot.Lts as lts
+
+returns : tie.Need-returns
+returns c = search slashing
+
+returns-2 : tie.Need-returns-2
+returns-2 c = search slashing
+
+pub slash-for-dot-spec : {M : Type 1} → statement M
+slash-for-dot-spec = tie.close (tie.spec returns returns-2)

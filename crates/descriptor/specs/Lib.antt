@@ -1,0 +1,5 @@
+-- Descriptors: the written rules, from document 01 "Descriptors".
+pub mod Names
+pub mod Types
+pub mod Signatures
+pub mod Wrote
