@@ -2,3 +2,5 @@
 pub mod Writes
 pub mod Typing
 pub mod Settling
+pub mod Parted
+pub mod Turning

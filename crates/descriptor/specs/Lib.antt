@@ -2,4 +2,5 @@
 pub mod Names
 pub mod Types
 pub mod Signatures
+pub mod Pieces
 pub mod Wrote

@@ -10,16 +10,28 @@ use Rattle.number.specs.declared.range.TrailingRange.{TrailingRange}
 use Rattle.number.specs.declared.range.TrailingRange.the-variants.{Taken}
 use Rattle.number.specs.Numbers.{numberOf}
 use Rattle.number.specs.Ranges.{trailingRange}
+use Rattle.descriptor.specs.Types.{typeDescriptor}
+use Rattle.descriptor.specs.Pieces.{Pair, shown, turn}
+
+-- "a.Main -> x:", the class of document 01's example
+abbrev pub main : List Pair
+main = record { raw = ascii "Lx;"; display = ascii "La/Main;" } ∷ []
 
 -- a rule that is asked, on what, and its answer
 pub data Row : Type 0 where
   number : List ℕ → Number → Row
   rangeAfter : List ℕ → TrailingRange → Row
+  -- a raw descriptor as it is shown
+  shows : List ℕ → List ℕ → Row
+  -- a type's descriptor
+  typed : List ℕ → List ℕ → Row
 
 -- the rule gives that answer
 abbrev pub Holds : Row → Type 0
 Holds (number s answer) = numberOf s ≡ answer
 Holds (rangeAfter s answer) = trailingRange s ≡ answer
+Holds (shows d answer) = turn (shown main) d ≡ answer
+Holds (typed s answer) = typeDescriptor s ≡ answer
 
 abbrev pub AllHold : List Row → Type 0
 AllHold [] = Unit {0}
@@ -32,4 +44,8 @@ marked =
     rangeAfter (ascii ":10:x") (Taken 10 10 true) ∷
     -- "P `+7` is 7; P 4294967296 does not read"
     number (ascii "+7") (Value 7) ∷
-    number (ascii "4294967296") Unread ∷ []
+    number (ascii "4294967296") Unread ∷
+    -- "P `[Lx;` shows `[La/Main;`; P `Lx` stays; P `int []` is `[Lint ;`"
+    shows (ascii "[Lx;") (ascii "[La/Main;") ∷
+    shows (ascii "Lx") (ascii "Lx") ∷
+    typed (ascii "int []") (ascii "[Lint ;") ∷ []
