@@ -7,7 +7,7 @@ use native.Mathlib.Numerals.{add-one}
 use native.Mathlib.Omega.{arith}
 use lib.Dec.{eqb}
 use lib.ListN.{length, getD, take, drop, set, length-set, length-take, length-drop, length-append}
-use lib.Seq.{drop-cons, drop-drop, take-take, take-nil, length-take-le}
+use lib.Seq.{drop-cons, drop-drop, take-take, length-take-le}
 use mir.Val.{Fits}
 use mir.Syntax.{w64}
 use borrow.Author.Tests.{eq-eqb, ne-eqb, eqb-true}
@@ -15,6 +15,7 @@ use borrow.Author.Needs.{needs}
 use Rattle.ground.specs.Choice.{pick, both, either}
 use Rattle.ground.specs.Put.{put}
 use Rattle.ground.proofs.Cases.{cases}
+use Rattle.ground.proofs.Parts.{drop-take}
 use Rattle.ground.proofs.PutLaws.{put-nothing, put-one, put-put, put-same, put-before, getD-put, length-put}
 use Rattle.places.specs.declared.find.Place.{Place}
 use Rattle.places.specs.declared.find.Place.the-variants.{At, Nowhere}
@@ -164,13 +165,6 @@ module _ (d : List ℕ) (at «end» : ℕ) (i : at ≤ «end») (h : «end» ≤
           }
 
 pub ruleset moving = (name-no-room, moving-starts, name-fits, name-fits-one, moving-write, moving-read, moving-more, name-at, name-end, name-done, needs)
-
--- what is left of a part
-drop-take : (k n : ℕ) (l : List ℕ) → drop k (take n l) ≡ take (n - k) (drop k l)
-drop-take zero n l = let z : n - 0 ≡ n = omega arith in rw z
-drop-take (suc k) zero l = let z : 0 - suc k ≡ 0 = omega arith in rw z
-drop-take (suc k) (suc n) [] = sym (take-nil (suc n - suc k))
-drop-take (suc k) (suc n) (x ∷ l) = let z : suc n - suc k ≡ n - k = omega arith in rw z (drop-take k n l)
 
 -- Types and signatures.
 module _ (d : List ℕ) (at «end» : ℕ) (i : at ≤ «end») (h : «end» ≤ length d) where

@@ -4,3 +4,4 @@ pub mod Types
 pub mod Signatures
 pub mod Pieces
 pub mod Wrote
+pub mod Examples

@@ -1,10 +1,10 @@
 -- Parts of a list, as the code lends them. Assumes nothing.
-use mathlib.Core.Path.{_≡_}
-use mathlib.Core.List.{List}
-use Prim.Native.Nat.{ℕ, _-_, _≤_, _<_}
+use mathlib.Core.Path.{_≡_, sym}
+use mathlib.Core.List.{List, [], _∷_}
+use Prim.Native.Nat.{ℕ, zero, suc, _-_, _≤_, _<_}
 use native.Mathlib.Omega.{arith}
 use lib.ListN.{length, take, drop, length-take, length-drop}
-use lib.Seq.{take-all}
+use lib.Seq.{take-all, take-nil}
 
 module _ {A : Type 0} where
   -- `&s[a..]` is what is left of `s`
@@ -17,3 +17,10 @@ module _ {A : Type 0} where
 
   pub prefix-size : (s : List A) (i : ℕ) → i < length s → i ≡ length (take i s)
   prefix-size s i h = prefix-whole s i (omega arith)
+
+  -- what is left of a part
+  pub drop-take : (k n : ℕ) (l : List A) → drop k (take n l) ≡ take (n - k) (drop k l)
+  drop-take zero n l = let z : n - 0 ≡ n = omega arith in rw z
+  drop-take (suc k) zero l = let z : 0 - suc k ≡ 0 = omega arith in rw z
+  drop-take (suc k) (suc n) [] = sym (take-nil (suc n - suc k))
+  drop-take (suc k) (suc n) (x ∷ l) = let z : suc n - suc k ≡ n - k = omega arith in rw z (drop-take k n l)

@@ -2,17 +2,17 @@
 use mathlib.Core.Path.{_≡_, refl, sym, _∙_, ap}
 use mathlib.Core.Bool.{Bool, true, false}
 use mathlib.Core.List.{List, [], _∷_}
-use Prim.Native.Nat.{ℕ, suc, _+_, _-_, _^_, _≤_, _<_}
+use Prim.Native.Nat.{ℕ, zero, suc, _+_, _-_, _^_, _≤_, _<_}
 use native.Mathlib.Omega.{arith}
-use lib.Dec.{eqb}
+use lib.Dec.{eqb, ltb}
 use lib.ListN.{length, take, drop, length-take, length-drop, drop-of-length-le}
-use lib.Seq.{drop-drop}
+use lib.Seq.{drop-drop, take-take}
 use mir.Val.{Fits}
 use mir.Syntax.{w64}
-use borrow.Author.Tests.{eq-eqb, ne-eqb}
+use borrow.Author.Tests.{eq-eqb, ne-eqb, ltb-true, ltb-false}
 use borrow.Author.Needs.{needs}
 use Rattle.ground.specs.Choice.{pick}
-use Rattle.ground.proofs.Parts.{take-rest}
+use Rattle.ground.proofs.Parts.{take-rest, drop-take}
 use Rattle.places.specs.declared.find.Place.{Place}
 use Rattle.places.specs.declared.find.Place.the-variants.{At, Nowhere}
 use Rattle.places.specs.Places.{firstFrom, firstWhere, starts}
@@ -21,8 +21,8 @@ use Rattle.places.proofs.PlaceLaws.{first-inside}
 use Rattle.text.specs.declared.trim.Span.{Span}
 use Rattle.text.specs.Trim.{trimBoth}
 use Rattle.line.specs.declared.arguments.NextArgument.the-variants.{Argument, NoArgument}
-use Rattle.line.specs.Spans.{isEmpty}
-use Rattle.line.specs.Arguments.{commaParts, gap, firstFilled, nextArgument}
+use Rattle.line.specs.Spans.{isEmpty, partOf}
+use Rattle.line.specs.Arguments.{commaParts, filled, argumentsOf, gap, firstFilled, nextArgument}
 use Rattle.text.proofs.TrimLaws.{trim-inside, trim-order}
 
 -- The first comma splits.
@@ -175,3 +175,114 @@ module _ {s : List ℕ} {start at : ℕ} (k : Passing s start at) where
 
 pub ruleset listing =
     (passing-starts, passing-ends, last-blank, last-start-fits, last-end-fits, last-argument, comma-fits, comma-inside, comma-past, part-blank, part-start-fits, part-end-fits, part-argument, part-falls, needs)
+
+-- The arguments of a text are found one after the other.
+pub record Splits (s : List ℕ) (at a e n : ℕ) : Type 0 where
+  pub order : a ≤ e
+  pub ends : e ≤ n
+  pub past : at < n
+  pub within : n ≤ length s
+  pub split : argumentsOf (drop at s) ≡ take (e - a) (drop a s) ∷ argumentsOf (drop n s)
+
+splits-none : (at : ℕ) (ps : List (List ℕ)) → firstFilled at ps ≡ NoArgument → filled ps ≡ []
+unfolding firstFilled filled
+splits-none at [] e = refl
+splits-none at (p ∷ ps) e = go (isEmpty (trimBoth p)) refl (λ f. splits-none (at + length p + gap ps) ps f) e
+  where
+    go : (b : Bool) → isEmpty (trimBoth p) ≡ b → (firstFilled (at + length p + gap ps) ps ≡ NoArgument → filled ps ≡ []) →
+        pick b (firstFilled (at + length p + gap ps) ps) (Argument (at + trimBoth p .start) (at + trimBoth p .«end») (at + length p + gap ps)) ≡ NoArgument →
+        pick (isEmpty (trimBoth p)) (filled ps) (partOf p (trimBoth p) ∷ filled ps) ≡ []
+    go true q again f = rw q (again f)
+    go false q again f = absurd (let z : _≡_ {A = ℕ} 0 1 = cc in omega arith)
+
+pub arguments-end : (s : List ℕ) (at : ℕ) → nextArgument s at ≡ NoArgument → argumentsOf (drop at s) ≡ []
+arguments-end s at e = splits-none at (commaParts (drop at s)) e
+
+-- nothing but blanks is left at the end of a text
+nothing-filled : argumentsOf [] ≡ []
+unfolding commaParts filled
+nothing-filled = rw blank-nothing
+
+-- a part of a text is a part of what starts at its place
+part-part : (s : List ℕ) (at i a e : ℕ) → e ≤ i → take (e - a) (drop a (take i (drop at s))) ≡ take (at + e - (at + a)) (drop (at + a) s)
+part-part s at i a e h =
+    let z : at + e - (at + a) ≡ e - a = omega arith in
+    ap (take (e - a)) (drop-take a i (drop at s)) ∙ take-take (e - a) (i - a) (drop a (drop at s)) (omega arith) ∙ rw (drop-drop a at s, z)
+
+module _ (s : List ℕ) where
+  -- by the number of bytes that may be left
+  arguments-from : (fuel at : ℕ) → length s - at < fuel → at < length s → {a e n : ℕ} → nextArgument s at ≡ Argument a e n → Splits s at a e n
+  unfolding firstFilled filled
+  arguments-from zero at h l e = absurd (omega arith)
+  arguments-from (suc fuel) at h l {a} {e} {n} f = by-comma (λ m i j g. arguments-from fuel m i j g) (firstWhere (starts 0x2C) (drop at s)) refl
+    where
+      last : commaParts (drop at s) ≡ drop at s ∷ [] → (b : Bool) → isEmpty (trimBoth (drop at s)) ≡ b → Splits s at a e n
+      last c true q = absurd (let g : NoArgument ≡ Argument a e n = sym (ap (firstFilled at) c ∙ rw q) ∙ f in let z : _≡_ {A = ℕ} 0 1 = cc in omega arith)
+      last c false q =
+          let g : Argument (at + trimBoth (drop at s) .start) (at + trimBoth (drop at s) .«end») (at + length (drop at s) + 0) ≡ Argument a e n = sym (ap (firstFilled at) c ∙ rw q) ∙ f in
+          let starts-at : at + trimBoth (drop at s) .start ≡ a = cc in
+          let ends-at : at + trimBoth (drop at s) .«end» ≡ e = cc in
+          let goes-on : at + length (drop at s) + 0 ≡ n = cc in
+          let o = trim-order (drop at s) in
+          let w = trim-inside (drop at s) in
+          let d = length-drop at s in
+          let whole : partOf (drop at s) (trimBoth (drop at s)) ≡ take (e - a) (drop a s) =
+          (let z : e - a ≡ trimBoth (drop at s) .«end» - trimBoth (drop at s) .start = omega arith in rw (z, ← starts-at, drop-drop (trimBoth (drop at s) .start) at s)) in
+          let past-all : length s ≤ n = omega arith in
+          let rest : argumentsOf (drop n s) ≡ [] = ap argumentsOf (drop-of-length-le s past-all) ∙ nothing-filled in
+          record {
+            order = omega arith;
+            ends = omega arith;
+            past = omega arith;
+            within = omega arith;
+            split = ap filled c ∙ rw (q, whole, rest);
+          }
+
+      comma : ((m : ℕ) → length s - m < fuel → m < length s → nextArgument s m ≡ Argument a e n → Splits s m a e n) → (i : ℕ) → at + i < length s → commaParts (drop at s) ≡ take i (drop at s) ∷ commaParts (drop (at + i + 1) s) → (b : Bool) → isEmpty (trimBoth (take i (drop at s))) ≡ b → Splits s at a e n
+      comma again i k c b q = go b q
+        where
+          size : length (take i (drop at s)) ≡ i
+          size = omega (arith, length-take i (drop at s), length-drop at s)
+
+          go : (x : Bool) → isEmpty (trimBoth (take i (drop at s))) ≡ x → Splits s at a e n
+          go true y =
+              let g : nextArgument s (at + i + 1) ≡ Argument a e n = sym (ap (firstFilled at) c ∙ rw (y, parts-some (drop (at + i + 1) s), size)) ∙ f in
+              by-rest g (ltb (at + i + 1) (length s)) refl
+            where
+              by-rest : nextArgument s (at + i + 1) ≡ Argument a e n → (t : Bool) → ltb (at + i + 1) (length s) ≡ t → Splits s at a e n
+              by-rest g true u =
+                  let before = ltb-true (at + i + 1) (length s) u in
+                  let x = again (at + i + 1) (omega arith) before g in
+                  record { order = x .order; ends = x .ends; past = omega (arith, x .past); within = x .within; split = ap filled c ∙ rw y (x .split) }
+              by-rest g false u =
+                  let over = ltb-false (at + i + 1) (length s) u in
+                  absurd (let v : NoArgument ≡ Argument a e n = sym (ap (λ k. firstFilled (at + i + 1) (commaParts k)) (drop-of-length-le s over) ∙ none-left (at + i + 1)) ∙ g in
+                  let z : _≡_ {A = ℕ} 0 1 = cc in omega arith)
+          go false y =
+              let p : Span = trimBoth (take i (drop at s)) in
+              let g : Argument (at + p .start) (at + p .«end») (at + i + 1) ≡ Argument a e n = sym (ap (firstFilled at) c ∙ rw (y, parts-some (drop (at + i + 1) s), size)) ∙ f in
+              let starts-at : at + p .start ≡ a = cc in
+              let ends-at : at + p .«end» ≡ e = cc in
+              let goes-on : at + i + 1 ≡ n = cc in
+              let o = trim-order (take i (drop at s)) in
+              let w = trim-inside (take i (drop at s)) in
+              let z = size in
+              let text : partOf (take i (drop at s)) p ≡ take (e - a) (drop a s) = part-part s at i (p .start) (p .«end») (omega arith) ∙ rw (starts-at, ends-at) in
+              record {
+                order = omega arith;
+                ends = omega arith;
+                past = omega arith;
+                within = omega arith;
+                split = ap filled c ∙ rw (y, text, goes-on);
+              }
+
+      by-comma : ((m : ℕ) → length s - m < fuel → m < length s → nextArgument s m ≡ Argument a e n → Splits s m a e n) → (p : Place) → firstWhere (starts 0x2C) (drop at s) ≡ p → Splits s at a e n
+      by-comma again Nowhere q = last (none-from 0 (drop at s) q) (isEmpty (trimBoth (drop at s))) refl
+      by-comma again (At i) q =
+          let j = first-inside (starts 0x2C) (drop at s) q in
+          let z : at + (i + 1) ≡ at + i + 1 = omega arith in
+          comma again i (omega (arith, length-drop at s)) (parts-comma (drop at s) q ∙ ap (λ k. take i (drop at s) ∷ commaParts k) (drop-drop (i + 1) at s ∙ ap (λ k. drop k s) z))
+          (isEmpty (trimBoth (take i (drop at s)))) refl
+
+  pub arguments-split : (at : ℕ) {a e n : ℕ} → at < length s → nextArgument s at ≡ Argument a e n → Splits s at a e n
+  arguments-split at h f = arguments-from (suc (length s - at)) at (omega arith) h f

@@ -6,3 +6,4 @@ pub mod Signatures
 pub mod Methods
 pub mod Kinds
 pub mod Arguments
+pub mod Examples
