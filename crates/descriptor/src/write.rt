@@ -58,19 +58,19 @@ pub fn slash_for_dot(b: u8) -> u8
     b
 }
 
-// A text with dots as slashes.
-fn put_slashed(pool: &mut [u8], at: usize, text: &[u8]) -> Wrote
-    ensures { λ r. ⌜ WroteBy r (now (pool .entry)) at (slashed (now (text .entry))) (now (pool .exit)) ⌝ }
+// A name with dots as slashes.
+fn put_slashed(pool: &mut [u8], at: usize, name: &[u8]) -> Wrote
+    ensures { λ r. ⌜ WroteBy r (now (pool .entry)) at (slashed (now (name .entry))) (now (pool .exit)) ⌝ }
 {
     if pool.len() < at {
         return Wrote::NoRoom;
     }
-    if pool.len() - at < text.len() {
+    if pool.len() - at < name.len() {
         return Wrote::NoRoom;
     }
     let mut k = 0;
-    while k < text.len() {
-        pool[at + k] = slash_for_dot(text[k]);
+    while k < name.len() {
+        pool[at + k] = slash_for_dot(name[k]);
         k += 1;
     }
     Wrote::Done(at + k)

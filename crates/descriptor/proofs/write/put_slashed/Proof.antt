@@ -13,10 +13,10 @@ use Rattle.descriptor.proofs.write.put_slashed.Lts as lts
 use Rattle.descriptor.proofs.write.slash_for_dot.Reads as slash-for-dot-reads
 
 abbrev Inv-loop : tie.InvT-loop
-Inv-loop pool₀ at text k₀ pool k = Pasting pool₀ at (slashed text) pool k
+Inv-loop pool₀ at name k₀ pool k = Pasting pool₀ at (slashed name) pool k
 
 abbrev μ-loop : tie.MeasureT-loop
-μ-loop pool₀ at text k₀ pool k = length text - k
+μ-loop pool₀ at name k₀ pool k = length name - k
 
 returns : tie.Need-returns Inv-loop μ-loop
 returns c = search slashes
@@ -52,7 +52,7 @@ loop-again : tie.Need-loop-again Inv-loop μ-loop
 loop-again c = search slashes
 
 add-t5 : tie.Need-add-t5 Inv-loop μ-loop
-add-t5 c = slashed-fits (now (c .before .before .before .before .before .before .args .pool)) (c .before .before .before .before .before .before .args .at) (now (c .before .before .before .before .before .before .args .text)) (c .before .before .before .if1 .left) (c .before .before .if2 .left) (c .before .loop .inv) (search needs)
+add-t5 c = slashed-fits (now (c .before .before .before .before .before .before .args .pool)) (c .before .before .before .before .before .before .args .at) (now (c .before .before .before .before .before .before .args .name)) (c .before .before .before .if1 .left) (c .before .before .if2 .left) (c .before .loop .inv) (search needs)
 
 same-length : tie.Need-same-length Inv-loop μ-loop
 same-length c = search slashes
