@@ -1,0 +1,58 @@
+-- Answers as numbers. Assumes nothing.
+use mathlib.Core.Path.{_≡_, refl, sym, _∙_, ap}
+use mathlib.Core.Bool.{Bool, true, false, not}
+use mathlib.Core.List.{List, [], _∷_}
+use Prim.Native.Nat.{ℕ, _≤_, _<_}
+use lib.Dec.{eqb, ltb}
+use lib.ListN.{length}
+use borrow.Author.Tests.{lt-ltb, le-ltb}
+use borrow.Author.Needs.{needs}
+use Rattle.ground.specs.Choice.{either}
+use Rattle.descriptor.specs.declared.write.Wrote.{Wrote}
+use Rattle.descriptor.specs.declared.write.Wrote.the-variants.{Done, NoRoom}
+use Rattle.descriptor.specs.declared.pieces.Part as parts
+use Rattle.descriptor.specs.declared.pieces.Part.the-variants.{Piece, Plain, End}
+use Rattle.descriptor.specs.Types.{partOf}
+use Rattle.descriptor.specs.Signatures.{rawSignature}
+use Rattle.descriptor.specs.Wrote.{WroteBy}
+use Rattle.descriptor_probes.specs.Answers.{wroteNumbers, partNumbers, Said, SaidIf, SaidWithin}
+
+pub done-numbers : (w : Wrote) {q : ℕ} → w ≡ Done q → 1 ∷ q ∷ [] ≡ wroteNumbers w
+done-numbers w e = sym (ap wroteNumbers e)
+
+pub none-numbers : (w : Wrote) → w ≡ NoRoom → 0 ∷ 0 ∷ [] ≡ wroteNumbers w
+none-numbers w e = sym (ap wroteNumbers e)
+
+pub ruleset wrote-saying = (done-numbers, none-numbers, needs)
+
+module _ (p : parts.Part) {t : parts.Part} (e : t ≡ p) where
+  pub piece-numbers : {q : ℕ} → t ≡ Piece q → 1 ∷ q ∷ [] ≡ partNumbers p
+  piece-numbers f = sym (ap partNumbers (sym e ∙ f))
+
+  pub plain-numbers : {q : ℕ} → t ≡ Plain q → 2 ∷ q ∷ [] ≡ partNumbers p
+  plain-numbers f = sym (ap partNumbers (sym e ∙ f))
+
+  pub end-numbers : t ≡ End → 0 ∷ 0 ∷ [] ≡ partNumbers p
+  end-numbers f = sym (ap partNumbers (sym e ∙ f))
+
+pub ruleset part-saying = (piece-numbers, plain-numbers, end-numbers, needs)
+
+pub said : (d : List ℕ) (at : ℕ) (b d₁ : List ℕ) (w : Wrote) → WroteBy w d at b d₁ → {numbers : List ℕ} → numbers ≡ wroteNumbers w → Said numbers d at b d₁
+said d at b d₁ w k e = record { answer = w; are = e; wrote = k }
+
+pub ruleset saying = (said, needs)
+
+-- A signature in the room.
+module _ (d : List ℕ) (at e method : ℕ) where
+  pub said-crossed : e < at → SaidWithin (2 ∷ 0 ∷ []) d at e method d
+  said-crossed h = rw (lt-ltb e at h) (refl, refl)
+
+  module _ (i : at ≤ e) where
+    pub said-past : length d < e → SaidWithin (2 ∷ 0 ∷ []) d at e method d
+    said-past h = rw (le-ltb e at i, lt-ltb (length d) e h) (refl, refl)
+
+    pub said-signature : e ≤ length d → (d₁ : List ℕ) (w : Wrote) → WroteBy w d at (rawSignature (not (eqb method 0)) (partOf d at e)) d₁ →
+        {numbers : List ℕ} → numbers ≡ wroteNumbers w → SaidWithin numbers d at e method d₁
+    said-signature h d₁ w k f = rw (le-ltb e at i, le-ltb (length d) e h) (record { answer = w; are = f; wrote = k })
+
+pub ruleset signature-saying = (said-crossed, said-past, said-signature, needs)

@@ -1,0 +1,38 @@
+-- The answers of the descriptors' functions as numbers.
+use mathlib.Core.Path.{_≡_}
+use mathlib.Core.Bool.{Bool, true, false, not}
+use mathlib.Core.List.{List, [], _∷_}
+use Prim.Native.Nat.{ℕ, _≤_}
+use lib.Dec.{eqb, ltb}
+use lib.ListN.{length}
+use Rattle.ground.specs.Choice.{either}
+use Rattle.descriptor.specs.declared.write.Wrote.{Wrote}
+use Rattle.descriptor.specs.declared.write.Wrote.the-variants.{Done, NoRoom}
+use Rattle.descriptor.specs.declared.pieces.Part as parts
+use Rattle.descriptor.specs.declared.pieces.Part.the-variants.{Piece, Plain, End}
+use Rattle.descriptor.specs.Types.{partOf}
+use Rattle.descriptor.specs.Signatures.{rawSignature}
+use Rattle.descriptor.specs.Wrote.{WroteBy}
+
+abbrev pub wroteNumbers : Wrote → List ℕ
+wroteNumbers (Done q) = 1 ∷ q ∷ []
+wroteNumbers NoRoom = 0 ∷ 0 ∷ []
+
+abbrev pub partNumbers : parts.Part → List ℕ
+partNumbers (Piece e) = 1 ∷ e ∷ []
+partNumbers (Plain e) = 2 ∷ e ∷ []
+partNumbers End = 0 ∷ 0 ∷ []
+
+-- the numbers are those of an answer that says so of the room
+pub record Said (numbers d : List ℕ) (at : ℕ) (b d₁ : List ℕ) : Type 0 where
+  pub answer : Wrote
+  pub are : numbers ≡ wroteNumbers answer
+  pub wrote : WroteBy answer d at b d₁
+
+-- the same for a signature that stands in the room, where it does
+abbrev pub SaidIf : Bool → List ℕ → List ℕ → ℕ → ℕ → ℕ → List ℕ → Type 0
+SaidIf true numbers d at e method d₁ = (numbers ≡ 2 ∷ 0 ∷ []) × (d₁ ≡ d)
+SaidIf false numbers d at e method d₁ = Said numbers d at (rawSignature (not (eqb method 0)) (partOf d at e)) d₁
+
+abbrev pub SaidWithin : List ℕ → List ℕ → ℕ → ℕ → ℕ → List ℕ → Type 0
+SaidWithin numbers d at e method d₁ = SaidIf (either (ltb e at) (ltb (length d) e)) numbers d at e method d₁
