@@ -1,5 +1,5 @@
 //! bench [--seed N] [--runs N]: times the proved functions beside Rust's standard library, in one process, and alone on
-//! comments made to be slow.
+//! comments and lines made to be slow.
 //! Status: 0 done, 1 the two disagree, 2 bad arguments.
 
 mod hostile;

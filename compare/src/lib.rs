@@ -1,8 +1,10 @@
-//! Holds the proved functions of Clumarief against Rust's standard library and `serde_json`.
+//! Holds the proved functions of Clumarief against Rust's standard library, `serde_json`, and the original where its source
+//! is at hand.
 //!
 //! A subject is one function and its judge (`report`), run over cases (`case`) that are made one after another
-//! (`every`, `texts`, `comment_texts` with `comment_parts`). `reading` has both answers about a comment. Each of the
-//! other modules is one part of the comparison; `main` lists them.
+//! (`every`, `texts`, `comment_texts` with `comment_parts`, `part_texts`). `reading` has both answers about a comment,
+//! `parts` those about a line, by way of `original`. Each of the other modules is one part of the comparison; `main`
+//! lists them.
 
 pub mod arguments;
 pub mod bytes;
@@ -10,9 +12,24 @@ pub mod case;
 pub mod comment_parts;
 pub mod comment_texts;
 pub mod comments;
+#[cfg(original)]
+pub mod descriptors;
 pub mod every;
+#[cfg(original)]
+pub mod java_asm;
 pub mod lines;
+#[cfg(original)]
+pub mod mapped;
+#[cfg(not(original))]
+#[path = "left_out.rs"]
+pub mod mapped;
 pub mod numbers;
+#[cfg(original)]
+pub mod original;
+#[cfg(original)]
+pub mod part_texts;
+#[cfg(original)]
+pub mod parts;
 pub mod proved;
 pub mod random;
 pub mod ranges;

@@ -1,14 +1,17 @@
-//! compare [--seed N] [--more N]: holds the proved functions against Rust's standard library and `serde_json`.
+//! compare [--seed N] [--more N]: holds the proved functions against Rust's standard library, `serde_json`, and the
+//! original where it was built with its source.
 //! Status: 0 all agree, 1 a disagreement, 2 bad arguments.
 
 use clumarief_compare::report::{Disagreement, Held, Report, Settings};
-use clumarief_compare::{arguments, bytes, comments, lines, numbers, ranges, trims, utf8, white};
+use clumarief_compare::{
+    arguments, bytes, comments, lines, mapped, numbers, ranges, trims, utf8, white,
+};
 use std::env;
 use std::process::ExitCode;
 
 type Part = fn(&Settings, &mut Report) -> Held;
 
-const PARTS: [Part; 8] = [
+const PARTS: &[Part] = &[
     utf8::run,
     white::run,
     trims::run,
@@ -17,6 +20,9 @@ const PARTS: [Part; 8] = [
     numbers::run,
     ranges::run,
     comments::run,
+    mapped::run,
+    #[cfg(original)]
+    clumarief_compare::descriptors::run,
 ];
 
 const USAGE: &str = "usage: compare [--seed N] [--more N]

@@ -1,9 +1,9 @@
-//! The proved functions, as they come out of `libprobes.a`, behind safe calls.
+//! The proved functions, as they come out of `libprobes.a` and `libline_probes.a`, behind safe calls.
 
 /// A byte slice crosses as its address and its length.
 type Bytes = *const u8;
 
-extern "C" {
+unsafe extern "C" {
     fn clumarief_probe_sequence(text: Bytes, length: usize, at: usize, answer: &mut [u64; 3]);
     fn clumarief_probe_check(text: Bytes, length: usize, answer: &mut [u64; 3]);
     fn clumarief_probe_white(code: u32) -> u32;
@@ -31,6 +31,33 @@ extern "C" {
         answer: &mut [u64; 2],
     );
     fn clumarief_probe_residual(text: Bytes, length: usize, start: usize) -> u32;
+    fn clumarief_probe_line_parts(text: Bytes, length: usize, answer: &mut [u64; 20]);
+    fn clumarief_probe_argument(text: Bytes, length: usize, at: usize, answer: &mut [u64; 4]);
+    fn clumarief_probe_class(
+        name: Bytes,
+        length: usize,
+        room: *mut u8,
+        room_length: usize,
+        at: usize,
+        answer: &mut [u64; 2],
+    );
+    fn clumarief_probe_type(
+        text: Bytes,
+        length: usize,
+        room: *mut u8,
+        room_length: usize,
+        at: usize,
+        answer: &mut [u64; 2],
+    );
+    fn clumarief_probe_signature(
+        room: *mut u8,
+        room_length: usize,
+        at: usize,
+        end: usize,
+        method: u32,
+        answer: &mut [u64; 2],
+    );
+    fn clumarief_probe_part(d: Bytes, length: usize, at: usize, answer: &mut [u64; 2]);
 }
 
 /// What stands in an answer before the call: no judge gives it, so a slot that is not written shows.
@@ -144,4 +171,54 @@ pub fn decode(text: &[u8], start: usize, room: &mut [u8], at: usize) -> [u64; 2]
 /// 1 where the string there stands for the id of a residual signature.
 pub fn residual(text: &[u8], start: usize) -> u32 {
     unsafe { clumarief_probe_residual(text.as_ptr(), text.len(), start) }
+}
+
+/// Which kind a line is, and its parts, each its start and its end: 0 blank; 1 comment: the place of its `{` plus 1, or
+/// 0; 2 class: display name, raw name; 3 field: type, name, raw name; 4 method: return type, 1 and the owner or zeros,
+/// name, arguments, raw name, 1 and the raw range or zeros, 1 and the display range or zeros, 1 where that has a second
+/// part that does not read; 5 refused: the number of the refusal.
+pub fn line_parts(text: &[u8]) -> [u64; 20] {
+    let mut answer = [UNWRITTEN; 20];
+    unsafe { clumarief_probe_line_parts(text.as_ptr(), text.len(), &mut answer) };
+    answer
+}
+
+/// The first argument from the place on: 1, its start, its end, and where the search for the following one starts; or
+/// zeros.
+pub fn argument(text: &[u8], at: usize) -> [u64; 4] {
+    let mut answer = [UNWRITTEN; 4];
+    unsafe { clumarief_probe_argument(text.as_ptr(), text.len(), at, &mut answer) };
+    answer
+}
+
+/// Writes the descriptor of a class name into the room from `at` on: 1 and where that ends, or zeros where it does not
+/// fit.
+pub fn class(name: &[u8], room: &mut [u8], at: usize) -> [u64; 2] {
+    let mut answer = [UNWRITTEN; 2];
+    let (address, length) = (room.as_mut_ptr(), room.len());
+    unsafe { clumarief_probe_class(name.as_ptr(), name.len(), address, length, at, &mut answer) };
+    answer
+}
+
+/// The same for the descriptor of a type.
+pub fn typed(text: &[u8], room: &mut [u8], at: usize) -> [u64; 2] {
+    let mut answer = [UNWRITTEN; 2];
+    let (address, length) = (room.as_mut_ptr(), room.len());
+    unsafe { clumarief_probe_type(text.as_ptr(), text.len(), address, length, at, &mut answer) };
+    answer
+}
+
+/// The same for a raw signature that stands in the room from `at` to `end`.
+pub fn signature(room: &mut [u8], at: usize, end: usize, method: bool) -> [u64; 2] {
+    let mut answer = [UNWRITTEN; 2];
+    let (address, length) = (room.as_mut_ptr(), room.len());
+    unsafe { clumarief_probe_signature(address, length, at, end, method.into(), &mut answer) };
+    answer
+}
+
+/// The part of a descriptor at a place: 0 the end, 1 a class piece, or 2 bytes that stay; and the place after it.
+pub fn part(descriptor: &[u8], at: usize) -> [u64; 2] {
+    let mut answer = [UNWRITTEN; 2];
+    unsafe { clumarief_probe_part(descriptor.as_ptr(), descriptor.len(), at, &mut answer) };
+    answer
 }

@@ -48,7 +48,7 @@ fn judge_leading(text: &str) -> [u64; 5] {
 
 /// "A colon, a number, and optionally a colon and a number"; "a second part that is missing or does not read equals the
 /// first".
-fn judge_trailing(text: &str) -> [u64; 4] {
+pub fn judge_trailing(text: &str) -> [u64; 4] {
     let mut parts = text.split(':');
     let (Some(""), Some(first)) = (parts.next(), parts.next()) else {
         return [0; 4];

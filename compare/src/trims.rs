@@ -52,8 +52,7 @@ pub fn judge_trim(text: &str) -> [u64; 8] {
 const LETTERS: &str = "a \r\u{84}\u{85}\u{A0}\u{1680}\u{2003}\u{200B}\u{3000}\u{FEFF}\u{1F600}";
 
 /// Not white space, and next to it by number, by bytes, or by name.
-const NEAR: &str =
-    "\u{8}\u{E}\u{1C}\u{1F}!\u{84}\u{86}\u{9F}\u{A1}\u{167F}\u{1681}\u{180E}\u{1FFF}\
+const NEAR: &str = "\u{8}\u{E}\u{1C}\u{1F}!\u{84}\u{86}\u{9F}\u{A1}\u{167F}\u{1681}\u{180E}\u{1FFF}\
     \u{200B}\u{200C}\u{2027}\u{202A}\u{202E}\u{2030}\u{205E}\u{2060}\u{2FFF}\u{3001}\u{FEFF}\
     \u{85}\u{10020}\u{E0020}";
 

@@ -1,0 +1,3 @@
+-- Laws of the answers about lines.
+pub mod Braces
+pub mod LineSaid

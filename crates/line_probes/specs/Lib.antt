@@ -1,0 +1,2 @@
+-- The answers of the C functions about lines, as numbers.
+pub mod LineAnswers

@@ -1,0 +1,86 @@
+-- What a line is, as 20 numbers: which kind it is, then what that holds; a part is its start and its end, and what a kind does not hold is 0.
+use mathlib.Core.Bool.{Bool, true, false}
+use mathlib.Core.List.{List, [], _∷_}
+use Prim.Native.Nat.{ℕ, _+_}
+use Rattle.places.specs.declared.find.Place.{Place}
+use Rattle.places.specs.declared.find.Place.the-variants.{At, Nowhere}
+use Rattle.text.specs.declared.trim.Span.{Span}
+use Rattle.line.specs.declared.arguments.NextArgument.{NextArgument}
+use Rattle.line.specs.declared.arguments.NextArgument.the-variants.{Argument, NoArgument}
+use Rattle.line.specs.declared.signature.Qualified.{Qualified}
+use Rattle.line.specs.declared.signature.Qualified.the-variants.{Owned, Plain}
+use Rattle.line.specs.declared.method.LineRange.{LineRange}
+use Rattle.line.specs.declared.method.LineRange.the-variants.{Lines, NoLines}
+use Rattle.line.specs.declared.method.Method.{Method}
+use Rattle.line.specs.declared.line.Line.{Line}
+use Rattle.line.specs.declared.line.Line.the-variants as lines
+use Rattle.line.specs.Spans.{span}
+
+abbrev pub bit : Bool → ℕ
+bit true = 1
+bit false = 0
+
+-- a place, counted from 1; 0 for none
+abbrev pub placeNumber : Place → ℕ
+placeNumber (At i) = i + 1
+placeNumber Nowhere = 0
+
+-- 1 for a name with an owner
+abbrev pub owned : Qualified → ℕ
+owned (Owned owner name) = 1
+owned (Plain name) = 0
+
+abbrev pub ownerOf : Qualified → Span
+ownerOf (Owned owner name) = owner
+ownerOf (Plain name) = span 0 0
+
+abbrev pub nameOf : Qualified → Span
+nameOf (Owned owner name) = name
+nameOf (Plain name) = name
+
+-- 1 for a range
+abbrev pub lined : LineRange → ℕ
+lined (Lines a e) = 1
+lined NoLines = 0
+
+abbrev pub firstLine : LineRange → ℕ
+firstLine (Lines a e) = a
+firstLine NoLines = 0
+
+abbrev pub lastLine : LineRange → ℕ
+lastLine (Lines a e) = e
+lastLine NoLines = 0
+
+-- an answer of at most seven numbers
+abbrev pub sevenNumbers : ℕ → ℕ → ℕ → ℕ → ℕ → ℕ → ℕ → List ℕ
+sevenNumbers kind a b c d e f = kind ∷ a ∷ b ∷ c ∷ d ∷ e ∷ f ∷ 0 ∷ 0 ∷ 0 ∷ 0 ∷ 0 ∷ 0 ∷ 0 ∷ 0 ∷ 0 ∷ 0 ∷ 0 ∷ 0 ∷ 0 ∷ []
+
+abbrev pub commentNumbers : Place → List ℕ
+commentNumbers brace = sevenNumbers 1 (placeNumber brace) 0 0 0 0 0
+
+abbrev pub classNumbers : Span → Span → List ℕ
+classNumbers display raw = sevenNumbers 2 (display .start) (display .«end») (raw .start) (raw .«end») 0 0
+
+abbrev pub fieldNumbers : Span → Span → Span → List ℕ
+fieldNumbers declared name raw = sevenNumbers 3 (declared .start) (declared .«end») (name .start) (name .«end») (raw .start) (raw .«end»)
+
+-- return type, owner, name, arguments, raw name, raw range, display range, and whether that is short
+abbrev pub methodNumbers : Method → Span → List ℕ
+methodNumbers m raw =
+    4 ∷ m .returned .start ∷ m .returned .«end»
+    ∷ owned (m .named) ∷ ownerOf (m .named) .start ∷ ownerOf (m .named) .«end» ∷ nameOf (m .named) .start ∷ nameOf (m .named) .«end»
+    ∷ m .arguments .start ∷ m .arguments .«end» ∷ raw .start ∷ raw .«end»
+    ∷ lined (m .raw) ∷ firstLine (m .raw) ∷ lastLine (m .raw)
+    ∷ lined (m .display) ∷ firstLine (m .display) ∷ lastLine (m .display) ∷ bit (m .short) ∷ 0 ∷ []
+
+abbrev pub lineNumbers : Line → List ℕ
+lineNumbers lines.Blank = sevenNumbers 0 0 0 0 0 0 0
+lineNumbers (lines.Comment brace) = commentNumbers brace
+lineNumbers (lines.Class display raw) = classNumbers display raw
+lineNumbers (lines.Field declared name raw) = fieldNumbers declared name raw
+lineNumbers (lines.Method m raw) = methodNumbers m raw
+lineNumbers (lines.Refused number) = sevenNumbers 5 number 0 0 0 0 0
+
+abbrev pub argumentNumbers : NextArgument → List ℕ
+argumentNumbers (Argument start «end» next) = 1 ∷ start ∷ «end» ∷ next ∷ []
+argumentNumbers NoArgument = 0 ∷ 0 ∷ 0 ∷ 0 ∷ []
