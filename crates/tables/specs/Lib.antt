@@ -1,0 +1,2 @@
+-- Rows and names: the written rules, from document 01 "Rows and names".
+pub mod Rows
