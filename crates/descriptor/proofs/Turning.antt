@@ -2,19 +2,18 @@
 use mathlib.Core.Path.{_≡_, refl, sym, _∙_, ap}
 use mathlib.Core.Bool.{Bool, true, false}
 use mathlib.Core.List.{List, [], _∷_, _++_, map, append-assoc, append-nil}
-use Prim.Native.Nat.{ℕ, zero, suc, _+_, _-_, _≤_, _<_}
+use Prim.Native.Nat.{ℕ, suc, _+_, _-_, _≤_}
 use native.Mathlib.Omega.{arith}
 use lib.Dec.{eqb}
-use lib.ListN.{length, take, drop, length-drop, drop-of-length-le}
-use lib.Seq.{drop-drop, take-all, drop-length}
+use lib.ListN.{length, take, drop, drop-of-length-le}
+use lib.Seq.{drop-drop, take-all}
 use borrow.Author.Tests.{eqb-true}
 use Rattle.ground.specs.Choice.{pick}
 use Rattle.places.specs.declared.find.Place.{Place}
 use Rattle.places.specs.declared.find.Place.the-variants.{At, Nowhere}
 use Rattle.places.specs.Places.{firstFrom, firstWhere, starts}
-use Rattle.places.proofs.PlaceLaws.{first-inside}
-use Rattle.descriptor.specs.declared.pieces.Part as places
-use Rattle.descriptor.specs.declared.pieces.Part.the-variants.{Piece, Plain, End}
+use Rattle.places.proofs.Holds.{first-past}
+use Rattle.descriptor.specs.declared.pieces.Part.the-variants.{Piece, Plain}
 use Rattle.descriptor.specs.Pieces.{Part, byte, piece, partsFrom, Look, lookOr, turned, join, turn, pieceAt, plainAt, partIn, partAt}
 
 -- what parts become
@@ -30,16 +29,6 @@ only-bytes : (look : List ℕ → Look) (w : List ℕ) → turnedAll look (map b
 unfolding join
 only-bytes look [] = refl
 only-bytes look (x ∷ w) = ap (λ l. x ∷ l) (only-bytes look w)
-
--- A place found among bytes that are counted from `at` on.
-past-from : (b at : ℕ) (l : List ℕ) {i : ℕ} → firstFrom (starts b) at l ≡ At i → at ≤ i
-unfolding firstFrom
-past-from b at [] e = absurd (let z : _≡_ {A = ℕ} 0 1 = cc in omega arith)
-past-from b at (x ∷ l) {i} e = go (eqb x b) (λ f. past-from b (suc at) l f) e
-  where
-    go : (t : Bool) → (firstFrom (starts b) (suc at) l ≡ At i → suc at ≤ i) → pick t (At at) (firstFrom (starts b) (suc at) l) ≡ At i → at ≤ i
-    go true again f = let h : at ≡ i = cc in omega arith
-    go false again f = let h = again f in omega arith
 
 -- an `L` that is closed
 closed-from : (a : ℕ) (w : List ℕ) (at : ℕ) (l : List ℕ) {i : ℕ} → firstFrom (starts 0x3B) at l ≡ At i →
@@ -57,7 +46,7 @@ closed-from a w at (x ∷ l) {i} e = go (eqb x 0x3B) refl (λ f. closed-from a (
         let z : i - at ≡ 0 = omega arith in
         rw (q, z)
     go false q again f =
-        let later = past-from 0x3B (suc at) l f in
+        let later = first-past 0x3B (suc at) l f in
         let z : i - at ≡ suc (i - suc at) = omega arith in
         rw (q, z) (again f ∙ ap (λ k. piece (a ∷ k) ∷ partsFrom [] (drop (suc (i - suc at)) l)) (append-assoc w (x ∷ []) (take (suc (i - suc at)) l)))
 
@@ -86,7 +75,7 @@ plain-from at (x ∷ l) {i} e = go (eqb x 0x4C) refl (λ f. plain-from (suc at) 
         let z : i - at ≡ 0 = omega arith in
         rw z
     go false q again f =
-        let later = past-from 0x4C (suc at) l f in
+        let later = first-past 0x4C (suc at) l f in
         let z : i - at ≡ suc (i - suc at) = omega arith in
         rw (q, z) (ap (λ ps. byte x ∷ ps) (again f))
 
@@ -114,7 +103,7 @@ module _ (look : List ℕ → Look) where
       let is = eqb-true x 0x4C q in
       let no-semicolon : eqb x 0x3B ≡ false = ap (λ y. eqb y 0x3B) is in
       let f : firstFrom (starts 0x3B) 1 l ≡ At i = rw no-semicolon at e in
-      let later = past-from 0x3B 1 l f in
+      let later = first-past 0x3B 1 l f in
       let z : i + 1 ≡ suc (suc (i - 1)) = omega arith in
       rw (q, z) (ap (turnedAll look) (closed-from x [] 1 l f))
 

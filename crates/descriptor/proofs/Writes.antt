@@ -148,6 +148,16 @@ wrote-none r d at b d₁ w e = rw e at w
 pub written-length : {q : ℕ} {d : List ℕ} {at : ℕ} {b d₁ : List ℕ} → Written q d at b d₁ → length d₁ ≡ length d
 written-length {d = d} {at = at} {b = b} w = ap length (w .is) ∙ length-put d at b (w .room)
 
+-- the promise leaves one answer, and one pool where all is written
+pub wrote-once : (r q : Wrote) (d : List ℕ) (at : ℕ) (b d₁ d₂ : List ℕ) → WroteBy r d at b d₁ → WroteBy q d at b d₂ → r ≡ q
+wrote-once (Done p) (Done q) d at b d₁ d₂ w v = ap Done (w .past ∙ sym (v .past))
+wrote-once (Done p) NoRoom d at b d₁ d₂ w v = absurd (omega (arith, w .room))
+wrote-once NoRoom (Done q) d at b d₁ d₂ w v = absurd (omega (arith, v .room))
+wrote-once NoRoom NoRoom d at b d₁ d₂ w v = refl
+
+pub pool-once : {p q : ℕ} {d : List ℕ} {at : ℕ} {b d₁ d₂ : List ℕ} → Written p d at b d₁ → Written q d at b d₂ → d₁ ≡ d₂
+pool-once w v = w .is ∙ sym (v .is)
+
 -- what is written after what was written
 pub wrote-then : (r : Wrote) {q : ℕ} {d : List ℕ} {at : ℕ} {a d₁ : List ℕ} (b d₂ : List ℕ) → Written q d at a d₁ → WroteBy r d₁ q b d₂ → WroteBy r d at (a ++ b) d₂
 wrote-then (Done p) {q} {d} {at} {a} {d₁} b d₂ w v =

@@ -63,7 +63,7 @@ baseBytes (Letter x) s = x ∷ []
 baseBytes Kept s = s
 baseBytes Named s = classDescriptor s
 
--- "A type is trimmed, then each `[]` at its end becomes a leading `[`; no second trim": the type's text from `a` to `e`
+-- "A type is trimmed, then each `[]` at its end becomes a leading `[`; no second trim": `b` is the trimmed text, and `e` the place at which it ends without its `[]`s
 abbrev pub shapeIn : List ℕ → Span → TypeShape
 shapeIn s p =
     let b : List ℕ = partOf s (p .start) (p .«end») in

@@ -38,6 +38,10 @@ first-here b at (x ∷ l) {i} e = go (eqb x b) refl (λ f. first-here b (suc at)
     go true q again f = let h : at ≡ i = cc in here-as h (here-first b at x l q)
     go false q again f = here-later b at x l i (again f)
 
+-- bytes are counted from `at` on
+pub first-past : (b at : ℕ) (l : List ℕ) {i : ℕ} → firstFrom (starts b) at l ≡ At i → at ≤ i
+first-past b at l e = first-here b at l e .past
+
 last-here : (b at : ℕ) (l : List ℕ) {i : ℕ} → lastFrom (starts b) at l ≡ At i → Here b at l i
 unfolding lastFrom
 last-here b at [] e = absurd (let z : _≡_ {A = ℕ} 0 1 = cc in omega arith)

@@ -309,9 +309,6 @@ decoded-octets p a q v (Grammar.quoted {a = c} cs) o =
     let s = middle-octets p (c ++ (0x22 ∷ []) ++ q) 0x22 (omega arith) o .1 in
     chars-octets c v cs (middle-octets c q 0x22 (omega arith) (octets-as (append-assoc c (0x22 ∷ []) q) s) .0)
 
-pub string-octets : {a v : List ℕ} → Grammar.String a v → UTF8-octets a → UTF8-octets v
-string-octets {a} {v} s o = decoded-octets [] a [] v s (octets-as (sym (append-nil a)) o)
-
 -- what the reader takes after an opening quotation mark
 pub reader-octets : (p s : List ℕ) {v r : List ℕ} → charsFrom 0 s ≡ got v r → UTF8-octets (p ++ (0x22 ∷ s)) → UTF8-octets v
 unfolding stringOf
