@@ -119,24 +119,37 @@ pub fn proved_line(line: &str) -> Reading {
     }
 }
 
+/// Where the parts of a method start and end, and 1 where it has an owner.
+struct Places {
+    returned: [u64; 2],
+    owned: u64,
+    owner: [u64; 2],
+    name: [u64; 2],
+    arguments: [u64; 2],
+    raw: [u64; 2],
+}
+
+fn places_of(answer: &[u64; 20]) -> Places {
+    let part = |at: usize| [answer[at], answer[at + 1]];
+    Places {
+        returned: part(1),
+        owned: answer[3],
+        owner: part(4),
+        name: part(6),
+        arguments: part(8),
+        raw: part(10),
+    }
+}
+
 /// The marks around a method's parts fix their places, also where a part is empty.
-fn marked(line: &str, answer: &[u64; 20]) -> bool {
-    let [
-        _,
-        start,
-        returned,
-        owned,
-        owner,
-        owner_end,
-        name,
-        name_end,
-        arguments,
-        arguments_end,
-        raw,
-        ..,
-    ] = answer.map(|number| number as usize);
+fn marked(line: &str, places: &Places) -> bool {
+    let number = |part: [u64; 2]| part.map(|number| number as usize);
+    let [start, returned] = number(places.returned);
+    let [owner, owner_end] = number(places.owner);
+    let [name, name_end] = number(places.name);
+    let [arguments, arguments_end] = number(places.arguments);
     let byte = |place: usize| line.as_bytes().get(place).copied();
-    let follows = if owned == 1 {
+    let follows = if places.owned == 1 {
         owner_end + 1 == name && byte(owner_end) == Some(b'.') && owner > returned
     } else {
         name > returned
@@ -152,39 +165,26 @@ fn marked(line: &str, answer: &[u64; 20]) -> bool {
         && name_end + 1 == arguments
         && byte(name_end) == Some(b'(')
         && byte(arguments_end) == Some(b')')
-        && arguments_end < raw
+        && places.arguments[1] < places.raw[0]
 }
 
 fn proved_method(line: &str, answer: &[u64; 20]) -> Reading {
-    let [
-        _,
-        start,
-        end,
-        owned,
-        owner,
-        owner_end,
-        name,
-        name_end,
-        arguments,
-        arguments_end,
-        raw,
-        raw_end,
-        ..,
-    ] = *answer;
-    let owner = match [owned, owner, owner_end] {
-        [0, 0, 0] => None,
-        [1, start, end] => Some(text_at(line, start, end)?.to_owned()),
+    let places = places_of(answer);
+    let text = |[start, end]: [u64; 2]| text_at(line, start, end);
+    let owner = match (places.owned, places.owner) {
+        (0, [0, 0]) => None,
+        (1, part) => Some(text(part)?.to_owned()),
         _ => return Err("no such answer about an owner"),
     };
-    if !marked(line, answer) {
+    if !marked(line, &places) {
         return Err("a part of a method not between its marks");
     }
     Ok(Line::Method {
-        returned: text_at(line, start, end)?.to_owned(),
+        returned: text(places.returned)?.to_owned(),
         owner,
-        name: text_at(line, name, name_end)?.to_owned(),
-        arguments: proved_arguments(text_at(line, arguments, arguments_end)?, 0)?,
-        raw: part_at(line, raw, raw_end)?,
+        name: text(places.name)?.to_owned(),
+        arguments: proved_arguments(text(places.arguments)?, 0)?,
+        raw: part_at(line, places.raw[0], places.raw[1])?,
         raw_range: range_of([answer[12], answer[13], answer[14]])?,
         display_range: range_of([answer[15], answer[16], answer[17]])?,
         short: match answer[18] {
