@@ -1,2 +1,3 @@
 -- Rows and names: the written rules, from document 01 "Rows and names".
 pub mod Rows
+pub mod Back
