@@ -1,0 +1,64 @@
+-- Document 01 "Comments": the signature that a comment gives.
+use mathlib.Core.Bool.{Bool, false}
+use mathlib.Core.List.{List, [], _∷_}
+use Prim.Native.Nat.{ℕ}
+use lib.ListN.{drop}
+use Rattle.ground.specs.Choice.{pick}
+use Rattle.places.specs.declared.find.Place.{Place}
+use Rattle.places.specs.declared.find.Place.the-variants.{At, Nowhere}
+use Rattle.text.specs.Trim.{trimBoth}
+use Rattle.rfc8259.specs.Reader.{charsFrom}
+use Rattle.decode.specs.Decoded.{decoded}
+use Rattle.comment.specs.declared.answer.Stands.{Stands}
+use Rattle.comment.specs.declared.answer.Stands.the-variants as stands
+use Rattle.comment.specs.declared.answer.Comment as comment
+use Rattle.comment.specs.declared.answer.Comment.the-variants.{Unreadable, Readable}
+use Rattle.comment.specs.Answer.{commentOf, residualOf}
+use Rattle.line.specs.declared.line.Line.{Line}
+use Rattle.line.specs.declared.line.Line.the-variants.{Blank, Comment, Class, Field, Method, Refused}
+use Rattle.line.specs.Spans.{span, partOf}
+use Rattle.line.specs.Kinds.{lineOf}
+use Rattle.descriptor.specs.Pieces.{Look, known, unknown, orLook}
+
+-- "`id` is compared with `com.android.tools.r8.residualsignature`"
+abbrev pub saysResidual : List ℕ → Stands → Bool
+saysResidual s stands.Missing = false
+saysResidual s stands.Other = false
+saysResidual s (stands.Text at) = residualOf (charsFrom 0 (drop at s))
+
+-- "a string `signature`", its bytes
+abbrev pub stringAt : List ℕ → Stands → Look
+stringAt s stands.Missing = unknown
+stringAt s stands.Other = unknown
+stringAt s (stands.Text at) = known (decoded (charsFrom 0 (drop at s)))
+
+-- "Everything else is idle."
+abbrev pub signatureBy : List ℕ → comment.Comment → Look
+signatureBy s Unreadable = unknown
+signatureBy s (Readable id signature) = pick (saysResidual s id) (stringAt s signature) unknown
+
+-- the signature that a JSON text gives
+abbrev pub signatureOf : List ℕ → Look
+signatureOf s = signatureBy s (commentOf s)
+
+-- "The JSON starts at the first `{` of the trimmed line."
+abbrev pub jsonOf : List ℕ → ℕ → List ℕ
+jsonOf l brace = partOf l (span brace (trimBoth l .«end»))
+
+abbrev pub signatureAt : List ℕ → Place → Look
+signatureAt l Nowhere = unknown
+signatureAt l (At brace) = signatureOf (jsonOf l brace)
+
+-- The signature that replaces that of a member: "the last such comment" before another class line or member line. `later` is what the lines
+-- after this one give.
+abbrev pub residualBy : List ℕ → Line → Look → Look
+residualBy l Blank later = later
+residualBy l (Comment brace) later = orLook later (signatureAt l brace)
+residualBy l (Class display raw) later = unknown
+residualBy l (Field declared name raw) later = unknown
+residualBy l (Method method raw) later = unknown
+residualBy l (Refused number) later = unknown
+
+unfoldable pub residualIn : List (List ℕ) → Look
+residualIn [] = unknown
+residualIn (l ∷ ls) = residualBy l (lineOf l) (residualIn ls)
