@@ -5,3 +5,4 @@ pub mod Lying
 pub mod Methods
 pub mod Kinding
 pub mod Listed
+pub mod Whole

@@ -1,1 +1,2 @@
--- Laws of the rules.
+-- Laws of the rules, one file a subject.
+pub mod Tally

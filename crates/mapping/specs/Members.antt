@@ -1,7 +1,7 @@
 -- Document 01 "Rows and names": members.
 use mathlib.Core.Bool.{true, false}
 use mathlib.Core.List.{List, [], _∷_, _++_, map}
-use Prim.Native.Nat.{ℕ, suc, _+_, _-_}
+use Prim.Native.Nat.{ℕ, _+_, _-_}
 use lib.ListN.{length}
 use Rattle.line.specs.declared.signature.Qualified.{Qualified}
 use Rattle.line.specs.declared.signature.Qualified.the-variants.{Owned, Plain}
@@ -50,8 +50,8 @@ rangesOf (Lines p q) (Lines a e) = Both p q a e
 
 -- a member by its texts and numbers
 pub data Entry : Type 0 where
-  field : ℕ → List ℕ → List ℕ → List ℕ → Entry                          -- class row, raw name, raw descriptor, display name
-  method : ℕ → List ℕ → List ℕ → List ℕ → List ℕ → Ranges → Entry      -- and display owner, ranges
+  field : ℕ → List ℕ → List ℕ → List ℕ → Entry  -- class row, raw name, raw descriptor, display name
+  method : ℕ → List ℕ → List ℕ → List ℕ → List ℕ → Ranges → Entry  -- and display owner, ranges
 
 -- the class line that a line stands under: the last of `count`, and the display descriptor of its class
 pub record Under : Type 0 where

@@ -1,0 +1,26 @@
+-- `scan::residual::gives_signature` meets its contract, by the laws of Giving.
+use Rattle.scan.proofs.Giving.{given-ones}
+use Rattle.scan.proofs.residual.gives_signature.Statement.{statement}
+use Rattle.scan.proofs.residual.gives_signature.Tie as tie
+use Rattle.scan.proofs.residual.gives_signature.Reads as reads
+use Rattle.scan.proofs.residual.gives_signature.Lts as lts
+use Rattle.scan.proofs.residual.signature_at.Reads as signature-at-reads
+
+signature-at-requires : tie.Need-signature-at-requires
+signature-at-requires c κs = search given-ones
+
+enum-told : tie.Need-enum-told
+enum-told c = search given-ones
+
+enum-told-2 : tie.Need-enum-told-2
+enum-told-2 c = search given-ones
+
+returns : tie.Need-returns
+returns c = search given-ones
+
+returns-2 : tie.Need-returns-2
+returns-2 c = search given-ones
+
+pub gives-signature-spec : {M : Type 1} → statement M
+gives-signature-spec =
+    tie.close (tie.spec signature-at-requires enum-told enum-told-2 returns returns-2)

@@ -1,0 +1,3 @@
+-- What the functions over lines say, in terms of the rules of loading.
+pub mod Residuals
+pub mod Bounds
