@@ -1,3 +1,5 @@
 -- Laws of rows.
 pub mod Packing
 pub mod Zeroing
+pub mod TextLaws
+pub mod Searching

@@ -1,3 +1,5 @@
 -- Rows and names: the written rules, from document 01 "Rows and names".
 pub mod Rows
 pub mod Back
+pub mod Search
+pub mod Examples

@@ -1,5 +1,7 @@
-// Tables: rows by value, and rows and bytes made zero.
+// Tables: rows by value, the texts they name, the last row with a descriptor, and rows and bytes made zero.
 mod rows;
+mod search;
+mod texts;
 mod zero;
 
 pub use rows::Class;
@@ -12,6 +14,10 @@ pub use rows::pack_class;
 pub use rows::pack_member;
 pub use rows::unpack_class;
 pub use rows::unpack_member;
+pub use search::Found;
+pub use search::last_with_display;
+pub use search::last_with_raw;
+pub use texts::text_in;
 pub use zero::zero_bytes;
 pub use zero::zero_classes;
 pub use zero::zero_members;
