@@ -3,3 +3,4 @@ pub mod Packing
 pub mod Zeroing
 pub mod TextLaws
 pub mod Searching
+pub mod Tested

@@ -2,4 +2,5 @@
 pub mod Rows
 pub mod Back
 pub mod Search
+pub mod Check
 pub mod Examples

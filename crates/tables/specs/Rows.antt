@@ -59,6 +59,10 @@ memberOf row =
       ranges = rangesOf row;
     }
 
+-- the range flag as it stands, which may be out of range in a row that was never checked
+abbrev pub flagOf : List ℕ → ℕ
+flagOf row = getD row 10 0
+
 -- "A refused load zeroes all lent rows and pool bytes": a row of zeros
 abbrev pub zeroClass : List ℕ
 zeroClass = replicate 4 0

@@ -1,9 +1,12 @@
-// Tables: rows by value, the texts they name, the last row with a descriptor, and rows and bytes made zero.
+// Tables: rows by value, the texts they name, the check for refusal 14, the last row with a descriptor, and rows and bytes made zero.
+mod check;
 mod rows;
 mod search;
 mod texts;
 mod zero;
 
+pub use check::Used;
+pub use check::well_formed;
 pub use rows::Class;
 pub use rows::ClassRow;
 pub use rows::Member;
