@@ -3,4 +3,5 @@ pub mod Packing
 pub mod Zeroing
 pub mod TextLaws
 pub mod Searching
+pub mod Checking
 pub mod Tested

@@ -37,6 +37,11 @@ last-stays : (p : List ℕ → Bool) (rows : List (List ℕ)) (at i : ℕ) → a
 last-stays p rows zero i h e = e
 last-stays p rows (suc at) i h e = last-stays p rows at i (omega arith) (rw (drop-cons rows at [] h, last-cons, e))
 
+-- where there is none behind a row, the row itself decides
+step-back : (p : List ℕ → Bool) (rows : List (List ℕ)) (at : ℕ) → at < length rows → lastFrom p (suc at) (drop (suc at) rows) ≡ Unknown →
+    lastFrom p at (drop at rows) ≡ pick (p (getD rows at [])) (Row at) Unknown
+step-back p rows at h e = rw (drop-cons rows at [] h, last-cons, e)
+
 module _ {p : List ℕ → Bool} {rows : List (List ℕ)} {«end» : ℕ} (k : Scanning p rows «end») where
   pub scanning-ends : «end» ≤ 0 → Unknown ≡ lastFrom p 0 rows
   scanning-ends h = let z : «end» ≡ 0 = omega arith in sym (rw z at (k .none))
@@ -45,13 +50,10 @@ module _ {p : List ℕ → Bool} {rows : List (List ℕ)} {«end» : ℕ} (k : S
     pub scanning-inside : «end» - 1 < length rows
     scanning-inside = omega (arith, k .inside)
 
-    step-back : (at : ℕ) → at < length rows → lastFrom p (suc at) (drop (suc at) rows) ≡ Unknown → lastFrom p at (drop at rows) ≡ pick (p (getD rows at [])) (Row at) Unknown
-    step-back at g e = rw (drop-cons rows at [] g, last-cons, e)
-
     before : lastFrom p («end» - 1) (drop («end» - 1) rows) ≡ pick (p (getD rows («end» - 1) [])) (Row («end» - 1)) Unknown
     before =
         let up : «end» ≡ suc («end» - 1) = omega arith in
-        step-back («end» - 1) scanning-inside (rw up at (k .none))
+        step-back p rows («end» - 1) scanning-inside (rw up at (k .none))
 
     pub scanning-found : p (getD rows («end» - 1) []) ≡ true → Row («end» - 1) ≡ lastFrom p 0 rows
     scanning-found e = sym (last-stays p rows («end» - 1) («end» - 1) (omega (arith, k .inside)) (rw (before, e)))

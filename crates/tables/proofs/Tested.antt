@@ -1,17 +1,16 @@
 -- The tests of the check for 14, as the code makes them. Assumes nothing.
 use mathlib.Core.Path.{_≡_, refl, sym, _∙_, ap}
 use mathlib.Core.Bool.{Bool, true, false, not}
-use mathlib.Core.List.{List, [], _∷_}
+use mathlib.Core.List.{List, []}
 use Prim.Native.Nat.{ℕ, suc, _+_, _-_, _≤_, _<_, min}
 use native.Mathlib.Numerals.{add-one}
 use native.Mathlib.Omega.{arith}
 use lib.Dec.{leb, ltb}
 use lib.ListN.{length, getD, take, drop, drop-of-length-le}
 use lib.Seq.{drop-cons}
-use borrow.Author.Tests.{le-leb, lt-leb, lt-ltb, le-ltb, leb-true, not-true, not-false}
+use borrow.Author.Tests.{le-leb, lt-leb, lt-ltb, le-ltb, not-true, not-false}
 use borrow.Author.Needs.{needs}
 use Rattle.ground.specs.Choice.{both}
-use Rattle.ground.proofs.Cases.{both-left, both-right}
 use Rattle.ground.proofs.Parts.{prefix-whole}
 use Rattle.utf8.specs.declared.check.Check.{Check}
 use Rattle.utf8.specs.declared.check.Check.the-variants.{Valid, Broken}
@@ -20,9 +19,10 @@ use Rattle.tables.specs.declared.rows.Text.{Text}
 use Rattle.tables.specs.declared.rows.Class.{Class}
 use Rattle.tables.specs.declared.rows.Member.{Member}
 use Rattle.tables.specs.declared.check.Used.{Used}
-use Rattle.tables.specs.Rows.{classOf, memberOf, flagOf}
+use Rattle.tables.specs.Rows.{classOf, memberOf, flagOf, mostClasses, mostMembers, mostPool}
 use Rattle.tables.specs.Back.{textIn}
 use Rattle.tables.specs.Check.{allOf, countsFine, isValid, isUtf8, textFine, classFine, numbersFine, textsFine, memberFine, wellFormed}
+use Rattle.tables.proofs.Checking.{FineCounts, counts-told}
 
 -- one test after the other: the first fails, or the second decides
 first-fails : (x y : Bool) {b : Bool} → b ≡ x → not b ≡ true → false ≡ both x y
@@ -138,37 +138,19 @@ module _ {p : List ℕ → Bool} {rows : List (List ℕ)} {i : ℕ} (k : Asking 
 pub ruleset asking = (asking-starts, asking-ends, asking-no, asking-more, needs)
 
 -- Counts.
-module _ (classes members pool : ℕ) (used : Used) {a : ℕ} (e : a ≡ min classes 4096) where
+module _ (classes members pool : ℕ) (used : Used) {a : ℕ} (e : a ≡ min classes mostClasses) where
   pub classes-above : a < used .classes → false ≡ countsFine classes members pool used
-  classes-above h = sym (rw (lt-leb (used .classes) (min classes 4096) (omega arith)))
+  classes-above h = sym (rw (lt-leb (used .classes) (min classes mostClasses) (omega arith)))
 
-  module _ (h : used .classes ≤ a) {b : ℕ} (f : b ≡ min members 32768) where
+  module _ (h : used .classes ≤ a) {b : ℕ} (f : b ≡ min members mostMembers) where
     pub members-above : b < used .members → false ≡ countsFine classes members pool used
-    members-above k = sym (rw (le-leb (used .classes) (min classes 4096) (omega arith), lt-leb (used .members) (min members 32768) (omega arith)))
+    members-above k = sym (rw (le-leb (used .classes) (min classes mostClasses) (omega arith), lt-leb (used .members) (min members mostMembers) (omega arith)))
 
-    pub counts-last : used .members ≤ b → {c : ℕ} → c ≡ min pool 4194304 → leb (used .pool) c ≡ countsFine classes members pool used
+    pub counts-last : used .members ≤ b → {c : ℕ} → c ≡ min pool mostPool → leb (used .pool) c ≡ countsFine classes members pool used
     counts-last k g =
-        ap (leb (used .pool)) g ∙ sym (rw (le-leb (used .classes) (min classes 4096) (omega arith), le-leb (used .members) (min members 32768) (omega arith)))
+        ap (leb (used .pool)) g ∙ sym (rw (le-leb (used .classes) (min classes mostClasses) (omega arith), le-leb (used .members) (min members mostMembers) (omega arith)))
 
 pub ruleset count-tests = (classes-above, members-above, counts-last, needs)
-
--- no count is above what is lent
-pub record Counts (classes members pool : ℕ) (used : Used) : Type 0 where
-  pub «class-rows» : used .classes ≤ min classes 4096
-  pub «member-rows» : used .members ≤ min members 32768
-  pub «pool-bytes» : used .pool ≤ min pool 4194304
-
-pub counts-told : (classes members pool : ℕ) (used : Used) → countsFine classes members pool used ≡ true → Counts classes members pool used
-counts-told classes members pool used e =
-    let p : Bool = leb (used .classes) (min classes 4096) in
-    let q : Bool = leb (used .members) (min members 32768) in
-    let r : Bool = leb (used .pool) (min pool 4194304) in
-    let f = both-right p (both q r) e in
-    record {
-      «class-rows» = leb-true (used .classes) (min classes 4096) (both-left p (both q r) e);
-      «member-rows» = leb-true (used .members) (min members 32768) (both-left q r f);
-      «pool-bytes» = leb-true (used .pool) (min pool 4194304) (both-right q r f);
-    }
 
 -- The whole.
 module _ (classes members : List (List ℕ)) (pool : List ℕ) (used : Used) {b : Bool} (e : b ≡ countsFine (length classes) (length members) (length pool) used) where
@@ -176,7 +158,7 @@ module _ (classes members : List (List ℕ)) (pool : List ℕ) (used : Used) {b 
   formed-counts n = sym (rw (sym e ∙ not-true b n))
 
   module _ (n : not b ≡ false) where
-    counts : Counts (length classes) (length members) (length pool) used
+    counts : FineCounts (length classes) (length members) (length pool) used
     counts = counts-told (length classes) (length members) (length pool) used (sym e ∙ not-false b n)
 
     pub classes-lent : used .classes ≤ length classes

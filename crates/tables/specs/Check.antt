@@ -12,7 +12,7 @@ use Rattle.utf8.specs.Utf8.{checkOf}
 use Rattle.tables.specs.declared.rows.Text.{Text}
 use Rattle.tables.specs.declared.rows.Member.{Member}
 use Rattle.tables.specs.declared.check.Used.{Used}
-use Rattle.tables.specs.Rows.{classOf, memberOf, flagOf}
+use Rattle.tables.specs.Rows.{classOf, memberOf, flagOf, mostClasses, mostMembers, mostPool}
 use Rattle.tables.specs.Back.{textIn}
 
 -- a test holds of every element
@@ -20,10 +20,10 @@ unfoldable pub allOf : {A : Type 0} → (A → Bool) → List A → Bool
 allOf p [] = true
 allOf p (x ∷ l) = both (p x) (allOf p l)
 
--- "a count above the rows or pool lent", where "Class rows number at most 4,096, member rows 32,768, pool bytes 4,194,304; a longer lent slice counts as that"
+-- "a count above the rows or pool lent", where "a longer lent slice counts as" the most there may be; the arguments are the lengths of what is lent
 abbrev pub countsFine : ℕ → ℕ → ℕ → Used → Bool
 countsFine classes members pool used =
-    both (leb (used .classes) (min classes 4096)) (both (leb (used .members) (min members 32768)) (leb (used .pool) (min pool 4194304)))
+    both (leb (used .classes) (min classes mostClasses)) (both (leb (used .members) (min members mostMembers)) (leb (used .pool) (min pool mostPool)))
 
 -- "a named text not UTF-8"
 abbrev pub isValid : Check → Bool

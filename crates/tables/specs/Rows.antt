@@ -69,3 +69,13 @@ zeroClass = replicate 4 0
 
 abbrev pub zeroMember : List ℕ
 zeroMember = replicate 15 0
+
+-- "Class rows number at most 4,096, member rows 32,768, pool bytes 4,194,304; a longer lent slice counts as that."
+abbrev pub mostClasses : ℕ
+mostClasses = 4096
+
+abbrev pub mostMembers : ℕ
+mostMembers = 32768
+
+abbrev pub mostPool : ℕ
+mostPool = 4194304

@@ -5,6 +5,9 @@ mod search;
 mod texts;
 mod zero;
 
+pub use check::MOST_CLASSES;
+pub use check::MOST_MEMBERS;
+pub use check::MOST_POOL;
 pub use check::Used;
 pub use check::well_formed;
 pub use rows::Class;
