@@ -11,7 +11,6 @@ use crate::texts::text_in;
 use utf8::Check;
 use utf8::check_text;
 ghost use mathlib.Core.Path.{_≡_};
-ghost use lib.ListN.{length};
 ghost use Rattle.tables.specs.Check.{isUtf8, textFine, classFine, numbersFine, textsFine, memberFine, allOf, countsFine, wellFormed};
 
 // How many class rows, member rows and pool bytes are used.

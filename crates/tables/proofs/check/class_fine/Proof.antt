@@ -2,10 +2,6 @@
 use Rattle.tables.proofs.Tested.{class-tests}
 use Rattle.tables.proofs.check.class_fine.Statement.{statement}
 use Rattle.tables.proofs.check.class_fine.Tie as tie
-use Rattle.tables.proofs.check.class_fine.Reads as reads
-use Rattle.tables.proofs.check.class_fine.Lts as lts
-use Rattle.tables.proofs.check.text_fine.Reads as text-fine-reads
-use Rattle.tables.proofs.rows.unpack_class.Reads as unpack-class-reads
 
 unpack-class-requires : tie.Need-unpack-class-requires
 unpack-class-requires c κs = search class-tests

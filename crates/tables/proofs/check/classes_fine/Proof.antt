@@ -5,9 +5,6 @@ use Prim.Native.Nat.{_-_}
 use lib.ListN.{length}
 use Rattle.tables.proofs.check.classes_fine.Statement.{statement}
 use Rattle.tables.proofs.check.classes_fine.Tie as tie
-use Rattle.tables.proofs.check.classes_fine.Reads as reads
-use Rattle.tables.proofs.check.classes_fine.Lts as lts
-use Rattle.tables.proofs.check.class_fine.Reads as class-fine-reads
 
 abbrev Inv-loop : tie.InvT-loop
 Inv-loop classes pool used i₀ i = Asking (classFine pool used) classes i

@@ -2,9 +2,6 @@
 use Rattle.tables.proofs.Tested.{count-tests}
 use Rattle.tables.proofs.check.counts_fine.Statement.{statement}
 use Rattle.tables.proofs.check.counts_fine.Tie as tie
-use Rattle.tables.proofs.check.counts_fine.Reads as reads
-use Rattle.tables.proofs.check.counts_fine.Lts as lts
-use Rattle.tables.proofs.texts.lesser.Reads as lesser-reads
 
 lesser-requires : tie.Need-lesser-requires
 lesser-requires c κs = search count-tests

@@ -2,9 +2,6 @@
 use Rattle.tables.proofs.Tested.{validity}
 use Rattle.tables.proofs.check.is_utf8.Statement.{statement}
 use Rattle.tables.proofs.check.is_utf8.Tie as tie
-use Rattle.tables.proofs.check.is_utf8.Reads as reads
-use Rattle.tables.proofs.check.is_utf8.Lts as lts
-use Rattle.utf8.proofs.check_text.Reads as check-text-reads
 
 check-text-requires : tie.Need-check-text-requires
 check-text-requires c κs = search validity

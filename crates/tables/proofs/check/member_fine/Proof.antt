@@ -2,11 +2,6 @@
 use Rattle.tables.proofs.Tested.{member-tests}
 use Rattle.tables.proofs.check.member_fine.Statement.{statement}
 use Rattle.tables.proofs.check.member_fine.Tie as tie
-use Rattle.tables.proofs.check.member_fine.Reads as reads
-use Rattle.tables.proofs.check.member_fine.Lts as lts
-use Rattle.tables.proofs.check.numbers_fine.Reads as numbers-fine-reads
-use Rattle.tables.proofs.check.texts_fine.Reads as texts-fine-reads
-use Rattle.tables.proofs.rows.unpack_member.Reads as unpack-member-reads
 
 numbers-fine-requires : tie.Need-numbers-fine-requires
 numbers-fine-requires c κs = search member-tests

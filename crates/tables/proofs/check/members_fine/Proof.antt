@@ -5,9 +5,6 @@ use Prim.Native.Nat.{_-_}
 use lib.ListN.{length}
 use Rattle.tables.proofs.check.members_fine.Statement.{statement}
 use Rattle.tables.proofs.check.members_fine.Tie as tie
-use Rattle.tables.proofs.check.members_fine.Reads as reads
-use Rattle.tables.proofs.check.members_fine.Lts as lts
-use Rattle.tables.proofs.check.member_fine.Reads as member-fine-reads
 
 abbrev Inv-loop : tie.InvT-loop
 Inv-loop members pool used i₀ i = Asking (memberFine pool used) members i

@@ -2,10 +2,6 @@
 use Rattle.tables.proofs.Tested.{number-tests}
 use Rattle.tables.proofs.check.numbers_fine.Statement.{statement}
 use Rattle.tables.proofs.check.numbers_fine.Tie as tie
-use Rattle.tables.proofs.check.numbers_fine.Reads as reads
-use Rattle.tables.proofs.check.numbers_fine.Lts as lts
-use Rattle.tables.proofs.rows.range_flag.Reads as range-flag-reads
-use Rattle.tables.proofs.rows.unpack_member.Reads as unpack-member-reads
 
 unpack-member-requires : tie.Need-unpack-member-requires
 unpack-member-requires c κs = search number-tests

@@ -2,10 +2,6 @@
 use Rattle.tables.proofs.Tested.{text-tests}
 use Rattle.tables.proofs.check.text_fine.Statement.{statement}
 use Rattle.tables.proofs.check.text_fine.Tie as tie
-use Rattle.tables.proofs.check.text_fine.Reads as reads
-use Rattle.tables.proofs.check.text_fine.Lts as lts
-use Rattle.tables.proofs.check.is_utf8.Reads as is-utf8-reads
-use Rattle.tables.proofs.texts.text_in.Reads as text-in-reads
 
 cast-end : tie.Need-cast-end
 cast-end c = search text-tests

@@ -2,9 +2,6 @@
 use Rattle.tables.proofs.Tested.{texts-tests}
 use Rattle.tables.proofs.check.texts_fine.Statement.{statement}
 use Rattle.tables.proofs.check.texts_fine.Tie as tie
-use Rattle.tables.proofs.check.texts_fine.Reads as reads
-use Rattle.tables.proofs.check.texts_fine.Lts as lts
-use Rattle.tables.proofs.check.text_fine.Reads as text-fine-reads
 
 text-fine-requires : tie.Need-text-fine-requires
 text-fine-requires c κs = search texts-tests

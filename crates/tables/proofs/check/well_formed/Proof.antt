@@ -2,11 +2,6 @@
 use Rattle.tables.proofs.Tested.{forming}
 use Rattle.tables.proofs.check.well_formed.Statement.{statement}
 use Rattle.tables.proofs.check.well_formed.Tie as tie
-use Rattle.tables.proofs.check.well_formed.Reads as reads
-use Rattle.tables.proofs.check.well_formed.Lts as lts
-use Rattle.tables.proofs.check.classes_fine.Reads as classes-fine-reads
-use Rattle.tables.proofs.check.counts_fine.Reads as counts-fine-reads
-use Rattle.tables.proofs.check.members_fine.Reads as members-fine-reads
 
 counts-fine-requires : tie.Need-counts-fine-requires
 counts-fine-requires c κs = search forming

@@ -3,12 +3,6 @@ use Rattle.tables.proofs.Searching.{scanning, Scanning}
 use Rattle.tables.specs.Search.{named}
 use Rattle.tables.proofs.search.last_with.Statement.{statement}
 use Rattle.tables.proofs.search.last_with.Tie as tie
-use Rattle.tables.proofs.search.last_with.Reads as reads
-use Rattle.tables.proofs.search.last_with.Lts as lts
-use Rattle.places.proofs.same_bytes.Reads as same-bytes-reads
-use Rattle.tables.proofs.rows.unpack_class.Reads as unpack-class-reads
-use Rattle.tables.proofs.search.text_on.Reads as text-on-reads
-use Rattle.tables.proofs.texts.text_in.Reads as text-in-reads
 
 abbrev Inv-loop : tie.InvT-loop
 Inv-loop side classes pool name end₀ end = Scanning (named side pool name) classes «end»

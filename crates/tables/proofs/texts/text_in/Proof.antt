@@ -2,9 +2,6 @@
 use Rattle.tables.proofs.TextLaws.{texting}
 use Rattle.tables.proofs.texts.text_in.Statement.{statement}
 use Rattle.tables.proofs.texts.text_in.Tie as tie
-use Rattle.tables.proofs.texts.text_in.Reads as reads
-use Rattle.tables.proofs.texts.text_in.Lts as lts
-use Rattle.tables.proofs.texts.lesser.Reads as lesser-reads
 
 cast-lesser : tie.Need-cast-lesser
 cast-lesser c = search texting
