@@ -1,3 +1,7 @@
 -- Laws of rows.
 pub mod Packing
 pub mod Zeroing
+pub mod TextLaws
+pub mod Searching
+pub mod Checking
+pub mod Tested

@@ -59,9 +59,23 @@ memberOf row =
       ranges = rangesOf row;
     }
 
+-- the range flag as it stands, which may be out of range in a row that was never checked
+abbrev pub flagOf : List ℕ → ℕ
+flagOf row = getD row 10 0
+
 -- "A refused load zeroes all lent rows and pool bytes": a row of zeros
 abbrev pub zeroClass : List ℕ
 zeroClass = replicate 4 0
 
 abbrev pub zeroMember : List ℕ
 zeroMember = replicate 15 0
+
+-- "Class rows number at most 4,096, member rows 32,768, pool bytes 4,194,304; a longer lent slice counts as that."
+abbrev pub mostClasses : ℕ
+mostClasses = 4096
+
+abbrev pub mostMembers : ℕ
+mostMembers = 32768
+
+abbrev pub mostPool : ℕ
+mostPool = 4194304

@@ -1,0 +1,58 @@
+-- Document 01, refusal 14, "tables malformed". "Rows and names": "Malformed: a count above the rows or pool lent, a text reaching past the used pool,
+-- a class row, kind or flag out of range, or a named text not UTF-8."
+use mathlib.Core.Bool.{Bool, true, false}
+use mathlib.Core.List.{List, [], _∷_}
+use Prim.Native.Nat.{ℕ, _+_, min}
+use lib.Dec.{leb, ltb}
+use lib.ListN.{length, take}
+use Rattle.ground.specs.Choice.{both}
+use Rattle.utf8.specs.declared.check.Check.{Check}
+use Rattle.utf8.specs.declared.check.Check.the-variants.{Valid, Broken}
+use Rattle.utf8.specs.Utf8.{checkOf}
+use Rattle.tables.specs.declared.rows.Text.{Text}
+use Rattle.tables.specs.declared.rows.Member.{Member}
+use Rattle.tables.specs.declared.check.Used.{Used}
+use Rattle.tables.specs.Rows.{classOf, memberOf, flagOf, mostClasses, mostMembers, mostPool}
+use Rattle.tables.specs.Back.{textIn}
+
+-- a test holds of every element
+unfoldable pub allOf : {A : Type 0} → (A → Bool) → List A → Bool
+allOf p [] = true
+allOf p (x ∷ l) = both (p x) (allOf p l)
+
+-- "a count above the rows or pool lent", where "a longer lent slice counts as" the most there may be; the arguments are the lengths of what is lent
+abbrev pub countsFine : ℕ → ℕ → ℕ → Used → Bool
+countsFine classes members pool used =
+    both (leb (used .classes) (min classes mostClasses)) (both (leb (used .members) (min members mostMembers)) (leb (used .pool) (min pool mostPool)))
+
+-- "a named text not UTF-8"
+abbrev pub isValid : Check → Bool
+isValid Valid = true
+isValid (Broken at length) = false
+
+abbrev pub isUtf8 : List ℕ → Bool
+isUtf8 s = isValid (checkOf s)
+
+-- "a text reaching past the used pool"
+abbrev pub textFine : List ℕ → Used → Text → Bool
+textFine pool used t = both (leb (t .place + t .length) (used .pool)) (isUtf8 (textIn pool t))
+
+abbrev pub classFine : List ℕ → Used → List ℕ → Bool
+classFine pool used row = both (textFine pool used (classOf row .raw)) (textFine pool used (classOf row .display))
+
+-- "a class row, kind or flag out of range": kind (0 field, 1 method), range flag (0 none, 1 display only, 2 both)
+abbrev pub numbersFine : Used → List ℕ → Bool
+numbersFine used row = both (ltb (memberOf row .class) (used .classes)) (both (leb (memberOf row .kind) 1) (leb (flagOf row) 2))
+
+abbrev pub textsFine : List ℕ → Used → Member → Bool
+textsFine pool used m =
+    both (textFine pool used (m .«raw_name»)) (both (textFine pool used (m .descriptor)) (both (textFine pool used (m .name)) (textFine pool used (m .owner))))
+
+abbrev pub memberFine : List ℕ → Used → List ℕ → Bool
+memberFine pool used row = both (numbersFine used row) (textsFine pool used (memberOf row))
+
+-- tables that are not malformed: only the rows that are used are asked
+abbrev pub wellFormed : List (List ℕ) → List (List ℕ) → List ℕ → Used → Bool
+wellFormed classes members pool used =
+    both (countsFine (length classes) (length members) (length pool) used)
+    (both (allOf (classFine pool used) (take (used .classes) classes)) (allOf (memberFine pool used) (take (used .members) members)))

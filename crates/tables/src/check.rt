@@ -1,0 +1,150 @@
+// The check for refusal 14, "tables malformed". Every function takes any rows, any pool and any counts.
+use crate::rows::ClassRow;
+use crate::rows::Member;
+use crate::rows::MemberRow;
+use crate::rows::Text;
+use crate::rows::range_flag;
+use crate::rows::unpack_class;
+use crate::rows::unpack_member;
+use crate::texts::lesser;
+use crate::texts::text_in;
+use utf8::Check;
+use utf8::check_text;
+ghost use mathlib.Core.Path.{_≡_};
+ghost use Rattle.tables.specs.Check.{isUtf8, textFine, classFine, numbersFine, textsFine, memberFine, allOf, countsFine, wellFormed};
+
+// How many class rows, member rows and pool bytes are used.
+pub struct Used {
+    pub classes: u32,
+    pub members: u32,
+    pub pool: u32,
+}
+
+// A longer slice that is lent counts as that.
+pub const MOST_CLASSES: usize = 4096;
+
+pub const MOST_MEMBERS: usize = 32768;
+
+pub const MOST_POOL: usize = 4194304;
+
+fn is_utf8(s: &[u8]) -> bool
+    ensures { λ r. ⌜ r ≡ isUtf8 (now (s .entry)) ⌝ }
+{
+    match check_text(s) {
+        Check::Valid => true,
+        Check::Broken { at: _, length: _ } => false,
+    }
+}
+
+// A text does not reach past the used pool, and is UTF-8.
+fn text_fine(pool: &[u8], used: Used, text: Text) -> bool
+    ensures { λ r. ⌜ r ≡ textFine (now (pool .entry)) used text ⌝ }
+{
+    let end = text.place as usize + text.length as usize;
+    if end <= used.pool as usize {
+        return is_utf8(text_in(pool, text));
+    }
+    false
+}
+
+fn class_fine(pool: &[u8], used: Used, row: ClassRow) -> bool
+    ensures { λ r. ⌜ r ≡ classFine (now (pool .entry)) used row ⌝ }
+{
+    let class = unpack_class(row);
+    if !text_fine(pool, used, class.raw) {
+        return false;
+    }
+    text_fine(pool, used, class.display)
+}
+
+// The class row, the kind and the flag of a member row are in range.
+fn numbers_fine(used: Used, row: MemberRow) -> bool
+    ensures { λ r. ⌜ r ≡ numbersFine used row ⌝ }
+{
+    let member = unpack_member(row);
+    if used.classes <= member.class {
+        return false;
+    }
+    if 1 < member.kind {
+        return false;
+    }
+    range_flag(row) <= 2
+}
+
+fn texts_fine(pool: &[u8], used: Used, member: Member) -> bool
+    ensures { λ r. ⌜ r ≡ textsFine (now (pool .entry)) used member ⌝ }
+{
+    if !text_fine(pool, used, member.raw_name) {
+        return false;
+    }
+    if !text_fine(pool, used, member.descriptor) {
+        return false;
+    }
+    if !text_fine(pool, used, member.name) {
+        return false;
+    }
+    text_fine(pool, used, member.owner)
+}
+
+fn member_fine(pool: &[u8], used: Used, row: MemberRow) -> bool
+    ensures { λ r. ⌜ r ≡ memberFine (now (pool .entry)) used row ⌝ }
+{
+    if !numbers_fine(used, row) {
+        return false;
+    }
+    texts_fine(pool, used, unpack_member(row))
+}
+
+fn classes_fine(classes: &[ClassRow], pool: &[u8], used: Used) -> bool
+    ensures { λ r. ⌜ r ≡ allOf (classFine (now (pool .entry)) used) (now (classes .entry)) ⌝ }
+{
+    let mut i = 0;
+    while i < classes.len() {
+        if !class_fine(pool, used, classes[i]) {
+            return false;
+        }
+        i += 1;
+    }
+    true
+}
+
+fn members_fine(members: &[MemberRow], pool: &[u8], used: Used) -> bool
+    ensures { λ r. ⌜ r ≡ allOf (memberFine (now (pool .entry)) used) (now (members .entry)) ⌝ }
+{
+    let mut i = 0;
+    while i < members.len() {
+        if !member_fine(pool, used, members[i]) {
+            return false;
+        }
+        i += 1;
+    }
+    true
+}
+
+// No count is above what is lent, where a longer slice counts as the most there may be.
+fn counts_fine(classes: usize, members: usize, pool: usize, used: Used) -> bool
+    ensures { λ r. ⌜ r ≡ countsFine classes members pool used ⌝ }
+{
+    if lesser(classes, MOST_CLASSES) < used.classes as usize {
+        return false;
+    }
+    if lesser(members, MOST_MEMBERS) < used.members as usize {
+        return false;
+    }
+    used.pool as usize <= lesser(pool, MOST_POOL)
+}
+
+// Whether tables are well formed; where they are not, the answer to the caller is 14.
+pub fn well_formed(classes: &[ClassRow], members: &[MemberRow], pool: &[u8], used: Used) -> bool
+    ensures { λ r. ⌜ r ≡ wellFormed (now (classes .entry)) (now (members .entry)) (now (pool .entry)) used ⌝ }
+{
+    if !counts_fine(classes.len(), members.len(), pool.len(), used) {
+        return false;
+    }
+    let class_rows = used.classes as usize;
+    if !classes_fine(&classes[..class_rows], pool, used) {
+        return false;
+    }
+    let member_rows = used.members as usize;
+    members_fine(&members[..member_rows], pool, used)
+}
