@@ -1,0 +1,4 @@
+-- Laws of raw descriptors, one file a subject.
+pub mod Pieces
+pub mod Marking
+pub mod Writing
