@@ -2,3 +2,5 @@
 pub mod Pieces
 pub mod Marking
 pub mod Writing
+pub mod Comparing
+pub mod Searching

@@ -50,7 +50,11 @@ fn is_piece(pool: &[u8], place: usize, size: usize, name: &[u8], dots: bool) -> 
     if pool[place] != b'L' {
         return false;
     }
-    pool[first + name.len()] == b';'
+    let last = first + name.len();
+    if pool[last] != b';' {
+        return false;
+    }
+    true
 }
 
 pub fn last_class(classes: &[ClassRow], pool: &[u8], index: &[u16], name: &[u8], dots: bool) -> FoundClass
