@@ -4,3 +4,5 @@ pub mod Marking
 pub mod Writing
 pub mod Comparing
 pub mod Searching
+pub mod Indexing
+pub mod Turned

@@ -2,4 +2,5 @@
 pub mod Raw
 pub mod Marks
 pub mod Found
+pub mod Stretches
 pub mod Examples

@@ -14,6 +14,7 @@ use places::Place;
 use places::first_byte;
 use tables::ClassRow;
 ghost use mathlib.Core.Path.{_≡_};
+ghost use Prim.Native.Nat.{_≤_};
 ghost use lib.ListN.{length};
 ghost use Rattle.descriptor.specs.Pieces.{lookOr, turn, back};
 ghost use Rattle.descriptor.specs.Types.{baseOf, baseBytes};
@@ -21,6 +22,7 @@ ghost use Rattle.descriptor.specs.Wrote.{WroteBy};
 ghost use Rattle.tables.specs.Back.{readBack};
 ghost use Rattle.raw_types.specs.Raw.{pieceOf, rawTypeOf};
 ghost use Rattle.raw_types.specs.Marks.{Indexed};
+ghost use Rattle.raw_types.specs.Stretches.{InsideBy, OutsideBy};
 
 // One class piece, turned to raw.
 fn put_raw_piece(pool: &mut [u8], at: usize, name: &[u8], dots: bool, classes: &[ClassRow], index: &[u16]) -> Wrote
@@ -37,7 +39,52 @@ fn put_raw_piece(pool: &mut [u8], at: usize, name: &[u8], dots: bool, classes: &
     }
 }
 
-// `L`, a text, `;`, each class piece turned to raw. A `;` in the text ends a piece, and the next `L` begins one: `start` is behind an `L`.
+// How far a text that stands between an `L` and a last `;` was written.
+pub enum Stretch {
+    // It goes on: the places in the pool and in the text.
+    More(usize, usize),
+    // All of it, and the last `;`: the place in the pool.
+    Last(usize),
+    NoRoom,
+}
+
+// The class piece whose `L` stands before `start`, turned to raw: up to behind its `;`.
+fn put_first(pool: &mut [u8], at: usize, text: &[u8], start: usize, dots: bool, classes: &[ClassRow], index: &[u16]) -> Stretch
+    requires { ⌜ (start ≤ length (now text)) × Indexed (now classes) (now pool) (now index) at ⌝ }
+    ensures { λ r. ⌜ InsideBy r (back (readBack (now (classes .entry)) (now (pool .entry)))) dots (now (text .entry)) start (now (pool .entry)) at (now (pool .exit)) ⌝ }
+{
+    let Place::At(gap) = first_byte(&text[start..], b';') else {
+        let Wrote::Done(ended) = put_raw_piece(pool, at, &text[start..], dots, classes, index) else {
+            return Stretch::NoRoom;
+        };
+        return Stretch::Last(ended);
+    };
+    let end = start + gap;
+    let Wrote::Done(turned) = put_raw_piece(pool, at, &text[start..end], dots, classes, index) else {
+        return Stretch::NoRoom;
+    };
+    Stretch::More(turned, end + 1)
+}
+
+// What stands between two class pieces: up to behind the next `L`.
+fn put_plain(pool: &mut [u8], at: usize, text: &[u8], start: usize, dots: bool) -> Stretch
+    requires { ⌜ start ≤ length (now text) ⌝ }
+    ensures { λ r. ⌜ OutsideBy r dots (now (text .entry)) start (now (pool .entry)) at (now (pool .exit)) ⌝ }
+{
+    let Place::At(gap) = first_byte(&text[start..], b'L') else {
+        let Wrote::Done(ended) = put_closed(pool, at, &text[start..], dots) else {
+            return Stretch::NoRoom;
+        };
+        return Stretch::Last(ended);
+    };
+    let end = start + gap;
+    let Wrote::Done(after) = put_name(pool, at, &text[start..end], dots) else {
+        return Stretch::NoRoom;
+    };
+    Stretch::More(after, end + 1)
+}
+
+// `L`, a text, `;`, each class piece turned to raw. A `;` in the text ends a piece, and the next `L` begins one.
 fn put_raw_pieces(pool: &mut [u8], at: usize, text: &[u8], dots: bool, classes: &[ClassRow], index: &[u16]) -> Wrote
     requires { ⌜ Indexed (now classes) (now pool) (now index) at ⌝ }
     ensures { λ r. ⌜ WroteBy r (now (pool .entry)) at (turn (back (readBack (now (classes .entry)) (now (pool .entry)))) (pieceOf dots (now (text .entry)))) (now (pool .exit)) ⌝ }
@@ -45,23 +92,26 @@ fn put_raw_pieces(pool: &mut [u8], at: usize, text: &[u8], dots: bool, classes: 
     let mut start = 0;
     let mut next = at;
     loop {
-        let Place::At(length) = first_byte(&text[start..], b';') else {
-            return put_raw_piece(pool, next, &text[start..], dots, classes, index);
-        };
-        let end = start + length;
-        let Wrote::Done(turned) = put_raw_piece(pool, next, &text[start..end], dots, classes, index) else {
-            return Wrote::NoRoom;
-        };
-        let plain = end + 1;
-        let Place::At(gap) = first_byte(&text[plain..], b'L') else {
-            return put_closed(pool, turned, &text[plain..], dots);
-        };
-        let letter = plain + gap;
-        let Wrote::Done(stood) = put_name(pool, turned, &text[plain..letter], dots) else {
-            return Wrote::NoRoom;
-        };
-        next = stood;
-        start = letter + 1;
+        match put_first(pool, next, text, start, dots, classes, index) {
+            Stretch::NoRoom => {
+                return Wrote::NoRoom;
+            }
+            Stretch::Last(ended) => {
+                return Wrote::Done(ended);
+            }
+            Stretch::More(turned, plain) => match put_plain(pool, turned, text, plain, dots) {
+                Stretch::NoRoom => {
+                    return Wrote::NoRoom;
+                }
+                Stretch::Last(closed) => {
+                    return Wrote::Done(closed);
+                }
+                Stretch::More(after, begun) => {
+                    next = after;
+                    start = begun;
+                }
+            },
+        }
     }
 }
 
