@@ -6,3 +6,4 @@ pub mod Comparing
 pub mod Searching
 pub mod Indexing
 pub mod Turned
+pub mod Going
