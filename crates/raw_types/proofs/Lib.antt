@@ -7,3 +7,4 @@ pub mod Searching
 pub mod Indexing
 pub mod Turned
 pub mod Going
+pub mod Typed

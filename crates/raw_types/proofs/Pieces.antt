@@ -121,7 +121,7 @@ turn-gap look (x ∷ l) i e = go (eqb x 0x4C) refl
 all-plain : (look : List ℕ → Look) (l : List ℕ) → turn look l ≡ take (length l) l ++ turn look (drop (length l) l) → turn look l ≡ l
 all-plain look l e = e ∙ rw (take-length l, drop-length l, turn-end look) (append-nil l)
 
-turn-none : (look : List ℕ → Look) (l : List ℕ) → firstWhere (starts 0x4C) l ≡ Nowhere → turn look l ≡ l
+pub turn-none : (look : List ℕ → Look) (l : List ℕ) → firstWhere (starts 0x4C) l ≡ Nowhere → turn look l ≡ l
 unfolding firstFrom
 turn-none look [] e = turn-end look
 turn-none look (x ∷ l) e = go (eqb x 0x4C) refl
