@@ -2,7 +2,7 @@
 use mathlib.Core.Path.{_≡_, refl, sym, _∙_, ap}
 use mathlib.Core.Bool.{Bool, true, false}
 use mathlib.Core.List.{List, [], _∷_, _++_}
-use Prim.Native.Nat.{ℕ, zero, suc, _+_, _*_, _%_, _-_, _^_, _≤_, _<_}
+use Prim.Native.Nat.{ℕ, suc, _+_, _*_, _%_, _-_, _≤_, _<_}
 use native.Mathlib.Numerals.{add-one}
 use native.Mathlib.Omega.{arith}
 use lib.Dec.{eqb}
@@ -11,10 +11,10 @@ use lib.ListN.{length, getD, set, drop, drop-of-length-le}
 use mir.Val.{Fits}
 use mir.Syntax.{w8, w64}
 use lib.Seq.{drop-cons}
-use borrow.Author.Tests.{eqb-true, eq-eqb, ne-eqb}
+use borrow.Author.Tests.{eq-eqb, ne-eqb}
 use borrow.Author.Needs.{needs}
 use Rattle.ground.specs.Choice.{pick}
-use Rattle.descriptor.specs.Names.{slash, slashed, classDescriptor}
+use Rattle.descriptor.specs.Names.{slash, classDescriptor}
 use Rattle.raw_types.specs.Raw.{slashIf, nameBytes, pieceOf}
 use Rattle.raw_types.specs.Marks.{markFrom, markOf}
 

@@ -1,7 +1,6 @@
 -- Worked examples of raw descriptors, computed from the rules.
 use mathlib.Core.Path.{_≡_, refl}
 use mathlib.Core.List.{List, [], _∷_}
-use Prim.Native.Nat.{ℕ}
 use Rattle.ground.specs.Ascii.{ascii}
 use Rattle.places.specs.Places.{firstFrom, lastFrom, same}
 use Rattle.utf8.specs.Utf8.{leadOf, tails, afterLead, sequenceOf, piecesFrom}
