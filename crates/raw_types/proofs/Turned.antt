@@ -27,11 +27,9 @@ use Rattle.raw_types.specs.Raw.{nameBytes, pieceOf}
 use Rattle.raw_types.specs.Marks.{Indexed}
 use Rattle.raw_types.specs.Found.{FoundAt, FoundBy}
 use Rattle.raw_types.specs.Stretches.{insideOf, outsideOf, Stretched}
+use Rattle.raw_types.proofs.Writing.{wrote-as}
 use Rattle.raw_types.proofs.Pieces.{piece-whole, piece-first, plain-first, plain-all}
 use Rattle.raw_types.proofs.Indexing.{indexed-all}
-
-wrote-as : (r : Wrote) (d : List ℕ) (at : ℕ) (d₁ : List ℕ) {b c : List ℕ} → b ≡ c → WroteBy r d at b d₁ → WroteBy r d at c d₁
-wrote-as r d at d₁ e w = rw (← e) w
 
 -- One piece.
 module _ (rows : List (List ℕ)) (pool p : List ℕ) (r : FoundClass) (f : FoundBy r rows pool p) where

@@ -27,11 +27,9 @@ use Rattle.descriptor.proofs.Typing.{type-order, type-inside}
 use Rattle.tables.specs.Back.{readBack}
 use Rattle.raw_types.specs.Raw.{nameBytes, pieceOf, rawTypeOf}
 use Rattle.raw_types.specs.Marks.{Indexed}
+use Rattle.raw_types.proofs.Writing.{wrote-as}
 use Rattle.raw_types.proofs.Pieces.{turn-none}
 use Rattle.raw_types.proofs.Indexing.{indexed-put, read-back-put}
-
-wrote-as : (r : Wrote) (d : List ℕ) (at : ℕ) (d₁ : List ℕ) {b c : List ℕ} → b ≡ c → WroteBy r d at b d₁ → WroteBy r d at c d₁
-wrote-as r d at d₁ e w = rw (← e) w
 
 -- None of the nine letters is an `L`.
 pick-other : (b : Bool) (x y : ℕ) → eqb x 0x4C ≡ false → eqb y 0x4C ≡ false → eqb (pick b x y) 0x4C ≡ false

@@ -13,8 +13,12 @@ use borrow.Author.Needs.{needs}
 use Rattle.descriptor.specs.declared.write.Wrote.{Wrote}
 use Rattle.descriptor.specs.declared.write.Wrote.the-variants.{Done, NoRoom}
 use Rattle.descriptor.specs.Wrote.{Written, WroteBy}
-use Rattle.descriptor.proofs.Writes.{Pasting, bytes, text-starts, text-done, text-more, wrote-told, wrote-none, wrote-then, none-then}
+use Rattle.descriptor.proofs.Writes.{Pasting, text-starts, text-done, text-more, wrote-told, wrote-none, wrote-then, none-then}
 use Rattle.raw_types.specs.Raw.{slashIf, nameBytes, pieceOf}
+
+-- the same bytes in other words
+pub wrote-as : (r : Wrote) (d : List ℕ) (at : ℕ) (d₁ : List ℕ) {b c : List ℕ} → b ≡ c → WroteBy r d at b d₁ → WroteBy r d at c d₁
+wrote-as r d at d₁ e w = rw (← e) w
 
 -- One byte of a name.
 module _ (b : ℕ) {dots : Bool} where
@@ -145,5 +149,3 @@ module _ (d : List ℕ) (at place size : ℕ) (b : place + size ≤ at) where
         copy-fits-read z = omega (arith, w .some, copied)
 
 pub ruleset copying = (copy-over, copy-no-room, copy-starts, copy-done, copy-inside, copy-read, copy-more, copy-fits, copy-fits-read, needs)
-
-pub ruleset byte-puts = (bytes, needs)
