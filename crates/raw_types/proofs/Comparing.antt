@@ -1,29 +1,19 @@
 -- Whether a text of the pool is a class piece. Assumes nothing.
 use mathlib.Core.Path.{_≡_, refl, sym, _∙_, ap}
 use mathlib.Core.Bool.{Bool, true, false}
-use mathlib.Core.List.{List, [], _∷_, _++_, map}
+use mathlib.Core.List.{List, [], _∷_}
 use Prim.Native.Nat.{ℕ, zero, suc, _+_, _-_, _^_, _≤_, _<_}
 use native.Mathlib.Omega.{arith}
-use lib.ListN.{length, getD, take, drop, length-append, length-drop, drop-of-length-le, List·getD-append}
-use lib.Seq.{drop-cons, drop-length, getD-take, getD-drop, getD-at, length-take-le, ext-getD}
+use lib.ListN.{length, getD, take, drop, length-append, length-drop, List·getD-append}
+use lib.Seq.{getD-take, getD-drop, getD-at, length-take-le, ext-getD}
 use mir.Val.{Fits}
 use mir.Syntax.{w64}
 use borrow.Author.Needs.{needs}
 use mathlib.Core.Logic.{_⊎_, inl, inr}
-use Rattle.ground.specs.Choice.{pick}
-use Rattle.ground.proofs.Cases.{clash, le-or-lt}
+use Rattle.ground.proofs.Cases.{le-or-lt}
 use Rattle.places.specs.Places.{same}
 use Rattle.places.proofs.PlaceLaws.{matching-uneven, same-equal, same-refl}
-use Rattle.descriptor.specs.Names.{classDescriptor}
-use Rattle.descriptor.specs.Pieces.{Pair, Look, known, unknown, orLook, shown, swapped, back}
-use Rattle.tables.specs.Rows.{classOf}
-use Rattle.tables.specs.Back.{textIn, pairOf, readBack}
-use Rattle.raw_types.specs.declared.search.FoundClass.{FoundClass}
-use Rattle.raw_types.specs.declared.search.FoundClass.the-variants.{Row, Unknown}
 use Rattle.raw_types.specs.Raw.{slashIf, nameBytes, pieceOf}
-use Rattle.raw_types.specs.Marks.{markOf, Indexed}
-use Rattle.raw_types.specs.Found.{FoundAt, FoundBy}
-use Rattle.raw_types.proofs.Marking.{mark-piece, mark-below}
 use Rattle.raw_types.proofs.Writing.{name-length, name-byte}
 
 -- Texts that differ at a place.

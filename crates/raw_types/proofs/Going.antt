@@ -1,16 +1,15 @@
 -- Stretch after stretch of a text, until its last `;`. Assumes nothing.
 use mathlib.Core.Path.{_≡_, refl, sym, _∙_, ap}
 use mathlib.Core.Bool.{Bool}
-use mathlib.Core.List.{List, [], _∷_, _++_, append-assoc}
+use mathlib.Core.List.{List, [], _++_, append-assoc}
 use Prim.Native.Nat.{ℕ, _+_, _-_, _≤_, _<_}
 use native.Mathlib.Omega.{arith}
-use lib.ListN.{length, drop}
+use lib.ListN.{length}
 use borrow.Author.Needs.{needs}
 use Rattle.ground.proofs.PutLaws.{put-nothing}
-use Rattle.descriptor.specs.declared.write.Wrote.{Wrote}
 use Rattle.descriptor.specs.declared.write.Wrote.the-variants.{Done, NoRoom}
-use Rattle.descriptor.specs.Pieces.{Look, turn, back}
-use Rattle.descriptor.specs.Wrote.{Written, WroteBy}
+use Rattle.descriptor.specs.Pieces.{turn, back}
+use Rattle.descriptor.specs.Wrote.{Written}
 use Rattle.descriptor.proofs.Writes.{written-length, wrote-then}
 use Rattle.tables.specs.Back.{readBack}
 use Rattle.raw_types.specs.declared.types.Stretch.{Stretch}

@@ -6,13 +6,12 @@ use mathlib.Core.Logic.{_⊎_, inl, inr}
 use Prim.Native.Nat.{ℕ, zero, suc, _+_, _-_, _≤_, _<_}
 use native.Mathlib.Omega.{arith}
 use lib.Dec.{eqb}
-use lib.ListN.{length, getD, set, take, drop, replicate, length-append, length-set, length-replicate, length-take, length-drop, List·getD-append}
+use lib.ListN.{length, getD, set, take, drop, replicate, length-append, length-set, length-replicate, List·getD-append}
 use lib.Seq.{take-take, drop-drop, take-at, drop-at, getD-at, length-take-le, getD-set-same, getD-set-other}
 use borrow.Author.Tests.{eqb-true, eqb-false}
 use Rattle.ground.specs.Put.{put}
 use Rattle.ground.proofs.Cases.{le-or-lt}
 use Rattle.ground.proofs.Parts.{drop-take}
-use Rattle.descriptor.specs.Pieces.{Pair}
 use Rattle.descriptor.specs.Wrote.{Written}
 use Rattle.descriptor.proofs.Writes.{written-length}
 use Rattle.tables.specs.declared.rows.Text.{Text}

@@ -2,7 +2,7 @@
 use mathlib.Core.Path.{_≡_, refl, sym, _∙_, ap}
 use mathlib.Core.Bool.{Bool, true, false}
 use mathlib.Core.List.{List, [], _∷_, _++_}
-use Prim.Native.Nat.{ℕ, zero, suc, _+_, _*_, _%_, _-_, _^_, _≤_, _<_}
+use Prim.Native.Nat.{ℕ, suc, _+_, _*_, _%_, _-_, _≤_, _<_}
 use native.Mathlib.Numerals.{add-one}
 use native.Mathlib.Omega.{arith}
 use lib.Dec.{eqb}
@@ -11,21 +11,11 @@ use lib.ListN.{length, getD, set, drop, drop-of-length-le}
 use mir.Val.{Fits}
 use mir.Syntax.{w8, w64}
 use lib.Seq.{drop-cons}
-use borrow.Author.Tests.{eqb-true, eq-eqb, ne-eqb}
 use borrow.Author.Needs.{needs}
 use Rattle.ground.specs.Choice.{pick}
-use Rattle.descriptor.specs.Names.{slash, slashed, classDescriptor}
+use Rattle.descriptor.specs.Names.{slash, classDescriptor}
 use Rattle.raw_types.specs.Raw.{slashIf, nameBytes, pieceOf}
 use Rattle.raw_types.specs.Marks.{markFrom, markOf}
-
--- One byte.
-pub dot-number : (b : ℕ) → b ≡ 0x2E → 0x2F ≡ slash b
-dot-number b e = sym (rw (eq-eqb b 0x2E e))
-
-pub other-number : (b : ℕ) → (b ≡ 0x2E → ⊥) → b ≡ slash b
-other-number b n = sym (rw (ne-eqb b 0x2E n))
-
-pub ruleset numbers = (dot-number, other-number, needs)
 
 -- a slash is one already
 slash-again : (x : ℕ) → slash (slash x) ≡ slash x

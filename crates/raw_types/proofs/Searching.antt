@@ -2,7 +2,7 @@
 use mathlib.Core.Path.{_≡_, refl, sym, _∙_, ap}
 use mathlib.Core.Bool.{Bool, true, false}
 use mathlib.Core.List.{List, [], _∷_}
-use Prim.Native.Nat.{ℕ, zero, suc, _+_, _-_, _^_, _≤_, _<_}
+use Prim.Native.Nat.{ℕ, zero, suc, _+_, _-_, _≤_, _<_}
 use native.Mathlib.Omega.{arith}
 use lib.ListN.{length, getD, take, drop, length-drop}
 use lib.Seq.{drop-cons, getD-drop}
@@ -11,7 +11,7 @@ use Rattle.ground.specs.Choice.{pick}
 use Rattle.places.specs.Places.{same}
 use Rattle.places.proofs.PlaceLaws.{same-equal}
 use Rattle.descriptor.specs.Names.{classDescriptor}
-use Rattle.descriptor.specs.Pieces.{Look, known, unknown, orLook, shown, back}
+use Rattle.descriptor.specs.Pieces.{known, unknown, orLook, shown, back}
 use Rattle.tables.specs.Rows.{classOf}
 use Rattle.tables.specs.Back.{textIn, readBack}
 use Rattle.raw_types.specs.Raw.{pieceOf}

@@ -1,8 +1,8 @@
 -- Class pieces turned to raw, one after the other. Assumes nothing.
-use mathlib.Core.Path.{_≡_, refl, sym, _∙_, ap}
-use mathlib.Core.Bool.{Bool, true, false}
-use mathlib.Core.List.{List, [], _∷_, _++_, append-assoc, append-nil}
-use Prim.Native.Nat.{ℕ, zero, suc, _+_, _-_, _^_, _≤_, _<_}
+use mathlib.Core.Path.{_≡_, sym, _∙_, ap}
+use mathlib.Core.Bool.{Bool}
+use mathlib.Core.List.{List, [], _∷_, _++_}
+use Prim.Native.Nat.{ℕ, _+_, _-_, _^_, _≤_, _<_}
 use native.Mathlib.Omega.{arith}
 use lib.ListN.{length, getD, take, drop, length-drop}
 use lib.Seq.{drop-drop}
@@ -10,16 +10,15 @@ use mir.Val.{Fits}
 use mir.Syntax.{w64}
 use borrow.Author.Needs.{needs}
 use Rattle.ground.proofs.Parts.{take-rest}
-use Rattle.ground.proofs.PutLaws.{put-nothing}
 use Rattle.places.specs.declared.find.Place.{Place}
 use Rattle.places.specs.declared.find.Place.the-variants.{At, Nowhere}
 use Rattle.places.specs.Places.{firstWhere, starts}
 use Rattle.places.proofs.PlaceLaws.{first-inside}
 use Rattle.descriptor.specs.declared.write.Wrote.{Wrote}
 use Rattle.descriptor.specs.declared.write.Wrote.the-variants.{Done, NoRoom}
-use Rattle.descriptor.specs.Pieces.{Look, known, unknown, lookOr, turn, back}
+use Rattle.descriptor.specs.Pieces.{Look, unknown, lookOr, turn, back}
 use Rattle.descriptor.specs.Wrote.{Written, WroteBy}
-use Rattle.descriptor.proofs.Writes.{written-length, wrote-told, wrote-then, none-then, wrote-none}
+use Rattle.descriptor.proofs.Writes.{wrote-told, none-then, wrote-none}
 use Rattle.tables.specs.Rows.{classOf}
 use Rattle.tables.specs.Back.{textIn, readBack}
 use Rattle.raw_types.specs.declared.search.FoundClass.{FoundClass}
@@ -27,12 +26,10 @@ use Rattle.raw_types.specs.declared.search.FoundClass.the-variants.{Row,
 use Rattle.raw_types.specs.Raw.{nameBytes, pieceOf}
 use Rattle.raw_types.specs.Marks.{Indexed}
 use Rattle.raw_types.specs.Found.{FoundAt, FoundBy}
-use Rattle.raw_types.specs.Stretches.{insideOf, outsideOf, Stretched, InsideBy, OutsideBy}
+use Rattle.raw_types.specs.Stretches.{insideOf, outsideOf, Stretched}
+use Rattle.raw_types.proofs.Writing.{wrote-as}
 use Rattle.raw_types.proofs.Pieces.{piece-whole, piece-first, plain-first, plain-all}
-use Rattle.raw_types.proofs.Indexing.{indexed-all, indexed-put, read-back-put}
-
-wrote-as : (r : Wrote) (d : List ℕ) (at : ℕ) (d₁ : List ℕ) {b c : List ℕ} → b ≡ c → WroteBy r d at b d₁ → WroteBy r d at c d₁
-wrote-as r d at d₁ e w = rw (← e) w
+use Rattle.raw_types.proofs.Indexing.{indexed-all}
 
 -- One piece.
 module _ (rows : List (List ℕ)) (pool p : List ℕ) (r : FoundClass) (f : FoundBy r rows pool p) where

@@ -1,16 +1,16 @@
 -- The raw descriptor of a whole type. Assumes nothing.
 use mathlib.Core.Path.{_≡_, refl, sym, _∙_, ap}
 use mathlib.Core.Bool.{Bool, true, false}
-use mathlib.Core.List.{List, [], _∷_, _++_, map}
+use mathlib.Core.List.{List, [], _∷_, _++_}
 use Prim.Native.Nat.{ℕ, zero, suc, _+_, _-_, _≤_, _<_}
 use native.Mathlib.Omega.{arith}
 use lib.Dec.{eqb}
-use lib.ListN.{length, getD, take, drop, replicate, length-map}
+use lib.ListN.{length, getD, take, drop, replicate}
 use lib.Seq.{take-suc, take-length}
 use borrow.Author.Tests.{eqb-true}
 use borrow.Author.Needs.{needs}
 use Rattle.ground.specs.Ascii.{ascii}
-use Rattle.ground.specs.Choice.{pick, both}
+use Rattle.ground.specs.Choice.{pick}
 use Rattle.ground.proofs.Cases.{clash, both-left, both-right}
 use Rattle.places.specs.declared.find.Place.the-variants.{Nowhere}
 use Rattle.places.specs.Places.{firstFrom, firstWhere, starts, same}
@@ -19,8 +19,7 @@ use Rattle.descriptor.specs.declared.write.Wrote.the-variants.{Done, NoRoom}
 use Rattle.descriptor.specs.declared.types.Base.{Base}
 use Rattle.descriptor.specs.declared.types.Base.the-variants.{Letter, Kept, Named}
 use Rattle.descriptor.specs.declared.types.TypeShape.{TypeShape}
-use Rattle.descriptor.specs.Names.{classDescriptor}
-use Rattle.descriptor.specs.Types.{partOf, wordLetter, keptText, baseOf, baseBytes, shapeOf, shapeBytes, typeDescriptor}
+use Rattle.descriptor.specs.Types.{partOf, wordLetter, keptText, baseOf, baseBytes, shapeOf, shapeBytes}
 use Rattle.descriptor.specs.Pieces.{Look, partsFrom, join, turn, back}
 use Rattle.descriptor.specs.Wrote.{Written, WroteBy}
 use Rattle.descriptor.proofs.Writes.{wrote-told, wrote-none, wrote-then, none-then}
@@ -28,11 +27,9 @@ use Rattle.descriptor.proofs.Typing.{type-order, type-inside}
 use Rattle.tables.specs.Back.{readBack}
 use Rattle.raw_types.specs.Raw.{nameBytes, pieceOf, rawTypeOf}
 use Rattle.raw_types.specs.Marks.{Indexed}
+use Rattle.raw_types.proofs.Writing.{wrote-as}
 use Rattle.raw_types.proofs.Pieces.{turn-none}
 use Rattle.raw_types.proofs.Indexing.{indexed-put, read-back-put}
-
-wrote-as : (r : Wrote) (d : List ℕ) (at : ℕ) (d₁ : List ℕ) {b c : List ℕ} → b ≡ c → WroteBy r d at b d₁ → WroteBy r d at c d₁
-wrote-as r d at d₁ e w = rw (← e) w
 
 -- None of the nine letters is an `L`.
 pick-other : (b : Bool) (x y : ℕ) → eqb x 0x4C ≡ false → eqb y 0x4C ≡ false → eqb (pick b x y) 0x4C ≡ false

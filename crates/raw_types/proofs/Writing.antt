@@ -4,18 +4,21 @@ use mathlib.Core.Bool.{Bool, true, false}
 use mathlib.Core.List.{List, [], _∷_, _++_}
 use Prim.Native.Nat.{ℕ, _+_, _-_, _^_, _≤_, _<_}
 use native.Mathlib.Omega.{arith}
-use lib.ListN.{length, getD, set, take, drop, replicate, length-map, length-take, length-drop, List·getD-map, List·getD-append}
-use lib.Seq.{paste, length-paste-head, getD-take, getD-drop, length-take-le}
+use lib.ListN.{length, getD, set, take, drop, replicate, length-map, length-drop, List·getD-map, List·getD-append}
+use lib.Seq.{length-paste-head, getD-take, getD-drop, length-take-le}
 use mir.Val.{Fits}
 use mir.Syntax.{w64}
 use borrow.Author.Tests.{eq-eqb, ne-eqb}
 use borrow.Author.Needs.{needs}
 use Rattle.descriptor.specs.declared.write.Wrote.{Wrote}
 use Rattle.descriptor.specs.declared.write.Wrote.the-variants.{Done, NoRoom}
-use Rattle.descriptor.specs.Names.{slash}
 use Rattle.descriptor.specs.Wrote.{Written, WroteBy}
-use Rattle.descriptor.proofs.Writes.{Pasting, bytes, text-no-room, text-starts, text-done, text-inside, text-more, text-fits, wrote-told, wrote-none, wrote-then, none-then}
+use Rattle.descriptor.proofs.Writes.{Pasting, text-starts, text-done, text-more, wrote-told, wrote-none, wrote-then, none-then}
 use Rattle.raw_types.specs.Raw.{slashIf, nameBytes, pieceOf}
+
+-- the same bytes in other words
+pub wrote-as : (r : Wrote) (d : List ℕ) (at : ℕ) (d₁ : List ℕ) {b c : List ℕ} → b ≡ c → WroteBy r d at b d₁ → WroteBy r d at c d₁
+wrote-as r d at d₁ e w = rw (← e) w
 
 -- One byte of a name.
 module _ (b : ℕ) {dots : Bool} where
@@ -76,6 +79,7 @@ module _ (d : List ℕ) (at : ℕ) (name : List ℕ) (dots : Bool) where
       name-fits z = omega (arith, w .some, name-length dots name)
 
 pub ruleset naming = (name-over, name-no-room, name-starts, name-done, name-inside, name-more, name-fits, needs)
+
 -- A name and a `;`, and a whole piece.
 module _ (d : List ℕ) (at : ℕ) (name : List ℕ) (dots : Bool) (r : Wrote) (d₁ : List ℕ) where
   module _ (a : WroteBy r d at (nameBytes dots name) d₁) where
@@ -145,5 +149,3 @@ module _ (d : List ℕ) (at place size : ℕ) (b : place + size ≤ at) where
         copy-fits-read z = omega (arith, w .some, copied)
 
 pub ruleset copying = (copy-over, copy-no-room, copy-starts, copy-done, copy-inside, copy-read, copy-more, copy-fits, copy-fits-read, needs)
-
-pub ruleset byte-puts = (bytes, needs)

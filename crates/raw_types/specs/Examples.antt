@@ -1,7 +1,6 @@
 -- Worked examples of raw descriptors, computed from the rules.
 use mathlib.Core.Path.{_≡_, refl}
 use mathlib.Core.List.{List, [], _∷_}
-use Prim.Native.Nat.{ℕ}
 use Rattle.ground.specs.Ascii.{ascii}
 use Rattle.places.specs.Places.{firstFrom, lastFrom, same}
 use Rattle.utf8.specs.Utf8.{leadOf, tails, afterLead, sequenceOf, piecesFrom}
@@ -27,6 +26,7 @@ examples :
     -- a class that is not known stays, and so does a word
     × (rawTypeOf classes (ascii "a.Other") ≡ ascii "La/Other;")
     × (rawTypeOf classes (ascii "int[][]") ≡ ascii "[[I")
+    × (rawTypeOf classes (ascii "int []") ≡ ascii "[Lint ;")
     -- text that is kept has its dots as they are
     × (rawTypeOf classes (ascii "La/Main;[]") ≡ ascii "[Lz;")
     × (rawTypeOf classes (ascii "La.Main;") ≡ ascii "La.Main;")
@@ -36,4 +36,4 @@ examples :
     -- a name with dots has the mark of its descriptor
     × (markOf (ascii "La.Main;") ≡ markOf (classDescriptor (ascii "a.Main")))
 unfolding ascii firstFrom lastFrom same baseEnd bracketCount runOf trimEnd allWhite piecesFrom sequenceOf afterLead leadOf tails isWhite inRanges whiteRanges partsFrom join shown markFrom
-examples = (refl, refl, refl, refl, refl, refl, refl, refl, refl)
+examples = (refl, refl, refl, refl, refl, refl, refl, refl, refl, refl)

@@ -14,7 +14,7 @@ fn slash_number(b: u8) -> usize
     b as usize
 }
 
-// The mark of a class name's descriptor: that of its `L`, then name by name, then its `;`.
+// The mark of a class name's descriptor: from its `L`, byte by byte, to its `;`.
 pub fn mark_of(name: &[u8]) -> usize
     ensures { λ r. ⌜ r ≡ markOf (classDescriptor (now (name .entry))) ⌝ }
 {

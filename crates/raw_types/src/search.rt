@@ -57,7 +57,13 @@ fn is_piece(pool: &[u8], place: usize, size: usize, name: &[u8], dots: bool) -> 
     true
 }
 
-pub fn last_class(classes: &[ClassRow], pool: &[u8], index: &[u16], name: &[u8], dots: bool) -> FoundClass
+pub fn last_class(
+    classes: &[ClassRow],
+    pool: &[u8],
+    index: &[u16],
+    name: &[u8],
+    dots: bool,
+) -> FoundClass
     requires { ⌜ Indexed (now classes) (now pool) (now index) (length (now pool)) ⌝ }
     ensures { λ r. ⌜ FoundBy r (now (classes .entry)) (now (pool .entry)) (pieceOf dots (now (name .entry))) ⌝ }
 {

@@ -25,7 +25,14 @@ ghost use Rattle.raw_types.specs.Marks.{Indexed};
 ghost use Rattle.raw_types.specs.Stretches.{InsideBy, OutsideBy};
 
 // One class piece, turned to raw.
-fn put_raw_piece(pool: &mut [u8], at: usize, name: &[u8], dots: bool, classes: &[ClassRow], index: &[u16]) -> Wrote
+fn put_raw_piece(
+    pool: &mut [u8],
+    at: usize,
+    name: &[u8],
+    dots: bool,
+    classes: &[ClassRow],
+    index: &[u16],
+) -> Wrote
     requires { ⌜ Indexed (now classes) (now pool) (now index) at ⌝ }
     ensures { λ r. ⌜ WroteBy r (now (pool .entry)) at (lookOr (pieceOf dots (now (name .entry))) (back (readBack (now (classes .entry)) (now (pool .entry))) (pieceOf dots (now (name .entry))))) (now (pool .exit)) ⌝ }
 {
@@ -49,18 +56,28 @@ pub enum Stretch {
 }
 
 // The class piece whose `L` stands before `start`, turned to raw: up to behind its `;`.
-fn put_first(pool: &mut [u8], at: usize, text: &[u8], start: usize, dots: bool, classes: &[ClassRow], index: &[u16]) -> Stretch
+fn put_first(
+    pool: &mut [u8],
+    at: usize,
+    text: &[u8],
+    start: usize,
+    dots: bool,
+    classes: &[ClassRow],
+    index: &[u16],
+) -> Stretch
     requires { ⌜ (start ≤ length (now text)) × Indexed (now classes) (now pool) (now index) at ⌝ }
     ensures { λ r. ⌜ InsideBy r (back (readBack (now (classes .entry)) (now (pool .entry)))) dots (now (text .entry)) start (now (pool .entry)) at (now (pool .exit)) ⌝ }
 {
     let Place::At(gap) = first_byte(&text[start..], b';') else {
-        let Wrote::Done(ended) = put_raw_piece(pool, at, &text[start..], dots, classes, index) else {
+        let Wrote::Done(ended) = put_raw_piece(pool, at, &text[start..], dots, classes, index)
+        else {
             return Stretch::NoRoom;
         };
         return Stretch::Last(ended);
     };
     let end = start + gap;
-    let Wrote::Done(turned) = put_raw_piece(pool, at, &text[start..end], dots, classes, index) else {
+    let Wrote::Done(turned) = put_raw_piece(pool, at, &text[start..end], dots, classes, index)
+    else {
         return Stretch::NoRoom;
     };
     Stretch::More(turned, end + 1)
@@ -85,7 +102,14 @@ fn put_plain(pool: &mut [u8], at: usize, text: &[u8], start: usize, dots: bool) 
 }
 
 // `L`, a text, `;`, each class piece turned to raw. A `;` in the text ends a piece, and the next `L` begins one.
-fn put_raw_pieces(pool: &mut [u8], at: usize, text: &[u8], dots: bool, classes: &[ClassRow], index: &[u16]) -> Wrote
+fn put_raw_pieces(
+    pool: &mut [u8],
+    at: usize,
+    text: &[u8],
+    dots: bool,
+    classes: &[ClassRow],
+    index: &[u16],
+) -> Wrote
     requires { ⌜ Indexed (now classes) (now pool) (now index) at ⌝ }
     ensures { λ r. ⌜ WroteBy r (now (pool .entry)) at (turn (back (readBack (now (classes .entry)) (now (pool .entry)))) (pieceOf dots (now (text .entry)))) (now (pool .exit)) ⌝ }
 {
@@ -116,7 +140,14 @@ fn put_raw_pieces(pool: &mut [u8], at: usize, text: &[u8], dots: bool, classes: 
 }
 
 // The raw descriptor of a type without its `[]`s.
-fn put_raw_base(pool: &mut [u8], at: usize, text: &[u8], base: Base, classes: &[ClassRow], index: &[u16]) -> Wrote
+fn put_raw_base(
+    pool: &mut [u8],
+    at: usize,
+    text: &[u8],
+    base: Base,
+    classes: &[ClassRow],
+    index: &[u16],
+) -> Wrote
     requires { ⌜ (base ≡ baseOf (now text)) × Indexed (now classes) (now pool) (now index) at ⌝ }
     ensures { λ r. ⌜ WroteBy r (now (pool .entry)) at (turn (back (readBack (now (classes .entry)) (now (pool .entry)))) (baseBytes base (now (text .entry)))) (now (pool .exit)) ⌝ }
 {
@@ -131,7 +162,13 @@ fn put_raw_base(pool: &mut [u8], at: usize, text: &[u8], base: Base, classes: &[
 }
 
 // The raw descriptor of a display type, written at a place behind the descriptors of all classes.
-pub fn put_raw_type(pool: &mut [u8], at: usize, text: &[u8], classes: &[ClassRow], index: &[u16]) -> Wrote
+pub fn put_raw_type(
+    pool: &mut [u8],
+    at: usize,
+    text: &[u8],
+    classes: &[ClassRow],
+    index: &[u16],
+) -> Wrote
     requires { ⌜ Indexed (now classes) (now pool) (now index) at ⌝ }
     ensures { λ r. ⌜ WroteBy r (now (pool .entry)) at (rawTypeOf (readBack (now (classes .entry)) (now (pool .entry))) (now (text .entry))) (now (pool .exit)) ⌝ }
 {

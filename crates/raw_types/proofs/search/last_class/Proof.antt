@@ -1,6 +1,5 @@
-use Rattle.raw_types.proofs.Searching.{behind-more}
 -- `raw_types::search::last_class` meets its contract, by the laws of Searching and an invariant that says what is done and what is left.
-use Rattle.raw_types.proofs.Searching.{searching, Behind}
+use Rattle.raw_types.proofs.Searching.{behind-more, searching, Behind}
 use Rattle.raw_types.specs.Raw.{pieceOf}
 use Rattle.raw_types.proofs.search.last_class.Statement.{statement}
 use Rattle.raw_types.proofs.search.last_class.Tie as tie

@@ -1,8 +1,7 @@
--- `raw_types::write::put_bytes` meets its contract, by the laws of Writing and an invariant that says what is done and what is left.
-use Rattle.raw_types.proofs.Writing.{byte-puts}
+-- `raw_types::write::put_bytes` meets its contract, by the laws of descriptor's Writes and an invariant that says what is done and what is left.
 use Prim.Native.Nat.{_-_}
 use lib.ListN.{replicate}
-use Rattle.descriptor.proofs.Writes.{Pasting}
+use Rattle.descriptor.proofs.Writes.{bytes, Pasting}
 use Rattle.raw_types.proofs.write.put_bytes.Statement.{statement}
 use Rattle.raw_types.proofs.write.put_bytes.Tie as tie
 use Rattle.raw_types.proofs.write.put_bytes.Reads as reads
@@ -15,40 +14,40 @@ abbrev μ-loop : tie.MeasureT-loop
 μ-loop pool₀ at byte count k₀ pool k = count - k
 
 returns : tie.Need-returns Inv-loop μ-loop
-returns c = search byte-puts
+returns c = search bytes
 
 sub-if2 : tie.Need-sub-if2 Inv-loop μ-loop
-sub-if2 c = search byte-puts
+sub-if2 c = search bytes
 
 returns-2 : tie.Need-returns-2 Inv-loop μ-loop
-returns-2 c = search byte-puts
+returns-2 c = search bytes
 
 loop-holds : tie.Need-loop-holds Inv-loop μ-loop
-loop-holds c = search byte-puts
+loop-holds c = search bytes
 
 add-pool : tie.Need-add-pool Inv-loop μ-loop
-add-pool c = search byte-puts
+add-pool c = search bytes
 
 slice-write-pool : tie.Need-slice-write-pool Inv-loop μ-loop
-slice-write-pool c = search byte-puts
+slice-write-pool c = search bytes
 
 add-k : tie.Need-add-k Inv-loop μ-loop
-add-k c = search byte-puts
+add-k c = search bytes
 
 loop-less : tie.Need-loop-less Inv-loop μ-loop
-loop-less c = search byte-puts
+loop-less c = search bytes
 
 loop-again : tie.Need-loop-again Inv-loop μ-loop
-loop-again c = search byte-puts
+loop-again c = search bytes
 
 add-t6 : tie.Need-add-t6 Inv-loop μ-loop
-add-t6 c = search byte-puts
+add-t6 c = search bytes
 
 same-length : tie.Need-same-length Inv-loop μ-loop
-same-length c = search byte-puts
+same-length c = search bytes
 
 returns-3 : tie.Need-returns-3 Inv-loop μ-loop
-returns-3 c = search byte-puts
+returns-3 c = search bytes
 
 pub put-bytes-spec : {M : Type 1} → statement M
 put-bytes-spec =
