@@ -3,3 +3,6 @@ pub mod Signing
 pub mod Typing
 pub mod Rowed
 pub mod Texting
+pub mod Entering
+pub mod Stepping
+pub mod Filling

@@ -1,18 +1,16 @@
 -- The row of a member. Assumes nothing.
-use mathlib.Core.Path.{_≡_, refl, sym, _∙_, ap}
-use mathlib.Core.List.{List, [], _∷_, _++_, append-nil}
-use Prim.Native.Nat.{ℕ, _+_, _-_, _≤_}
+use mathlib.Core.Path.{_≡_, sym, _∙_, ap}
+use mathlib.Core.List.{List}
+use Prim.Native.Nat.{ℕ, _-_, _≤_}
 use native.Mathlib.Omega.{arith}
-use lib.ListN.{length, length-append}
+use lib.ListN.{length}
 use borrow.Author.Needs.{needs}
 use Rattle.text.specs.declared.trim.Span.{Span}
-use Rattle.line.specs.declared.signature.Qualified.{Qualified}
 use Rattle.line.specs.declared.method.LineRange.{LineRange}
 use Rattle.line.specs.declared.method.LineRange.the-variants.{Lines, NoLines}
 use Rattle.line.specs.declared.method.Method as method
 use Rattle.line.specs.declared.line.Line.{Line}
 use Rattle.line.specs.declared.line.Line.the-variants as kinds
-use Rattle.descriptor.specs.Wrote.{Written}
 use Rattle.tables.specs.declared.rows.Text.{Text}
 use Rattle.tables.specs.declared.rows.Ranges.{Ranges}
 use Rattle.tables.specs.declared.rows.Ranges.the-variants.{None, Display, Both}
@@ -22,7 +20,6 @@ use Rattle.mapping.specs.Members.{rangesOf}
 use Rattle.members.specs.declared.texts.Body.{Body}
 use Rattle.members.specs.declared.texts.Body.the-variants.{Field, Method}
 use Rattle.members.specs.declared.texts.Places.{Places}
-use Rattle.members.specs.declared.texts.Role.{Role}
 use Rattle.members.specs.declared.texts.Role.the-variants.{Class, Member, Neither}
 use Rattle.members.specs.Texts.{nameSpan, roleOf}
 use Rattle.members.specs.Places.{Rising, memberAt}
@@ -99,4 +96,4 @@ module _ (at : ℕ) (q : Places) (x : Rising at q 4194304) where
   owner-inside = x .inside
 
 pub ruleset member-rows =
-  (row-field, row-method, raw-order, raw-inside, descriptor-order, descriptor-inside, name-order, name-inside, owner-order, owner-inside, needs)
+    (row-field, row-method, raw-order, raw-inside, descriptor-order, descriptor-inside, name-order, name-inside, owner-order, owner-inside, needs)

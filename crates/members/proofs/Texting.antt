@@ -1,7 +1,7 @@
 -- The texts of a member, one after the other. Assumes nothing.
-use mathlib.Core.Path.{_≡_, refl, sym, _∙_, ap}
-use mathlib.Core.Bool.{Bool, true, false}
-use mathlib.Core.List.{List, [], _∷_, _++_, append-assoc}
+use mathlib.Core.Path.{_≡_, sym, _∙_, ap}
+use mathlib.Core.Bool.{Bool}
+use mathlib.Core.List.{List, [], _++_, append-assoc}
 use Prim.Native.Nat.{ℕ, _+_, _-_, _≤_, _<_}
 use native.Mathlib.Omega.{arith}
 use lib.ListN.{length, take, drop, length-append}
@@ -10,10 +10,9 @@ use Rattle.places.specs.Lines.{lines}
 use Rattle.text.specs.declared.trim.Span.{Span}
 use Rattle.rfc8259.specs.Reader.{charsFrom}
 use Rattle.decode.specs.Decoded.{decoded}
-use Rattle.line.specs.declared.signature.Qualified.{Qualified}
 use Rattle.line.specs.declared.signature.Qualified.the-variants.{Owned, Plain}
 use Rattle.line.specs.declared.method.Method as method
-use Rattle.line.specs.Spans.{partOf, Lies, NameIn}
+use Rattle.line.specs.Spans.{Lies, NameIn}
 use Rattle.line.specs.Methods.{MethodIn}
 use Rattle.line.specs.Arguments.{argumentsOf}
 use Rattle.descriptor.specs.declared.write.Wrote.{Wrote}
@@ -26,7 +25,7 @@ use Rattle.descriptor.proofs.Writes.{written-length, wrote-told, wrote-none, wr
 use Rattle.tables.specs.Back.{readBack}
 use Rattle.raw_types.specs.Raw.{rawTypeOf}
 use Rattle.raw_types.specs.Marks.{Indexed}
-use Rattle.raw_types.proofs.Indexing.{read-back-put, indexed-put}
+use Rattle.raw_types.proofs.Indexing.{read-back-put}
 use Rattle.raw_types.proofs.Writing.{wrote-as}
 use Rattle.mapping.specs.Comments.{residualIn}
 use Rattle.mapping.specs.Members.{ownerOf, typesDescriptor}
@@ -36,13 +35,11 @@ use Rattle.scan.specs.Residuals.{jsonPart, residualLook, Gives}
 use Rattle.members.specs.declared.texts.Body.{Body}
 use Rattle.members.specs.declared.texts.Body.the-variants.{Field, Method}
 use Rattle.members.specs.declared.texts.MemberLine.{MemberLine}
-use Rattle.members.specs.declared.texts.Places.{Places}
-use Rattle.members.specs.declared.texts.Entered.{Entered}
 use Rattle.members.specs.declared.texts.Entered.the-variants as entered
-use Rattle.members.specs.Texts.{BodyIn, MemberIn, isMethod, displayTypes, descriptorText, ownerText, MemberTexts, textsOf, allTexts}
+use Rattle.members.specs.Texts.{BodyIn, MemberIn, isMethod, displayTypes, descriptorText, ownerText, MemberTexts, allTexts}
 use Rattle.members.specs.declared.texts.TwoTexts.{TwoTexts}
 use Rattle.members.specs.declared.texts.TwoTexts.the-variants as two
-use Rattle.members.specs.Places.{TwoAt, TwoBy, Placed, EnteredAt, EnteredBy}
+use Rattle.members.specs.Places.{TwoAt, TwoBy, EnteredAt}
 use Rattle.members.proofs.Typing.{indexed-after}
 
 -- Parts of a body lie in its line.
@@ -110,7 +107,7 @@ module _ (cs : List Pair) (l : List ℕ) {b : Body} (r : Wrote) (d : List ℕ) (
   display-method e w = wrote-as r d at d₁ (sym (ap (displayTypes cs l) e)) w
 
 pub ruleset displaying =
-  (declared-order, declared-inside, arguments-order, arguments-inside, returned-order, returned-inside, display-field, display-method, needs)
+    (declared-order, declared-inside, arguments-order, arguments-inside, returned-order, returned-inside, display-field, display-method, needs)
 
 -- The raw descriptor.
 module _ (s : List ℕ) {r : Residual} (g : Gives s r (residualIn (lines s))) where

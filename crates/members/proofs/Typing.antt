@@ -1,12 +1,11 @@
 -- Raw descriptors of methods by their display types. Assumes nothing.
 use mathlib.Core.Path.{_≡_, refl, sym, _∙_, ap}
-use mathlib.Core.List.{List, [], _∷_, _++_, map, append-assoc, append-nil}
-use Prim.Native.Nat.{ℕ, _+_, _-_, _^_, _≤_, _<_}
+use mathlib.Core.List.{List, [], _∷_, _++_, append-assoc, append-nil}
+use Prim.Native.Nat.{ℕ, _+_, _-_, _≤_, _<_}
 use native.Mathlib.Omega.{arith}
 use native.Mathlib.Nat.{add-zero}
 use lib.ListN.{length, take, drop, length-append, drop-of-length-le}
 use borrow.Author.Needs.{needs}
-use Rattle.ground.specs.Put.{put}
 use Rattle.ground.proofs.PutLaws.{put-nothing}
 use Rattle.utf8.specs.Utf8.{piecesFrom}
 use Rattle.text.specs.Trim.{runOf, allWhite, trimEnd}
@@ -158,5 +157,7 @@ module _ (rows : List (List ℕ)) (index d : List ℕ) (at : ℕ) (x : Indexed r
     types-done e r₂ d₂ v = both-done rows index d at x (0x28 ∷ argumentTypes (readBack rows d) arguments) r d₁ w e (λ cs. 0x29 ∷ rawTypeOf cs returned) r₂ d₂ v
 
 pub ruleset opening = (indexed-after, opening-none, opening-done, needs)
+
 pub ruleset returning = (indexed-after, returned-none, returned-done, needs)
+
 pub ruleset types = (indexed-after, types-none, types-done, needs)

@@ -1,3 +1,5 @@
 -- What the functions that write members say, in terms of the rule of loading.
 pub mod Texts
 pub mod Places
+pub mod Steps
+pub mod Filled

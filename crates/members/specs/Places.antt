@@ -6,7 +6,7 @@ use lib.ListN.{length}
 use Rattle.descriptor.specs.Wrote.{Written}
 use Rattle.tables.specs.declared.rows.Member.{Member}
 use Rattle.tables.specs.declared.rows.Ranges.the-variants.{None}
-use Rattle.tables.specs.Rows.{text, packMember}
+use Rattle.tables.specs.Rows.{text}
 use Rattle.mapping.specs.Members.{rangesOf}
 use Rattle.members.specs.declared.texts.Body.{Body}
 use Rattle.members.specs.declared.texts.Body.the-variants.{Field, Method}

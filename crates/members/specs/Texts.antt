@@ -1,13 +1,13 @@
 -- The texts of a member line.
 use mathlib.Core.Bool.{Bool, true, false}
-use mathlib.Core.List.{List, [], _∷_, _++_}
+use mathlib.Core.List.{List, [], _++_}
 use Prim.Native.Nat.{ℕ}
 use Rattle.text.specs.declared.trim.Span.{Span}
 use Rattle.line.specs.declared.signature.Qualified.{Qualified}
 use Rattle.line.specs.declared.signature.Qualified.the-variants.{Owned, Plain}
 use Rattle.line.specs.declared.line.Line.{Line}
 use Rattle.line.specs.declared.line.Line.the-variants as kinds
-use Rattle.line.specs.Spans.{partOf, Lies, NameIn}
+use Rattle.line.specs.Spans.{partOf, Lies}
 use Rattle.line.specs.Methods.{MethodIn}
 use Rattle.line.specs.Arguments.{argumentsOf}
 use Rattle.descriptor.specs.Signatures.{rawSignature}

@@ -35,7 +35,13 @@ pub fn put_signature(pool: &mut [u8], at: usize, json: &[u8], string: usize, met
 }
 
 // The raw descriptors of all arguments, one after the other.
-fn put_arguments(pool: &mut [u8], at: usize, arguments: &[u8], classes: &[ClassRow], index: &[u16]) -> Wrote
+fn put_arguments(
+    pool: &mut [u8],
+    at: usize,
+    arguments: &[u8],
+    classes: &[ClassRow],
+    index: &[u16],
+) -> Wrote
     requires { ⌜ Indexed (now classes) (now pool) (now index) at ⌝ }
     ensures { λ r. ⌜ WroteBy r (now (pool .entry)) at (argumentTypes (readBack (now (classes .entry)) (now (pool .entry))) (argumentsOf (now (arguments .entry)))) (now (pool .exit)) ⌝ }
 {
@@ -45,7 +51,8 @@ fn put_arguments(pool: &mut [u8], at: usize, arguments: &[u8], classes: &[ClassR
         let NextArgument::Argument { start, end, next } = next_argument(arguments, from) else {
             return Wrote::Done(to);
         };
-        let Wrote::Done(after) = put_raw_type(pool, to, &arguments[start..end], classes, index) else {
+        let Wrote::Done(after) = put_raw_type(pool, to, &arguments[start..end], classes, index)
+        else {
             return Wrote::NoRoom;
         };
         to = after;
@@ -55,7 +62,13 @@ fn put_arguments(pool: &mut [u8], at: usize, arguments: &[u8], classes: &[ClassR
 }
 
 // `(` and the arguments.
-fn put_opening(pool: &mut [u8], at: usize, arguments: &[u8], classes: &[ClassRow], index: &[u16]) -> Wrote
+fn put_opening(
+    pool: &mut [u8],
+    at: usize,
+    arguments: &[u8],
+    classes: &[ClassRow],
+    index: &[u16],
+) -> Wrote
     requires { ⌜ Indexed (now classes) (now pool) (now index) at ⌝ }
     ensures { λ r. ⌜ WroteBy r (now (pool .entry)) at (0x28 ∷ argumentTypes (readBack (now (classes .entry)) (now (pool .entry))) (argumentsOf (now (arguments .entry)))) (now (pool .exit)) ⌝ }
 {
@@ -66,7 +79,13 @@ fn put_opening(pool: &mut [u8], at: usize, arguments: &[u8], classes: &[ClassRow
 }
 
 // `)` and the return type.
-fn put_returned(pool: &mut [u8], at: usize, returned: &[u8], classes: &[ClassRow], index: &[u16]) -> Wrote
+fn put_returned(
+    pool: &mut [u8],
+    at: usize,
+    returned: &[u8],
+    classes: &[ClassRow],
+    index: &[u16],
+) -> Wrote
     requires { ⌜ Indexed (now classes) (now pool) (now index) at ⌝ }
     ensures { λ r. ⌜ WroteBy r (now (pool .entry)) at (0x29 ∷ rawTypeOf (readBack (now (classes .entry)) (now (pool .entry))) (now (returned .entry))) (now (pool .exit)) ⌝ }
 {
@@ -77,7 +96,14 @@ fn put_returned(pool: &mut [u8], at: usize, returned: &[u8], classes: &[ClassRow
 }
 
 // The raw descriptor of a method by its display types: `(`, its arguments, `)`, its return type.
-pub fn put_types(pool: &mut [u8], at: usize, arguments: &[u8], returned: &[u8], classes: &[ClassRow], index: &[u16]) -> Wrote
+pub fn put_types(
+    pool: &mut [u8],
+    at: usize,
+    arguments: &[u8],
+    returned: &[u8],
+    classes: &[ClassRow],
+    index: &[u16],
+) -> Wrote
     requires { ⌜ Indexed (now classes) (now pool) (now index) at ⌝ }
     ensures { λ r. ⌜ WroteBy r (now (pool .entry)) at (typesDescriptor (readBack (now (classes .entry)) (now (pool .entry))) (argumentsOf (now (arguments .entry))) (now (returned .entry))) (now (pool .exit)) ⌝ }
 {

@@ -111,7 +111,14 @@ fn is_method(body: Body) -> bool
 }
 
 // The raw descriptor of a member by its display types.
-fn put_display_types(pool: &mut [u8], at: usize, line: &[u8], body: Body, classes: &[ClassRow], index: &[u16]) -> Wrote
+fn put_display_types(
+    pool: &mut [u8],
+    at: usize,
+    line: &[u8],
+    body: Body,
+    classes: &[ClassRow],
+    index: &[u16],
+) -> Wrote
     requires { ⌜ Indexed (now classes) (now pool) (now index) at × BodyIn body (length (now line)) ⌝ }
     ensures { λ r. ⌜ WroteBy r (now (pool .entry)) at (displayTypes (readBack (now (classes .entry)) (now (pool .entry))) (now (line .entry)) body) (now (pool .exit)) ⌝ }
 {
@@ -126,18 +133,39 @@ fn put_display_types(pool: &mut [u8], at: usize, line: &[u8], body: Body, classe
             let end = method.arguments.end;
             let first = method.returned.start;
             let last = method.returned.end;
-            put_types(pool, at, &line[start..end], &line[first..last], classes, index)
+            put_types(
+                pool,
+                at,
+                &line[start..end],
+                &line[first..last],
+                classes,
+                index,
+            )
         }
     }
 }
 
 // The raw descriptor of a member: that of its residual signature, which stands in the lines `after` it, else that of its display types.
-fn put_descriptor(pool: &mut [u8], at: usize, after: &[u8], line: &[u8], body: Body, classes: &[ClassRow], index: &[u16]) -> Wrote
+fn put_descriptor(
+    pool: &mut [u8],
+    at: usize,
+    after: &[u8],
+    line: &[u8],
+    body: Body,
+    classes: &[ClassRow],
+    index: &[u16],
+) -> Wrote
     requires { ⌜ Indexed (now classes) (now pool) (now index) at × BodyIn body (length (now line)) ⌝ }
     ensures { λ r. ⌜ WroteBy r (now (pool .entry)) at (descriptorText (readBack (now (classes .entry)) (now (pool .entry))) (residualIn (lines (now (after .entry)))) (now (line .entry)) body) (now (pool .exit)) ⌝ }
 {
     match residual_after(after, 0) {
-        Residual::Text { start, end, string } => put_signature(pool, at, &after[start..end], string, is_method(body)),
+        Residual::Text { start, end, string } => put_signature(
+            pool,
+            at,
+            &after[start..end],
+            string,
+            is_method(body),
+        ),
         Residual::Nothing => put_display_types(pool, at, line, body, classes, index),
     }
 }
@@ -164,7 +192,15 @@ fn put_owner(pool: &mut [u8], at: usize, line: &[u8], body: Body, own: &[u8]) ->
 }
 
 // The raw name and the raw descriptor of a member. `after` is the text after its line.
-fn put_raw_part(pool: &mut [u8], at: usize, after: &[u8], line: &[u8], member: MemberLine, classes: &[ClassRow], index: &[u16]) -> TwoTexts
+fn put_raw_part(
+    pool: &mut [u8],
+    at: usize,
+    after: &[u8],
+    line: &[u8],
+    member: MemberLine,
+    classes: &[ClassRow],
+    index: &[u16],
+) -> TwoTexts
     requires { ⌜ Indexed (now classes) (now pool) (now index) at × MemberIn member (length (now line)) ⌝ }
     ensures { λ r. ⌜ TwoBy r (now (pool .entry)) at (partOf (now (line .entry)) (member .raw)) (descriptorText (readBack (now (classes .entry)) (now (pool .entry))) (residualIn (lines (now (after .entry)))) (now (line .entry)) (member .body)) (now (pool .exit)) ⌝ }
 {
@@ -181,7 +217,13 @@ fn put_raw_part(pool: &mut [u8], at: usize, after: &[u8], line: &[u8], member: M
 }
 
 // The display name and the display owner of a member. `own` is the display name of its class line.
-fn put_display_part(pool: &mut [u8], at: usize, line: &[u8], member: MemberLine, own: &[u8]) -> TwoTexts
+fn put_display_part(
+    pool: &mut [u8],
+    at: usize,
+    line: &[u8],
+    member: MemberLine,
+    own: &[u8],
+) -> TwoTexts
     requires { ⌜ MemberIn member (length (now line)) ⌝ }
     ensures { λ r. ⌜ TwoBy r (now (pool .entry)) at (partOf (now (line .entry)) (member .name)) (ownerText (now (own .entry)) (now (line .entry)) (member .body)) (now (pool .exit)) ⌝ }
 {
@@ -198,7 +240,16 @@ fn put_display_part(pool: &mut [u8], at: usize, line: &[u8], member: MemberLine,
 }
 
 // All texts of a member.
-pub fn write_texts(pool: &mut [u8], at: usize, after: &[u8], line: &[u8], member: MemberLine, own: &[u8], classes: &[ClassRow], index: &[u16]) -> Entered
+pub fn write_texts(
+    pool: &mut [u8],
+    at: usize,
+    after: &[u8],
+    line: &[u8],
+    member: MemberLine,
+    own: &[u8],
+    classes: &[ClassRow],
+    index: &[u16],
+) -> Entered
     requires { ⌜ Indexed (now classes) (now pool) (now index) at × MemberIn member (length (now line)) ⌝ }
     ensures { λ r. ⌜ EnteredBy r (now (pool .entry)) at (textsOf (readBack (now (classes .entry)) (now (pool .entry))) (residualIn (lines (now (after .entry)))) (now (own .entry)) (now (line .entry)) member) (now (pool .exit)) ⌝ }
 {

@@ -99,6 +99,19 @@ pub record Scanning (s : List ℕ) («from» : ℕ) (before : Fates) (has : Bool
 pub scanning-starts : (s : List ℕ) («from» : ℕ) (before : Fates) (has : Bool) → «from» ≤ length s → Within before «from» → Scanning s «from» before has «from» before has
 scanning-starts s p before has h w = record { inside = h; within = w; decides = refl }
 
+-- one line more
+pub scanned-more : {s : List ℕ} {«from» : ℕ} {before : Fates} {has : Bool} {at : ℕ} {f : Fates} {member : Bool} {a e n : ℕ} {g : Fates} {m : Bool} →
+    Scanning s «from» before has at f member → Taken s at a e n → faultOf (f .class) (lineOf (take (e - a) (drop a s))) ≡ 0 →
+    g ≡ plus f (fateOf member (take (e - a) (drop a s)) (lineOf (take (e - a) (drop a s)))) → m ≡ memberAfter member (lineOf (take (e - a) (drop a s))) → Scanning s «from» before has n g m
+scanned-more {s} {«from»} {before} {has} {at} {f} {member} {a} {e} {n} {g} {m} k t z u v =
+    let l : List ℕ = take (e - a) (drop a s) in
+    let o = t .past in
+    record {
+      inside = t .inside;
+      within = rw u (plus-within f (fateOf member l (lineOf l)) at n (k .within) (fate-within member l (lineOf l)) (omega arith));
+      decides = rw (u, v) (sym (scan-line f member l (lines (drop n s)) z)) ∙ sym (ap (scanOn f member) (t .split)) ∙ k .decides;
+    }
+
 module _ {s : List ℕ} {«from» : ℕ} {before : Fates} {has : Bool} {at : ℕ} {f : Fates} {member : Bool} (k : Scanning s «from» before has at f member) where
   ended : lines (drop at s) ≡ [] → Sound f ≡ scanOn before has (lines (drop «from» s))
   ended e = sym (ap (scanOn f member) e ∙ scan-end f member) ∙ k .decides
@@ -145,17 +158,7 @@ module _ {s : List ℕ} {«from» : ℕ} {before : Fates} {has : Bool} {at : ℕ
           pub scanning-more : number ≡ 0 → {g : Fates} → g ≡ plus f (fateOf member (take (e - a) (drop a s)) kind) → {m : Bool} → m ≡ memberAfter member kind →
               Scanning s «from» before has n g m
           scanning-more z {g} u {m} v =
-              let l : List ℕ = take (e - a) (drop a s) in
-              let g-is : g ≡ plus f (fateOf member l (lineOf l)) = u ∙ ap (λ y. plus f (fateOf member l y)) r in
-              let m-is : m ≡ memberAfter member (lineOf l) = v ∙ ap (memberAfter member) r in
-              let o = taken .past in
-              record {
-                inside = taken .inside;
-                within = rw g-is (plus-within f (fateOf member l (lineOf l)) at n (k .within) (fate-within member l (lineOf l)) (omega arith));
-                decides =
-                    rw (g-is, m-is) (sym (scan-line f member l (lines (drop n s)) (sym told ∙ z)))
-                    ∙ sym (ap (scanOn f member) (taken .split)) ∙ k .decides;
-              }
+              scanned-more k taken (sym told ∙ z) (u ∙ ap (λ y. plus f (fateOf member (take (e - a) (drop a s)) y)) r) (v ∙ ap (memberAfter member) r)
 
 pub ruleset scanning =
     (scanning-starts, scanning-ends, scanning-fits, scanning-none, scanning-order, scanning-inside, scanning-falls, scanning-kind, scanning-bounds, scanning-fault, scanning-more, needs)

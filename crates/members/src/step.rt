@@ -1,0 +1,58 @@
+// One line of a text: what it is to the rows, and what is counted with it.
+use crate::texts::Role;
+use crate::texts::role_of;
+use line::read_line;
+use mapping::Fates;
+use places::NextLine;
+use places::next_line;
+use scan::counted;
+use scan::fault;
+use scan::member_after;
+ghost use mathlib.Core.Path.{_≡_};
+ghost use Prim.Native.Nat.{_≤_};
+ghost use lib.ListN.{length};
+ghost use Rattle.scan.specs.Bounds.{Within};
+ghost use Rattle.members.specs.Steps.{StepBy};
+
+pub enum Step {
+    End,
+    Faulty {
+        number: u32,
+        line: u32,
+    },
+    // Where the line stands and where the next one starts; what is counted with it; what it is.
+    Line {
+        start: usize,
+        end: usize,
+        next: usize,
+        sum: Fates,
+        has_member: bool,
+        role: Role,
+    },
+}
+
+// The line at the place `at`, where `fates` is what became of those before it.
+pub fn next_step(text: &[u8], at: usize, fates: Fates, member: bool) -> Step
+    requires { ⌜ (length (now text) ≤ 1048576) × (at ≤ length (now text)) × Within fates at ⌝ }
+    ensures { λ r. ⌜ StepBy r (now (text .entry)) at fates member ⌝ }
+{
+    let NextLine::Line { start, end, next } = next_line(text, at) else {
+        return Step::End;
+    };
+    let kind = read_line(&text[start..end]);
+    let number = fault(fates.class, kind);
+    if number != 0 {
+        return Step::Faulty {
+            number,
+            line: fates.lines + 1,
+        };
+    }
+    Step::Line {
+        start,
+        end,
+        next,
+        sum: counted(fates, &text[start..end], kind, member),
+        has_member: member_after(member, kind),
+        role: role_of(kind),
+    }
+}
