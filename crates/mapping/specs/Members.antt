@@ -53,7 +53,7 @@ pub data Entry : Type 0 where
   field : ℕ → List ℕ → List ℕ → List ℕ → Entry  -- class row, raw name, raw descriptor, display name
   method : ℕ → List ℕ → List ℕ → List ℕ → List ℕ → Ranges → Entry  -- and display owner, ranges
 
--- the class line that a line stands under: the last of `count`, and the display descriptor of its class
+-- the class line that a line stands under: the last of `count`, and the display name of its class
 pub record Under : Type 0 where
   pub count : ℕ
   pub own : List ℕ
@@ -64,7 +64,7 @@ under n d = record { count = n; own = d }
 abbrev pub underAfter : Under → List ℕ → Line → Under
 underAfter u l Blank = u
 underAfter u l (Comment brace) = u
-underAfter u l (Class display raw) = under (u .count + 1) (classDescriptor (partOf l display))
+underAfter u l (Class display raw) = under (u .count + 1) (partOf l display)
 underAfter u l (Field declared name raw) = u
 underAfter u l (Method m raw) = u
 underAfter u l (Refused number) = u
@@ -76,7 +76,7 @@ nameOf l (Plain name) = partOf l name
 -- "no dot, the owner is this class line's display"
 abbrev pub ownerOf : List ℕ → List ℕ → Qualified → List ℕ
 ownerOf own l (Owned owner name) = classDescriptor (partOf l owner)
-ownerOf own l (Plain name) = own
+ownerOf own l (Plain name) = classDescriptor own
 
 -- the member of a line, if it is a member line; `signature` is the residual one, if there is one
 abbrev pub entryIn : List Pair → Under → Look → List ℕ → Line → List Entry
