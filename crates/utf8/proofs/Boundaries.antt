@@ -149,6 +149,10 @@ cut (more {b = b} c o) (y ∷ p) q f e =
     let (s, t) = cut o (w .between) q f (w .after) in
     (octets-as (sym (w .before)) (more c s), t)
 
+-- what stands before such a place, and what stands behind it
+pub cut-octets : (p q : List ℕ) → Fresh q → UTF8-octets (p ++ q) → UTF8-octets p × UTF8-octets q
+cut-octets p q f o = cut o p q f refl
+
 module _ {s : List ℕ} (o : UTF8-octets s) where
   module _ (i : ℕ) (f : Fresh (drop i s)) where
     both-octets : UTF8-octets (take i s) × UTF8-octets (drop i s)
@@ -176,7 +180,7 @@ check-any at k (End ∷ ps) e = refl
 check-any at k (Good d m ∷ ps) e = check-any (at + m) (k + m) ps e
 check-any at k (Bad m ∷ ps) e = absurd (let z : _≡_ {A = ℕ} 0 1 = cc in omega arith)
 
-good-rest : (l : List ℕ) {d m : ℕ} → sequenceOf l ≡ Good d m → UTF8-octets l → UTF8-octets (drop m l)
+pub good-rest : (l : List ℕ) {d m : ℕ} → sequenceOf l ≡ Good d m → UTF8-octets l → UTF8-octets (drop m l)
 unfolding checkFrom
 good-rest l {d} {m} e o =
     let whole : checkOf l ≡ Valid = valid-iff l .1 o in
