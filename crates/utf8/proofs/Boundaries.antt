@@ -94,7 +94,7 @@ shape (right (right (right (right (right (octet x e ⨾ octet y p ⨾ octet z q 
     a-lead 0xF4 0xF4 (omega arith) e (a-tail 0x80 0x8F (omega arith) (omega arith) p
     (a-tail 0x80 0xBF (omega arith) (omega arith) q (a-tail 0x80 0xBF (omega arith) (omega arith) o no-tail)))
 
-fresh-as : {s t : List ℕ} → s ≡ t → Fresh s → Fresh t
+pub fresh-as : {s t : List ℕ} → s ≡ t → Fresh s → Fresh t
 fresh-as e f = rw e at f
 
 shape-fresh : {a : List ℕ} → Shape a → (b : List ℕ) → Fresh (a ++ b)
