@@ -4,3 +4,4 @@ pub mod Numbers
 pub mod Sums
 pub mod Exactly
 pub mod First
+pub mod Octets
