@@ -5,3 +5,5 @@ pub mod Sums
 pub mod Exactly
 pub mod First
 pub mod Octets
+pub mod Formed
+pub mod Back
