@@ -1,10 +1,10 @@
 -- Parts of a list, as the code lends them. Assumes nothing.
 use mathlib.Core.Path.{_≡_, sym}
 use mathlib.Core.List.{List, [], _∷_}
-use Prim.Native.Nat.{ℕ, zero, suc, _-_, _≤_, _<_}
+use Prim.Native.Nat.{ℕ, zero, suc, _+_, _-_, _≤_, _<_}
 use native.Mathlib.Omega.{arith}
 use lib.ListN.{length, take, drop, length-take, length-drop}
-use lib.Seq.{take-all, take-nil}
+use lib.Seq.{take-all, take-nil, take-take, drop-drop}
 
 module _ {A : Type 0} where
   -- `&s[a..]` is what is left of `s`
@@ -24,3 +24,10 @@ module _ {A : Type 0} where
   drop-take (suc k) zero l = let z : 0 - suc k ≡ 0 = omega arith in rw z
   drop-take (suc k) (suc n) [] = sym (take-nil (suc n - suc k))
   drop-take (suc k) (suc n) (x ∷ l) = let z : suc n - suc k ≡ n - k = omega arith in rw z (drop-take k n l)
+
+  -- a part of a part
+  pub part-part : (s : List A) (a e x y : ℕ) → y ≤ e - a → take (y - x) (drop x (take (e - a) (drop a s))) ≡ take (a + y - (a + x)) (drop (a + x) s)
+  part-part s a e x y h =
+      let same : a + y - (a + x) ≡ y - x = omega arith in
+      let cut : take (y - x) (take (e - a - x) (drop x (drop a s))) ≡ take (y - x) (drop x (drop a s)) = take-take (y - x) (e - a - x) (drop x (drop a s)) (omega arith) in
+      rw (same, drop-take x (e - a) (drop a s), cut, drop-drop x a s)

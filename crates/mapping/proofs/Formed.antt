@@ -3,7 +3,7 @@ use mathlib.Core.Path.{_≡_, refl, sym, _∙_, ap}
 use mathlib.Core.Bool.{true, false}
 use mathlib.Core.List.{List, [], _∷_, _++_}
 use mathlib.Core.Logic.{_⊎_, inl, inr}
-use Prim.Native.Nat.{ℕ, suc, _+_, _-_, _≤_, _<_}
+use Prim.Native.Nat.{ℕ, _+_, _-_, _≤_, _<_}
 use native.Mathlib.Omega.{arith}
 use lib.ListN.{length, replicate, length-append, length-replicate}
 use borrow.Author.Tests.{eq-eqb}
@@ -30,21 +30,11 @@ use Rattle.mapping.specs.Fates.{fatesFrom, ownerless, faultOf, classLine
 use Rattle.mapping.specs.Classes.{classesOf, classText, classPool, classRow, classRows}
 use Rattle.mapping.specs.Members.{Entry, field, method, Under, under, underAfter, entryIn, entriesFrom, entryText, entryPool, entryRow, entryRows}
 use Rattle.mapping.specs.Loading.{Lent, entriesOf, poolOf, classRowsOf, memberRowsOf, answerOf, linesStr, linesParse, classesLeft, membersLeft, poolLeft}
+use Rattle.mapping.proofs.Appended.{class-rows-length, entry-rows-length}
 use Rattle.mapping.proofs.Sums.{fates-sum, class-count, member-count}
 use Rattle.mapping.proofs.First.{Clean, sound-clean, classes-cons}
 use Rattle.mapping.proofs.Exactly.{Fitted, loaded-iff, loaded-leaves}
 use Rattle.mapping.proofs.Octets.{EntryOctets, Entries, no-entry, an-entry, str-texts, parse-texts, pool-texts}
-
--- As many rows as classes and members.
-pub class-rows-length : (p : ℕ) (cs : List Pair) → length (classRows p cs) ≡ length cs
-unfolding classRows
-class-rows-length p [] = refl
-class-rows-length p (c ∷ cs) = ap suc (class-rows-length (p + length (classText c)) cs)
-
-pub entry-rows-length : (p : ℕ) (es : List Entry) → length (entryRows p es) ≡ length es
-unfolding entryRows
-entry-rows-length p [] = refl
-entry-rows-length p (e ∷ es) = ap suc (entry-rows-length (p + length (entryText e)) es)
 
 -- A member's class row: a member line is sound only behind a class line.
 classNumber : Entry → ℕ

@@ -1,5 +1,6 @@
 -- Laws of the rules, one file a subject.
 pub mod Tally
+pub mod Appended
 pub mod Numbers
 pub mod Sums
 pub mod Exactly

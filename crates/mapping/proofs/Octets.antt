@@ -32,7 +32,8 @@ use Rattle.descriptor.specs.Pieces.{Pair, Look, known, unknown, orLook}
 use Rattle.descriptor.proofs.Octets.{class-octets, type-octets, raw-octets, join-octets, Pairs, no-pair, a-pair, back-octets}
 use Rattle.mapping.specs.Comments.{saysResidual, stringAt, signatureBy, signatureOf, signatureAt, residualBy, residualIn}
 use Rattle.mapping.specs.Classes.{classIn, classesOf}
-use Rattle.mapping.specs.Members.{rawTypeOf, fieldDescriptor, typesDescriptor, methodDescriptor, Entry, field, method, Under, under, underAfter, nameOf, ownerOf, entryIn, entriesFrom}
+use Rattle.raw_types.specs.Raw.{rawTypeOf}
+use Rattle.mapping.specs.Members.{fieldDescriptor, typesDescriptor, methodDescriptor, Entry, field, method, Under, under, underAfter, nameOf, ownerOf, entryIn, entriesFrom}
 use Rattle.mapping.specs.Loading.{entriesOf, linesStr, linesParse}
 
 -- Signatures of comments.

@@ -13,17 +13,13 @@ use Rattle.line.specs.Spans.{partOf}
 use Rattle.line.specs.Arguments.{argumentsOf}
 use Rattle.line.specs.Kinds.{lineOf}
 use Rattle.descriptor.specs.Names.{classDescriptor}
-use Rattle.descriptor.specs.Types.{typeDescriptor}
 use Rattle.descriptor.specs.Signatures.{rawSignature}
-use Rattle.descriptor.specs.Pieces.{Pair, Look, known, unknown, join, turn, back}
+use Rattle.descriptor.specs.Pieces.{Pair, Look, known, unknown, join}
 use Rattle.tables.specs.declared.rows.Ranges.{Ranges}
 use Rattle.tables.specs.declared.rows.Ranges.the-variants.{None, Display, Both}
 use Rattle.tables.specs.Rows.{text, packMember}
+use Rattle.raw_types.specs.Raw.{rawTypeOf}
 use Rattle.mapping.specs.Comments.{residualIn}
-
--- "raw descriptors come from display types, each class piece turned to raw"
-abbrev pub rawTypeOf : List Pair → List ℕ → List ℕ
-rawTypeOf cs t = turn (back cs) (typeDescriptor t)
 
 -- the raw descriptor of a field: that of its residual signature, else that of its display type
 abbrev pub fieldDescriptor : List Pair → Look → List ℕ → List ℕ

@@ -1,12 +1,11 @@
 -- The comments after a member, one line after the other. Assumes nothing.
 use mathlib.Core.Path.{_≡_, refl, sym, _∙_, ap}
 use mathlib.Core.List.{List, []}
-use Prim.Native.Nat.{ℕ, _+_, _-_, _^_, _≤_, _<_}
+use Prim.Native.Nat.{ℕ, _-_, _^_, _≤_, _<_}
 use native.Mathlib.Omega.{arith}
 use lib.ListN.{length, take, drop, length-take, length-drop}
-use lib.Seq.{drop-drop, take-take}
 use borrow.Author.Needs.{needs}
-use Rattle.ground.proofs.Parts.{drop-take}
+use Rattle.ground.proofs.Parts.{part-part}
 use Rattle.places.specs.declared.find.Place.{Place}
 use Rattle.places.specs.declared.find.Place.the-variants.{At}
 use Rattle.places.specs.declared.lines.NextLine.{NextLine}
@@ -66,13 +65,6 @@ comment-is (kinds.Class d r) e = absurd (let z : _≡_ {A = ℕ} 0 1 = cc in ome
 comment-is (kinds.Field d n r) e = absurd (let z : _≡_ {A = ℕ} 0 1 = cc in omega arith)
 comment-is (kinds.Method m r) e = absurd (let z : _≡_ {A = ℕ} 0 1 = cc in omega arith)
 comment-is (kinds.Refused n) e = absurd (let z : _≡_ {A = ℕ} 0 1 = cc in omega arith)
-
--- a part of a part
-part-part : (s : List ℕ) (a e x y : ℕ) → y ≤ e - a → take (y - x) (drop x (take (e - a) (drop a s))) ≡ take (a + y - (a + x)) (drop (a + x) s)
-part-part s a e x y h =
-    let same : a + y - (a + x) ≡ y - x = omega arith in
-    let cut : take (y - x) (take (e - a - x) (drop x (drop a s))) ≡ take (y - x) (drop x (drop a s)) = take-take (y - x) (e - a - x) (drop x (drop a s)) (omega arith) in
-    rw (same, drop-take x (e - a) (drop a s), cut, drop-drop x a s)
 
 -- what is found in a line is found in the text, else what was found before
 later-look : (s : List ℕ) (a e : ℕ) (found own : Residual) → Lies (jsonPart own) (length (take (e - a) (drop a s))) →

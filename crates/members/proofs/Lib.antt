@@ -1,0 +1,5 @@
+-- Laws, one file a subject.
+pub mod Signing
+pub mod Typing
+pub mod Rowed
+pub mod Texting

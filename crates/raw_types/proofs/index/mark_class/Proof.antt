@@ -1,0 +1,26 @@
+-- `raw_types::index::mark_class` meets its contract, by the laws of Marking.
+use Rattle.raw_types.proofs.Marking.{class-marking}
+use Rattle.raw_types.proofs.index.mark_class.Statement.{statement}
+use Rattle.raw_types.proofs.index.mark_class.Tie as tie
+use Rattle.raw_types.proofs.index.mark_class.Reads as reads
+use Rattle.raw_types.proofs.index.mark_class.Lts as lts
+use Rattle.raw_types.proofs.index.mark_of.Reads as mark-of-reads
+
+mark-of-requires : tie.Need-mark-of-requires
+mark-of-requires c κs = search class-marking
+
+mul-index : tie.Need-mul-index
+mul-index c = search class-marking
+
+slice-write-index : tie.Need-slice-write-index
+slice-write-index c = search class-marking
+
+same-length : tie.Need-same-length
+same-length c = search class-marking
+
+returns : tie.Need-returns
+returns c = search class-marking
+
+pub mark-class-spec : {M : Type 1} → statement M
+mark-class-spec =
+    tie.close (tie.spec mark-of-requires mul-index slice-write-index same-length returns)

@@ -1,0 +1,66 @@
+-- `raw_types::index::mark_of` meets its contract, by the laws of Marking and an invariant that says what is done and what is left.
+use Rattle.raw_types.proofs.Marking.{marking, Marks}
+use Prim.Native.Nat.{_-_}
+use lib.ListN.{length}
+use Rattle.raw_types.proofs.index.mark_of.Statement.{statement}
+use Rattle.raw_types.proofs.index.mark_of.Tie as tie
+use Rattle.raw_types.proofs.index.mark_of.Reads as reads
+use Rattle.raw_types.proofs.index.mark_of.Lts as lts
+use Rattle.raw_types.proofs.index.slash_number.Reads as slash-number-reads
+
+abbrev Inv-loop : tie.InvT-loop
+Inv-loop name mark₀ k₀ mark k = Marks name mark k
+
+abbrev μ-loop : tie.MeasureT-loop
+μ-loop name mark₀ k₀ mark k = length name - k
+
+loop-holds : tie.Need-loop-holds Inv-loop μ-loop
+loop-holds c = search marking
+
+mul-mark : tie.Need-mul-mark Inv-loop μ-loop
+mul-mark c = search marking
+
+shared-slice-read-slash-number : tie.Need-shared-slice-read-slash-number Inv-loop μ-loop
+shared-slice-read-slash-number c = search marking
+
+slash-number-requires : tie.Need-slash-number-requires Inv-loop μ-loop
+slash-number-requires c κs = search marking
+
+add-mark : tie.Need-add-mark Inv-loop μ-loop
+add-mark c = search marking
+
+add-k : tie.Need-add-k Inv-loop μ-loop
+add-k c = search marking
+
+loop-less : tie.Need-loop-less Inv-loop μ-loop
+loop-less c = search marking
+
+loop-again : tie.Need-loop-again Inv-loop μ-loop
+loop-again c = search marking
+
+mul-result : tie.Need-mul-result Inv-loop μ-loop
+mul-result c = search marking
+
+add-result : tie.Need-add-result Inv-loop μ-loop
+add-result c = search marking
+
+returns : tie.Need-returns Inv-loop μ-loop
+returns c = search marking
+
+pub mark-of-spec : {M : Type 1} → statement M
+mark-of-spec =
+    tie.close
+    (tie.spec
+    Inv-loop
+    μ-loop
+    loop-holds
+    mul-mark
+    shared-slice-read-slash-number
+    slash-number-requires
+    add-mark
+    add-k
+    loop-less
+    loop-again
+    mul-result
+    add-result
+    returns)
