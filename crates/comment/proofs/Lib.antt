@@ -3,3 +3,4 @@ pub mod Listing
 pub mod Values
 pub mod Answers
 pub mod Grammatical
+pub mod Strings

@@ -4,3 +4,4 @@ pub mod Typing
 pub mod Settling
 pub mod Parted
 pub mod Turning
+pub mod Octets

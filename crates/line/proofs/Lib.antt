@@ -6,3 +6,5 @@ pub mod Methods
 pub mod Kinding
 pub mod Listed
 pub mod Whole
+pub mod Octets
+pub mod Telling

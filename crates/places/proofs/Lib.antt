@@ -3,3 +3,4 @@ pub mod PlaceLaws
 pub mod LineLaws
 pub mod Holds
 pub mod Taking
+pub mod Found

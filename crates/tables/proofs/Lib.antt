@@ -5,3 +5,4 @@ pub mod TextLaws
 pub mod Searching
 pub mod Checking
 pub mod Tested
+pub mod Holding

@@ -2,3 +2,4 @@
 pub mod Ranges
 pub mod TrimLaws
 pub mod Sync
+pub mod Cuts

@@ -5,3 +5,4 @@ pub mod Pieces
 pub mod Ascii
 pub mod Checking
 pub mod Grammatical
+pub mod Boundaries
