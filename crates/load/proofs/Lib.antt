@@ -1,0 +1,4 @@
+-- Laws, one file a subject.
+pub mod Deciding
+pub mod Writing
+pub mod Leaving

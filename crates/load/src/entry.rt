@@ -1,0 +1,115 @@
+// The entry points.
+use crate::fill::load_into;
+use mapping::Load;
+use tables::ClassRow;
+use tables::MOST_CLASSES;
+use tables::MOST_MEMBERS;
+use tables::MOST_POOL;
+use tables::MemberRow;
+use tables::zero_bytes;
+use tables::zero_classes;
+use tables::zero_members;
+use text::after_marks;
+use utf8::Check;
+use utf8::check_text;
+ghost use mathlib.Core.Path.{_≡_};
+ghost use Prim.Native.Nat.{_≤_, min};
+ghost use lib.ListN.{length, drop, replicate};
+ghost use Rattle.places.specs.Lines.{lines};
+ghost use Rattle.tables.specs.Rows.{zeroClass, zeroMember};
+ghost use Rattle.mapping.specs.Loading.{isLoaded, linesParse, linesStr};
+ghost use Rattle.load.specs.Loads.{Cleared, Left, Loads};
+
+fn lesser(a: usize, b: usize) -> usize
+    ensures { λ r. ⌜ r ≡ min a b ⌝ }
+{
+    if a < b {
+        return a;
+    }
+    b
+}
+
+fn is_loaded(load: Load) -> bool
+    ensures { λ r. ⌜ r ≡ isLoaded load ⌝ }
+{
+    match load {
+        Load::Loaded { fates: _, names: _ } => true,
+        Load::TooLong => false,
+        Load::NotUtf8 {
+            valid: _,
+            length: _,
+        } => false,
+        Load::Faulty { number: _, line: _ } => false,
+        Load::NoClasses => false,
+        Load::FewClassRows => false,
+        Load::FewMemberRows => false,
+        Load::ShortPool => false,
+    }
+}
+
+// All that is lent is made zero.
+fn clear(classes: &mut [ClassRow], members: &mut [MemberRow], pool: &mut [u8])
+    ensures { λ _. ⌜ Cleared (length (now (classes .entry))) (length (now (members .entry))) (length (now (pool .entry))) (now (classes .exit)) (now (members .exit)) (now (pool .exit)) ⌝ }
+{
+    zero_classes(classes);
+    zero_members(members);
+    zero_bytes(pool);
+}
+
+// The lines of a text, whose UTF-8 and length are checked. A longer lent slice counts as the largest number of rows or bytes.
+fn load_lines(text: &[u8], classes: &mut [ClassRow], members: &mut [MemberRow], pool: &mut [u8]) -> Load
+    requires { ⌜ length (now text) ≤ 1048576 ⌝ }
+    ensures { λ r. ⌜ Left r (lines (now (text .entry))) (length (now (classes .entry))) (length (now (members .entry))) (length (now (pool .entry))) (now (classes .exit)) (now (members .exit)) (now (pool .exit)) ⌝ }
+{
+    clear(classes, members, pool);
+    let class_rows = lesser(classes.len(), MOST_CLASSES);
+    let member_rows = lesser(members.len(), MOST_MEMBERS);
+    let bytes = lesser(pool.len(), MOST_POOL);
+    let load = load_into(
+        text,
+        &mut classes[..class_rows],
+        &mut members[..member_rows],
+        &mut pool[..bytes],
+    );
+    if is_loaded(load) {
+        return load;
+    }
+    clear(classes, members, pool);
+    load
+}
+
+// The lines of a text from the place `start` on.
+fn load_from(text: &[u8], start: usize, classes: &mut [ClassRow], members: &mut [MemberRow], pool: &mut [u8]) -> Load
+    requires { ⌜ start ≤ length (now text) ⌝ }
+    ensures { λ r. ⌜ Loads r (now (text .entry)) (lines (drop start (now (text .entry)))) (length (now (classes .entry))) (length (now (members .entry))) (length (now (pool .entry))) (now (classes .exit)) (now (members .exit)) (now (pool .exit)) ⌝ }
+{
+    if 1048576 < text.len() {
+        clear(classes, members, pool);
+        return Load::TooLong;
+    }
+    match check_text(text) {
+        Check::Valid => load_lines(&text[start..], classes, members, pool),
+        Check::Broken { at, length } => {
+            clear(classes, members, pool);
+            Load::NotUtf8 {
+                valid: at as u32,
+                length: length as u32,
+            }
+        }
+    }
+}
+
+// Loads a text as it is.
+pub fn parse_str(text: &[u8], classes: &mut [ClassRow], members: &mut [MemberRow], pool: &mut [u8]) -> Load
+    ensures { λ r. ⌜ Loads r (now (text .entry)) (linesStr (now (text .entry))) (length (now (classes .entry))) (length (now (members .entry))) (length (now (pool .entry))) (now (classes .exit)) (now (members .exit)) (now (pool .exit)) ⌝ }
+{
+    load_from(text, 0, classes, members, pool)
+}
+
+// Loads a text without every leading U+FEFF.
+pub fn parse(text: &[u8], classes: &mut [ClassRow], members: &mut [MemberRow], pool: &mut [u8]) -> Load
+    ensures { λ r. ⌜ Loads r (now (text .entry)) (linesParse (now (text .entry))) (length (now (classes .entry))) (length (now (members .entry))) (length (now (pool .entry))) (now (classes .exit)) (now (members .exit)) (now (pool .exit)) ⌝ }
+{
+    let start = after_marks(text);
+    load_from(text, start, classes, members, pool)
+}

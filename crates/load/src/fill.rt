@@ -1,0 +1,90 @@
+// The rows and the pool of a text whose UTF-8 and length are checked.
+use classes::Classes;
+use classes::write_classes;
+use mapping::Fates;
+use mapping::Load;
+use mapping::Scan;
+use members::Filled;
+use members::write_members;
+use scan::scan_from;
+use tables::ClassRow;
+use tables::MemberRow;
+ghost use mathlib.Core.Path.{_≡_};
+ghost use Prim.Native.Nat.{_≤_};
+ghost use lib.ListN.{length};
+ghost use Rattle.places.specs.Lines.{lines};
+ghost use Rattle.mapping.specs.Fates.{scanOf};
+ghost use Rattle.load.specs.Into.{Limits, Counted, refusedOf, acceptedOf, IntoBy};
+
+// The answer where rows or pool are too few: the first faulty line, else what is missing first.
+fn refused(scan: Scan, class_rows: usize, member_rows: usize) -> Load
+    requires { ⌜ Counted scan ⌝ }
+    ensures { λ r. ⌜ r ≡ refusedOf scan «class_rows» «member_rows» ⌝ }
+{
+    match scan {
+        Scan::Faulty { number, line } => Load::Faulty { number, line },
+        Scan::Sound(fates) => {
+            if fates.class == 0 {
+                return Load::NoClasses;
+            }
+            if class_rows < fates.class as usize {
+                return Load::FewClassRows;
+            }
+            if member_rows < (fates.field + fates.method) as usize {
+                return Load::FewMemberRows;
+            }
+            Load::ShortPool
+        }
+    }
+}
+
+// What becomes of all lines.
+fn scan_all(text: &[u8]) -> Scan
+    requires { ⌜ length (now text) ≤ 1048576 ⌝ }
+    ensures { λ r. ⌜ r ≡ scanOf (lines (now (text .entry))) ⌝ }
+{
+    let none = Fates {
+        lines: 0,
+        blank: 0,
+        applied: 0,
+        idle: 0,
+        class: 0,
+        field: 0,
+        method: 0,
+        short: 0,
+    };
+    scan_from(text, 0, none, false)
+}
+
+// The answer once all is written.
+fn accepted(fates: Fates, end: usize) -> Load
+    requires { ⌜ «end» ≤ 4194304 ⌝ }
+    ensures { λ r. ⌜ r ≡ acceptedOf fates «end» ⌝ }
+{
+    if fates.class == 0 {
+        return Load::NoClasses;
+    }
+    Load::Loaded {
+        fates,
+        names: end as u32,
+    }
+}
+
+// Rows and pool of a text. Where they are too few, what is left in them is the caller's to clear.
+pub fn load_into(text: &[u8], classes: &mut [ClassRow], members: &mut [MemberRow], pool: &mut [u8]) -> Load
+    requires { ⌜ Limits (length (now text)) (length (now classes)) (length (now members)) (length (now pool)) ⌝ }
+    ensures { λ r. ⌜ IntoBy r (lines (now (text .entry))) (now (classes .entry)) (now (members .entry)) (now (pool .entry)) (now (classes .exit)) (now (members .exit)) (now (pool .exit)) ⌝ }
+{
+    let class_rows = classes.len();
+    let member_rows = members.len();
+    let mut index = [0u16; 8192];
+    match write_classes(text, classes, &mut index, pool) {
+        Classes::Written { count, end } => match write_members(text, &classes[..count], &index, members, pool, end) {
+            Filled::Written { fates, end: names } => accepted(fates, names),
+            Filled::Faulty { number, line } => Load::Faulty { number, line },
+            Filled::Short(scan) => refused(scan, class_rows, member_rows),
+        },
+        Classes::FewRows => refused(scan_all(text), class_rows, member_rows),
+        Classes::ShortPool => refused(scan_all(text), class_rows, member_rows),
+    }
+}
