@@ -3,3 +3,4 @@ pub mod Spelling
 pub mod Adding
 pub mod Telling
 pub mod Bounds
+pub mod Reading

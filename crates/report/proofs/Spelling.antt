@@ -16,11 +16,11 @@ use Rattle.descriptor.specs.Wrote.{WroteBy}
 use Rattle.raw_types.proofs.Writing.{wrote-as}
 use Rattle.report.specs.Digits.{digits, decimal}
 
-one-digit : (k n : ℕ) → n ≤ 9 → digits (suc k) n ≡ (48 + n % 10) ∷ []
+pub one-digit : (k n : ℕ) → n ≤ 9 → digits (suc k) n ≡ (48 + n % 10) ∷ []
 unfolding digits
 one-digit k n h = rw (le-leb n 9 h)
 
-more-digits : (k n : ℕ) → 9 < n → digits (suc k) n ≡ digits k (n / 10) ++ ((48 + n % 10) ∷ [])
+pub more-digits : (k n : ℕ) → 9 < n → digits (suc k) n ≡ digits k (n / 10) ++ ((48 + n % 10) ∷ [])
 unfolding digits
 more-digits k n h = rw (lt-leb n 9 h)
 
