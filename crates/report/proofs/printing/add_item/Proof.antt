@@ -1,0 +1,23 @@
+-- `report::printing::add_item` meets its contract, by the laws of Adding.
+use Rattle.report.proofs.Adding.{adding}
+use Rattle.report.proofs.printing.add_item.Statement.{statement}
+use Rattle.report.proofs.printing.add_item.Tie as tie
+use Rattle.report.proofs.printing.add_item.Reads as reads
+use Rattle.report.proofs.printing.add_item.Lts as lts
+use Rattle.report.proofs.printing.add_decimal.Reads as add-decimal-reads
+use Rattle.report.proofs.printing.add_text.Reads as add-text-reads
+
+add-text-requires : tie.Need-add-text-requires
+add-text-requires c κs = search adding
+
+add-decimal-requires : tie.Need-add-decimal-requires
+add-decimal-requires c κs = search adding
+
+same-length : tie.Need-same-length
+same-length c = search adding
+
+returns : tie.Need-returns
+returns c = search adding
+
+pub add-item-spec : {M : Type 1} → statement M
+add-item-spec = tie.close (tie.spec add-text-requires add-decimal-requires same-length returns)

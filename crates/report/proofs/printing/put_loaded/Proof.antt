@@ -1,0 +1,50 @@
+-- `report::printing::put_loaded` meets its contract, by the laws of Adding.
+use Rattle.report.proofs.Adding.{adds-adds, first-of-all}
+use Rattle.ground.specs.Ascii.{ascii}
+use Rattle.report.proofs.Adding.{adding}
+use Rattle.report.proofs.printing.put_loaded.Statement.{statement}
+use Rattle.report.proofs.printing.put_loaded.Tie as tie
+use Rattle.report.proofs.printing.put_loaded.Reads as reads
+use Rattle.report.proofs.printing.put_loaded.Lts as lts
+use Rattle.report.proofs.printing.add_item.Reads as add-item-reads
+use Rattle.report.proofs.printing.add_lines.Reads as add-lines-reads
+use Rattle.report.proofs.printing.add_rows.Reads as add-rows-reads
+use Rattle.report.proofs.printing.add_text.Reads as add-text-reads
+
+add-lines-requires : tie.Need-add-lines-requires
+add-lines-requires c κs = search adding
+
+add-rows-requires : tie.Need-add-rows-requires
+add-rows-requires c κs = search adding
+
+slice-aggregate-add-item : tie.Need-slice-aggregate-add-item
+slice-aggregate-add-item c = search adding
+
+add-item-requires : tie.Need-add-item-requires
+add-item-requires c κs = search adding
+
+slice-aggregate-add-text : tie.Need-slice-aggregate-add-text
+slice-aggregate-add-text c = search adding
+
+add-text-requires : tie.Need-add-text-requires
+add-text-requires c κs = search adding
+
+same-length : tie.Need-same-length
+same-length c = search adding
+
+returns : tie.Need-returns
+unfolding ascii
+returns c = first-of-all (adds-adds (c .before .before .before .before .before .before .before .before .before .before .before .before .before .before .before .before .add-lines .ensures) (adds-adds (c .before .before .before .before .before .before .before .before .before .before .before .before .add-rows .ensures) (adds-adds (c .before .before .before .before .before .before .before .add-item .ensures) (c .before .before .add-text .ensures))))
+
+pub put-loaded-spec : {M : Type 1} → statement M
+put-loaded-spec =
+    tie.close
+    (tie.spec
+    add-lines-requires
+    add-rows-requires
+    slice-aggregate-add-item
+    add-item-requires
+    slice-aggregate-add-text
+    add-text-requires
+    same-length
+    returns)

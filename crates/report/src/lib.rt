@@ -1,0 +1,5 @@
+// What the loading program prints.
+mod decimal;
+mod printing;
+
+pub use printing::report_line;
