@@ -23,14 +23,14 @@ fn refused(scan: Scan, class_rows: usize, member_rows: usize) -> Load
 {
     match scan {
         Scan::Faulty { number, line } => Load::Faulty { number, line },
-        Scan::Sound(fates) => {
-            if fates.class == 0 {
+        Scan::Sound(sum) => {
+            if sum.class == 0 {
                 return Load::NoClasses;
             }
-            if class_rows < fates.class as usize {
+            if class_rows < sum.class as usize {
                 return Load::FewClassRows;
             }
-            if member_rows < (fates.field + fates.method) as usize {
+            if member_rows < (sum.field + sum.method) as usize {
                 return Load::FewMemberRows;
             }
             Load::ShortPool

@@ -6,3 +6,4 @@ pub mod Ascii
 pub mod Checking
 pub mod Grammatical
 pub mod Boundaries
+pub mod Lengths

@@ -1,0 +1,41 @@
+-- The answer as numbers. Assumes nothing.
+use mathlib.Core.Path.{_≡_, refl, sym, _∙_, ap}
+use mathlib.Core.List.{List}
+use Prim.Native.Nat.{ℕ}
+use borrow.Author.Needs.{needs}
+use Rattle.mapping.specs.declared.Fates.{Fates}
+use Rattle.mapping.specs.declared.Load.{Load}
+use Rattle.mapping.specs.declared.Load.the-variants.{TooLong, NotUtf8, Faulty, NoClasses, FewClassRows, FewMemberRows, ShortPool}
+use Rattle.load.specs.Loads.{Loads}
+use Rattle.capi.specs.Answers.{refusalNumbers, answerNumbers, Answers}
+
+module _ {r : Load} {a : List ℕ} where
+  pub too-long-numbers : r ≡ TooLong → a ≡ refusalNumbers 1 0 0 → a ≡ answerNumbers r
+  too-long-numbers e f = f ∙ sym (ap answerNumbers e)
+
+  pub not-utf8-numbers : {valid len : ℕ} → r ≡ NotUtf8 valid len → a ≡ refusalNumbers 2 valid len → a ≡ answerNumbers r
+  not-utf8-numbers e f = f ∙ sym (ap answerNumbers e)
+
+  pub faulty-numbers : {number line : ℕ} → r ≡ Faulty number line → a ≡ refusalNumbers number line 0 → a ≡ answerNumbers r
+  faulty-numbers e f = f ∙ sym (ap answerNumbers e)
+
+  pub no-classes-numbers : r ≡ NoClasses → a ≡ refusalNumbers 8 0 0 → a ≡ answerNumbers r
+  no-classes-numbers e f = f ∙ sym (ap answerNumbers e)
+
+  pub few-class-rows-numbers : r ≡ FewClassRows → a ≡ refusalNumbers 9 0 0 → a ≡ answerNumbers r
+  few-class-rows-numbers e f = f ∙ sym (ap answerNumbers e)
+
+  pub few-member-rows-numbers : r ≡ FewMemberRows → a ≡ refusalNumbers 10 0 0 → a ≡ answerNumbers r
+  few-member-rows-numbers e f = f ∙ sym (ap answerNumbers e)
+
+  pub short-pool-numbers : r ≡ ShortPool → a ≡ refusalNumbers 11 0 0 → a ≡ answerNumbers r
+  short-pool-numbers e f = f ∙ sym (ap answerNumbers e)
+
+pub ruleset numbering =
+  (too-long-numbers, not-utf8-numbers, faulty-numbers, no-classes-numbers, few-class-rows-numbers, few-member-rows-numbers, short-pool-numbers, needs)
+
+pub answered : {r : Load} {s : List ℕ} {ls : List (List ℕ)} {nc nm np : ℕ} {c m : List (List ℕ)} {p : List ℕ} → Loads r s ls nc nm np c m p → {a : List ℕ} → a ≡ answerNumbers r →
+    Answers s ls nc nm np c m p a
+answered k e = record { numbers = e ∙ ap answerNumbers (k .answer); classes = k .classes; members = k .members; pool = k .pool }
+
+pub ruleset answering = (answered, needs)

@@ -1,0 +1,90 @@
+-- The entry points: length and UTF-8 first, then the lines. Assumes nothing.
+use mathlib.Core.Path.{_≡_, refl, sym, _∙_, ap}
+use mathlib.Core.Bool.{Bool, true, false}
+use mathlib.Core.List.{List, _++_}
+use Prim.Native.Nat.{ℕ, _+_, _-_, _≤_, _<_}
+use native.Mathlib.Omega.{arith}
+use lib.Dec.{eqb}
+use lib.ListN.{length, take, drop, replicate, length-take}
+use mir.Val.{Fits}
+use mir.Syntax.{w32}
+use borrow.Author.Tests.{lt-ltb, le-ltb}
+use borrow.Author.Needs.{needs}
+use Rattle.ground.specs.Choice.{pick}
+use Rattle.ground.proofs.Parts.{take-rest}
+use Rattle.places.specs.Lines.{lines}
+use Rattle.utf8.specs.declared.check.Check.{Check}
+use Rattle.utf8.specs.declared.check.Check.the-variants.{Valid, Broken}
+use Rattle.utf8.specs.Utf8.{checkOf}
+use Rattle.utf8.proofs.Grammatical.{broken-breaks}
+use Rattle.utf8.proofs.Lengths.{broken-short}
+use Rattle.text.specs.Trim.{afterMarks}
+use Rattle.text.proofs.TrimLaws.{run-inside}
+use Rattle.tables.specs.Rows.{zeroClass, zeroMember}
+use Rattle.mapping.specs.declared.Load.{Load}
+use Rattle.mapping.specs.declared.Load.the-variants.{TooLong, NotUtf8}
+use Rattle.mapping.specs.Loading.{counting, linesLoad, checked, answerOf, isLoaded, leaves, classRowsOf, memberRowsOf, poolOf, linesParse}
+use Rattle.load.specs.Into.{lent}
+use Rattle.load.specs.Loads.{Cleared, Left, Loads}
+
+module _ (s : List ℕ) (ls : List (List ℕ)) (nc nm np : ℕ) {c m : List (List ℕ)} {p : List ℕ} where
+  -- a refusal, and all is zero
+  refused-all : {r : Load} → r ≡ answerOf s ls (lent nc nm np) → isLoaded r ≡ false → Cleared nc nm np c m p → Loads r s ls nc nm np c m p
+  refused-all e no k =
+      let not : isLoaded (answerOf s ls (lent nc nm np)) ≡ false = ap isLoaded (sym e) ∙ no in
+      record {
+        answer = e;
+        classes = k .classes ∙ sym (ap (λ q. pick q (classRowsOf ls ++ replicate (nc - length (classRowsOf ls)) zeroClass) (replicate nc zeroClass)) not);
+        members = k .members ∙ sym (ap (λ q. pick q (memberRowsOf ls ++ replicate (nm - length (memberRowsOf ls)) zeroMember) (replicate nm zeroMember)) not);
+        pool = k .pool ∙ sym (ap (λ q. pick q (poolOf ls ++ replicate (np - length (poolOf ls)) 0) (replicate np 0)) not);
+      }
+
+  pub loads-too-long : 1048576 < length s → Cleared nc nm np c m p → Loads TooLong s ls nc nm np c m p
+  loads-too-long h k = refused-all (sym (rw (lt-ltb 1048576 (length s) h))) refl k
+
+  module _ (h : length s ≤ 1048576) {t : Check} (e : t ≡ checkOf s) where
+    short : answerOf s ls (lent nc nm np) ≡ checked (checkOf s) ls (counting (lent nc nm np))
+    short = rw (le-ltb 1048576 (length s) h)
+
+    module _ {at k : ℕ} (f : t ≡ Broken at k) where
+      pub loads-not-utf8 : Cleared nc nm np c m p → Loads (NotUtf8 at k) s ls nc nm np c m p
+      loads-not-utf8 z = refused-all (sym (short ∙ ap (λ x. checked x ls (counting (lent nc nm np))) (sym e ∙ f))) refl z
+
+    pub loads-lines : t ≡ Valid → {r : Load} → Left r ls nc nm np c m p → Loads r s ls nc nm np c m p
+    loads-lines f {r} k =
+        let is : r ≡ answerOf s ls (lent nc nm np) = k .answer ∙ sym (short ∙ ap (λ x. checked x ls (counting (lent nc nm np))) (sym e ∙ f)) in
+        record {
+          answer = is;
+          classes = k .classes ∙ ap (λ x. leaves zeroClass nc x (classRowsOf ls)) is;
+          members = k .members ∙ ap (λ x. leaves zeroMember nm x (memberRowsOf ls)) is;
+          pool = k .pool ∙ ap (λ x. leaves 0 np x (poolOf ls)) is;
+        }
+
+module _ (s : List ℕ) (h : length s ≤ 1048576) {t : Check} (e : t ≡ checkOf s) {at k : ℕ} (f : t ≡ Broken at k) where
+  pub place-fits : Fits w32 at
+  place-fits = let b = broken-breaks s (sym e ∙ f) .inside in omega arith
+
+  pub length-fits : Fits w32 k
+  length-fits = let b = broken-short s (sym e ∙ f) in omega arith
+
+-- the text from a place on
+pub rest-short : (s : List ℕ) (start : ℕ) → length s ≤ 1048576 → length (take (length s - start) (drop start s)) ≤ 1048576
+rest-short s start h = let a = length-take (length s - start) (drop start s) in omega arith
+
+pub loads-rest : (s : List ℕ) (start nc nm np : ℕ) {c m : List (List ℕ)} {p : List ℕ} → length s ≤ 1048576 → {t : Check} → t ≡ checkOf s → t ≡ Valid → {r : Load} →
+    Left r (lines (take (length s - start) (drop start s))) nc nm np c m p → Loads r s (lines (drop start s)) nc nm np c m p
+loads-rest s start nc nm np {c} {m} {p} h e f {r} k =
+    let k₁ : Left r (lines (drop start s)) nc nm np c m p = rw (take-rest s start) at k in
+    loads-lines s (lines (drop start s)) nc nm np h e f k₁
+
+pub ruleset answering = (loads-too-long, loads-not-utf8, loads-rest, place-fits, length-fits, rest-short, needs)
+
+-- `parse`
+module _ (s : List ℕ) {start : ℕ} (e : start ≡ afterMarks s) where
+  pub marks-inside : start ≤ length s
+  marks-inside = let i = run-inside (eqb 0xFEFF) s in omega arith
+
+  pub marks-dropped : (nc nm np : ℕ) {r : Load} {c m : List (List ℕ)} {p : List ℕ} → Loads r s (lines (drop start s)) nc nm np c m p → Loads r s (linesParse s) nc nm np c m p
+  marks-dropped nc nm np k = rw e at k
+
+pub ruleset marking = (marks-inside, marks-dropped, needs)

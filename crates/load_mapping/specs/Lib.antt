@@ -1,0 +1,2 @@
+-- What the loading program answers.
+pub mod Program
