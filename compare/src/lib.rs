@@ -44,6 +44,7 @@ pub mod ranges;
 pub mod reading;
 pub mod report;
 pub mod texts;
+pub mod timing;
 pub mod trims;
 pub mod utf8;
 pub mod white;
