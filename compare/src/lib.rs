@@ -4,8 +4,8 @@
 //! A subject is one function and its judge (`report`), run over cases (`case`) that are made one after another
 //! (`every`, `texts`, `comment_texts` with `comment_parts`, `part_texts`). `reading` has both answers about a comment,
 //! `parts` those about a line, by way of `original`. For loading, `plain` is a program of its own: `load_tables` holds it
-//! against the original, `load_rooms` the proved program against it, over `load_texts` and `load_largest`. Each of the
-//! other modules is one part of the comparison; `main` lists them.
+//! against the original, `load_rooms` the proved program against it, over `load_texts`, `load_files` and `load_largest`;
+//! `load_examples` has answers of its own. Each of the other modules is one part of the comparison; `main` lists them.
 
 pub mod arguments;
 pub mod bytes;
@@ -19,6 +19,8 @@ pub mod every;
 #[cfg(original)]
 pub mod java_asm;
 pub mod lines;
+pub mod load_examples;
+pub mod load_files;
 pub mod load_largest;
 pub mod load_parts;
 pub mod load_rooms;

@@ -54,7 +54,18 @@ pub struct Load {
 
 impl Case for Load {
     fn simpler(&self) -> Box<dyn Iterator<Item = Self> + '_> {
-        Box::new(case::simpler_bytes(&self.text).map(|text| Load { text, ..*self }))
+        let calls = if self.rooms.len() > 1 {
+            self.rooms
+        } else {
+            &[]
+        };
+        let one_call = calls.chunks(1).map(|rooms| Load {
+            text: self.text.clone(),
+            rooms,
+            ..*self
+        });
+        let texts = case::simpler_bytes(&self.text).map(|text| Load { text, ..*self });
+        Box::new(one_call.chain(texts))
     }
 
     fn show(&self) -> String {

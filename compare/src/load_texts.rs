@@ -308,7 +308,8 @@ fn damage_lines(random: &mut Random, text: &[u8]) -> Vec<u8> {
     lines.concat()
 }
 
-fn damage(random: &mut Random, text: &mut Vec<u8>) {
+/// Changes, drops, doubles or swaps bytes or lines.
+pub fn damage(random: &mut Random, text: &mut Vec<u8>) {
     match random.below(5) {
         0 => texts::damage(random, text),
         1 | 2 => *text = damage_lines(random, text),

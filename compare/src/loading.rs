@@ -1,6 +1,8 @@
 //! Loading: the plain program held against the original, and the proved one against the plain program.
 
 use crate::every;
+use crate::load_examples;
+use crate::load_files;
 use crate::load_largest;
 use crate::load_rooms::{self, Calls, Load, Room};
 #[cfg(original)]
@@ -157,11 +159,14 @@ pub fn run(settings: &Settings, report: &mut Report) -> Held {
         tables: Comparison::new(TABLES),
         seen: Seen::default(),
     };
-    load_largest::run(&mut loading)?;
+    let examples = load_examples::run()?;
     every_text(&mut loading)?;
+    load_files::run(settings, &mut loading)?;
     random_texts(settings, &mut loading)?;
+    load_largest::run(&mut loading)?;
     #[cfg(original)]
     report.add(loading.tables);
     report.add(loading.load);
+    println!("  examples with answers of their own: {examples}");
     loading.seen.say()
 }
