@@ -11,7 +11,7 @@ type Accepted = (&'static str, [u32; 8], &'static str, [u32; 5]);
 
 const SMALL: &str = include_str!("../../examples/small.map");
 
-const ACCEPTED: [Accepted; 14] = [
+const ACCEPTED: [Accepted; 17] = [
     (
         SMALL,
         [5, 1, 1, 0, 1, 1, 1, 0],
@@ -92,6 +92,25 @@ const ACCEPTED: [Accepted; 14] = [
         "a->b:\n int n->c\nd->e:\n# {\"id\":\"com.android.tools.r8.residualsignature\",\"signature\":\"V\"}",
         [4, 0, 0, 1, 2, 1, 0, 0],
         "Lb;La;Le;Ld;cIn",
+        [0; 5],
+    ),
+    // numbers of which serde_json says otherwise than RFC 8259, which decides
+    (
+        "a->b:\n int n->c\n# {\"\":18446744073709551616.,\"id\":\"com.android.tools.r8.residualsignature\",\"signature\":\"V\"}",
+        [3, 0, 0, 1, 1, 1, 0, 0],
+        "Lb;La;cIn",
+        [0; 5],
+    ),
+    (
+        "a->b:\n int n->c\n# {\"\":18446744073709551616.0,\"id\":\"com.android.tools.r8.residualsignature\",\"signature\":\"V\"}",
+        [3, 0, 1, 0, 1, 1, 0, 0],
+        "Lb;La;cVn",
+        [0; 5],
+    ),
+    (
+        "a->b:\n int n->c\n# {\"\":1e309,\"id\":\"com.android.tools.r8.residualsignature\",\"signature\":\"V\"}",
+        [3, 0, 1, 0, 1, 1, 0, 0],
+        "Lb;La;cVn",
         [0; 5],
     ),
     (

@@ -13,6 +13,10 @@ pub enum Room {
     FewerClasses,
     FewerMembers,
     ShorterPool,
+    /// both too short
+    FewerMembersShorterPool,
+    /// all three too short
+    FewerOfAll,
     Larger(usize),
     /// longer than what counts
     BeyondLimits,
@@ -21,11 +25,21 @@ pub enum Room {
 impl Room {
     fn lent(self, needed: Lent) -> Lent {
         let mut lent = needed;
+        let fewer = Lent {
+            classes: needed.classes.saturating_sub(1),
+            members: needed.members.saturating_sub(1),
+            pool: needed.pool.saturating_sub(1),
+        };
         match self {
             Room::Exact => {}
-            Room::FewerClasses => lent.classes = lent.classes.saturating_sub(1),
-            Room::FewerMembers => lent.members = lent.members.saturating_sub(1),
-            Room::ShorterPool => lent.pool = lent.pool.saturating_sub(1),
+            Room::FewerClasses => lent.classes = fewer.classes,
+            Room::FewerMembers => lent.members = fewer.members,
+            Room::ShorterPool => lent.pool = fewer.pool,
+            Room::FewerMembersShorterPool => {
+                lent = fewer;
+                lent.classes = needed.classes;
+            }
+            Room::FewerOfAll => lent = fewer,
             Room::Larger(by) => {
                 lent.classes += by;
                 lent.members += 2 * by;

@@ -103,8 +103,8 @@ const ROOMS: [&[Room]; 4] = [
         Room::ShorterPool,
         Room::Larger(1),
     ],
-    &[Room::Exact, Room::ShorterPool, Room::Larger(2)],
-    &[Room::Exact, Room::FewerMembers, Room::Larger(5)],
+    &[Room::Exact, Room::FewerOfAll, Room::Larger(2)],
+    &[Room::Exact, Room::FewerMembersShorterPool, Room::Larger(5)],
     &[Room::Larger(40), Room::FewerClasses, Room::ShorterPool],
 ];
 
