@@ -112,7 +112,13 @@ const ROOMS: [&[Room]; 4] = [
 const LETTERS: [&str; 9] = ["a", " ", "->", ":", "\n", "(", ")", "\u{A0}", "\r"];
 
 /// What stands before each of them.
-const STARTS: [&str; 4] = ["", "a->b:\n", "a->b:\n a b()", "a->b:\n a b->c\n"];
+const STARTS: [&str; 5] = [
+    "",
+    "a->b:\n",
+    "a->b:\n a b()",
+    "a->b:\n a b():1:",
+    "a->b:\n a b->c\n",
+];
 
 fn every_text(loading: &mut Loading) -> Held {
     let letters: Vec<&[u8]> = LETTERS.iter().map(|letter| letter.as_bytes()).collect();
