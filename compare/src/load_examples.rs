@@ -144,10 +144,12 @@ fn agrees(calls: &Calls, answer: [u32; 12], pool: &str, ranges: [u32; 5]) -> boo
     calls.iter().all(|call| {
         let Ok(left) = call else { return false };
         let members = (answer[8] + answer[9]) as usize;
-        let last = members.checked_sub(1).map(|last| &left.members[last][10..]);
+        let last = members
+            .checked_sub(1)
+            .and_then(|last| left.members.get(last));
         left.answer[..12] == answer
             && left.pool.starts_with(pool.as_bytes())
-            && last.is_none_or(|last| last == ranges)
+            && last.map_or(members == 0, |last| last[10..] == ranges)
     })
 }
 
