@@ -243,3 +243,25 @@ pub const COMMENTS: [&str; 10] = [
     "# -> :",
     "# {\"id\":\"com.android.tools.r8.residualsignature\"}",
 ];
+
+/// What is no UTF-8, or is at the edge of that: overlong forms, surrogates, values over 10FFFF, starts of sequences.
+pub const BROKEN: [&[u8]; 18] = [
+    b"\x80",
+    b"\xC0\x80",
+    b"\xC1\xBF",
+    b"\xC2",
+    b"\xE0\x80\x80",
+    b"\xE0\x9F\xBF",
+    b"\xE0\xA0",
+    b"\xE2\x82",
+    b"\xED\x9F\xBF",
+    b"\xED\xA0\x80",
+    b"\xED\xBF\xBF",
+    b"\xEE\x80\x80",
+    b"\xF0\x8F\xBF\xBF",
+    b"\xF0\x90\x80",
+    b"\xF4\x8F\xBF\xBF",
+    b"\xF4\x90\x80\x80",
+    b"\xF5\x80\x80\x80",
+    b"\xFF",
+];

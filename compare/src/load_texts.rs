@@ -3,7 +3,7 @@
 use crate::comment_parts::RESIDUAL;
 use crate::comment_texts;
 use crate::load_parts::{
-    ARGUMENT_LISTS, CLASS_NAMES, COMMENTS, IDS, INDENTS, LEADING, LINE_ENDS, MEMBER_NAMES,
+    ARGUMENT_LISTS, BROKEN, CLASS_NAMES, COMMENTS, IDS, INDENTS, LEADING, LINE_ENDS, MEMBER_NAMES,
     ODD_CLASS_NAMES, ODD_TYPES, SIGNATURES, TRAILING, WORD_TYPES,
 };
 use crate::part_texts;
@@ -311,6 +311,11 @@ fn damage_lines(random: &mut Random, text: &[u8]) -> Vec<u8> {
 /// Changes, drops, doubles or swaps bytes or lines.
 pub fn damage(random: &mut Random, text: &mut Vec<u8>) {
     match random.below(5) {
+        0 if random.once_in(2) => {
+            let at = random.below(text.len() + 1);
+            let broken = *random.pick(&BROKEN);
+            text.splice(at..at, broken.iter().copied());
+        }
         0 => texts::damage(random, text),
         1 | 2 => *text = damage_lines(random, text),
         3 => {
