@@ -9,6 +9,7 @@ use crate::load_rooms::{self, Calls, Load, Room};
 use crate::load_tables::{self, Answer};
 use crate::load_texts;
 use crate::report::{Comparison, Disagreement, Held, Report, Settings, Subject};
+use std::thread;
 
 const LOAD: Subject<Load, Calls> = Subject {
     name: "load",
@@ -158,7 +159,21 @@ fn random_texts(settings: &Settings, loading: &mut Loading) -> Held {
     Ok(())
 }
 
+/// What the stack of a thread may be: a load has to do with that.
+const STACK: usize = 2 << 20;
+
 pub fn run(settings: &Settings, report: &mut Report) -> Held {
+    thread::scope(|scope| {
+        let thread = thread::Builder::new().stack_size(STACK);
+        let work = thread.spawn_scoped(scope, || run_in_thread(settings, report));
+        match work.map(|work| work.join()) {
+            Ok(Ok(held)) => held,
+            _ => Err(Disagreement("loading: its thread failed\n".to_owned())),
+        }
+    })
+}
+
+fn run_in_thread(settings: &Settings, report: &mut Report) -> Held {
     let mut loading = Loading {
         load: Comparison::new(LOAD),
         #[cfg(original)]
