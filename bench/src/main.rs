@@ -1,9 +1,11 @@
-//! bench [--seed N] [--runs N]: times the proved functions beside Rust's standard library, in one process, and alone on
-//! comments and lines made to be slow.
+//! bench [--seed N] [--runs N]: times the proved functions beside Rust's standard library and the original, in one
+//! process, and alone on texts made to be slow.
 //! Status: 0 done, 1 the two disagree, 2 bad arguments.
 
 mod hostile;
+mod loads;
 mod race;
+mod synthetic;
 
 use clumarief_compare::random::Random;
 use clumarief_compare::trims::judge_trim;
@@ -81,7 +83,7 @@ fn races(seed: u64, runs: u64) -> Result<(), Unequal> {
         race(&mapping, "mapping file"),
         race(&scripts, "many scripts"),
     );
-    race::print_head();
+    race::print_head("std");
     lines.run("check", proved_check, std_check)?;
     scripts.run("check", proved_check, std_check)?;
     lines.run("lines", proved_lines, std_lines)?;
@@ -102,8 +104,12 @@ fn main() -> ExitCode {
     }
     println!(
         "The proved trim gives 8 places in one call: \"trim\" sets it beside `str::trim` alone,\n\
-         \"8 places\" beside the methods of `str` for all of them."
+         \"8 places\" beside the methods of `str` for all of them.\n"
     );
+    if let Err(Unequal(name)) = loads::run(seed, runs) {
+        println!("bench: proved and original disagree on {name}");
+        return ExitCode::FAILURE;
+    }
     println!("\nnanoseconds a byte, at lengths in KiB");
     hostile::run(runs);
     ExitCode::SUCCESS

@@ -155,7 +155,7 @@ fn plainer(part: &[u8]) -> Vec<Vec<u8>> {
 }
 
 /// The text with a part of it left out or made plainer.
-fn simpler_bytes(text: &[u8]) -> impl Iterator<Item = Vec<u8>> + '_ {
+pub fn simpler_bytes(text: &[u8]) -> impl Iterator<Item = Vec<u8>> + '_ {
     let parts = widths(text.len()).flat_map(move |width| {
         let step = if width > CHARACTER { width } else { 1 };
         let starts = (0..=text.len() - width).step_by(step);
@@ -172,7 +172,7 @@ fn simpler_bytes(text: &[u8]) -> impl Iterator<Item = Vec<u8>> + '_ {
 /// A report stays readable where a text is long: the seed gives the whole of it again.
 const SHOWN: usize = 200;
 
-fn show_bytes(name: &str, text: &[u8]) -> String {
+pub fn show_bytes(name: &str, text: &[u8]) -> String {
     let shown = &text[..text.len().min(SHOWN)];
     let mut hex = format!("  {name} of length {}:", text.len());
     for byte in shown {

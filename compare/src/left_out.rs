@@ -3,6 +3,7 @@
 use crate::report::{Held, Report, Settings};
 
 pub fn run(_: &Settings, _: &mut Report) -> Held {
-    println!("line parts and descriptors are left out: the original's source is not at hand, see run --source");
+    println!("left out, as the original's source is not at hand (see run --source):");
+    println!("line parts, descriptors, and the plain program for loading beside the original");
     Ok(())
 }

@@ -3,8 +3,9 @@
 //!
 //! A subject is one function and its judge (`report`), run over cases (`case`) that are made one after another
 //! (`every`, `texts`, `comment_texts` with `comment_parts`, `part_texts`). `reading` has both answers about a comment,
-//! `parts` those about a line, by way of `original`. Each of the other modules is one part of the comparison; `main`
-//! lists them.
+//! `parts` those about a line, by way of `original`. For loading, `plain` is a program of its own: `load_tables` holds it
+//! against the original, `load_rooms` the proved program against it, over `load_texts`, `load_files` and `load_largest`;
+//! `load_examples` has answers of its own. Each of the other modules is one part of the comparison; `main` lists them.
 
 pub mod arguments;
 pub mod bytes;
@@ -18,6 +19,15 @@ pub mod every;
 #[cfg(original)]
 pub mod java_asm;
 pub mod lines;
+pub mod load_examples;
+pub mod load_files;
+pub mod load_largest;
+pub mod load_parts;
+pub mod load_rooms;
+#[cfg(original)]
+pub mod load_tables;
+pub mod load_texts;
+pub mod loading;
 #[cfg(original)]
 pub mod mapped;
 #[cfg(not(original))]
@@ -26,16 +36,17 @@ pub mod mapped;
 pub mod numbers;
 #[cfg(original)]
 pub mod original;
-#[cfg(original)]
 pub mod part_texts;
 #[cfg(original)]
 pub mod parts;
+pub mod plain;
 pub mod proved;
 pub mod random;
 pub mod ranges;
 pub mod reading;
 pub mod report;
 pub mod texts;
+pub mod timing;
 pub mod trims;
 pub mod utf8;
 pub mod white;

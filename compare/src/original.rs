@@ -10,6 +10,9 @@ include!(concat!(env!("OUT_DIR"), "/mapping.rs"));
 
 /// What the original's parts of a line are asked for by. They are as private as it made them, and a child sees them.
 pub mod doors {
+    use crate::load_tables::{self, Answer, Tables};
+    use std::str;
+
     pub type Range = Option<(u32, u32)>;
 
     pub struct Field {
@@ -81,5 +84,65 @@ pub mod doors {
     /// A descriptor with each class piece turned to what `look` gives.
     pub fn turned(descriptor: &str, look: fn(&str) -> Option<String>) -> String {
         super::map_descriptor(descriptor, |class| look(class).map(Into::into))
+    }
+
+    /// A mapping of the original, which only keeps it.
+    pub struct Kept(super::Mapping);
+
+    /// The original's own entry point.
+    pub fn parse(text: &[u8]) -> Option<Kept> {
+        super::Mapping::parse(text).ok().map(Kept)
+    }
+
+    /// All tables of a mapping: as `parse` reads it where `marks` says so, else as `parse_str` does, which takes UTF-8
+    /// alone.
+    pub fn tables(text: &[u8], marks: bool) -> Option<Answer> {
+        let mapping = if marks {
+            super::Mapping::parse(text)
+        } else {
+            super::Mapping::parse_str(str::from_utf8(text).ok()?)
+        };
+        Some(match mapping {
+            Ok(mapping) => Ok(tables_of(&mapping)),
+            Err(error) => Err((error.line, error.message)),
+        })
+    }
+
+    fn tables_of(mapping: &super::Mapping) -> Tables {
+        let classes = mapping.classes_by_raw.iter();
+        let displays = mapping.raw_by_display.iter();
+        Tables {
+            classes_by_raw: classes
+                .map(|(raw, class)| (raw.to_string(), class_of(class)))
+                .collect(),
+            raw_by_display: displays
+                .map(|(display, raw)| (display.to_string(), raw.to_string()))
+                .collect(),
+        }
+    }
+
+    fn class_of(class: &super::ClassMapping) -> load_tables::Class {
+        let key =
+            |key: &super::MemberKey| (key.raw_name.to_string(), key.raw_descriptor.to_string());
+        let fields = class.fields.iter();
+        let methods = class.methods.iter();
+        load_tables::Class {
+            display: class.display_descriptor.to_string(),
+            fields: fields
+                .map(|(member, field)| (key(member), field.display_name.to_string()))
+                .collect(),
+            methods: methods
+                .map(|(member, methods)| (key(member), methods.iter().map(method_of).collect()))
+                .collect(),
+        }
+    }
+
+    fn method_of(method: &super::MethodMapping) -> load_tables::Method {
+        load_tables::Method {
+            owner: method.display_owner.to_string(),
+            name: method.display_name.to_string(),
+            raw_range: method.raw_line_range,
+            display_range: method.display_line_range,
+        }
     }
 }

@@ -146,11 +146,11 @@ const MARKS: [&str; 26] = [
 ];
 
 fn space(random: &mut Random) -> &'static str {
-    *random.pick(&SPACES)
+    random.pick::<&str>(&SPACES)
 }
 
 fn name(random: &mut Random) -> &'static str {
-    *random.pick(&NAMES)
+    random.pick::<&str>(&NAMES)
 }
 
 /// A name, mostly a plain one.
@@ -158,13 +158,13 @@ fn plain(random: &mut Random) -> &'static str {
     if random.once_in(3) {
         name(random)
     } else {
-        *random.pick(&NAMES[..14])
+        random.pick::<&str>(&NAMES[..14])
     }
 }
 
 fn arrow(random: &mut Random) -> &'static str {
     if random.once_in(3) {
-        *random.pick(&ARROWS)
+        random.pick::<&str>(&ARROWS)
     } else {
         " -> "
     }

@@ -1,4 +1,4 @@
-//! The proved functions, as they come out of `libprobes.a` and `libline_probes.a`, behind safe calls.
+//! The proved functions, as they come out of `libcapi.a` and the libraries of probes, behind safe calls.
 
 /// A byte slice crosses as its address and its length.
 type Bytes = *const u8;
@@ -58,6 +58,28 @@ unsafe extern "C" {
         answer: &mut [u64; 2],
     );
     fn clumarief_probe_part(d: Bytes, length: usize, at: usize, answer: &mut [u64; 2]);
+    fn clumarief_parse(
+        text: Bytes,
+        length: usize,
+        classes: *mut [u32; 4],
+        class_rows: usize,
+        members: *mut [u32; 15],
+        member_rows: usize,
+        pool: *mut u8,
+        pool_length: usize,
+        answer: &mut [u32; 24],
+    );
+    fn clumarief_parse_str(
+        text: Bytes,
+        length: usize,
+        classes: *mut [u32; 4],
+        class_rows: usize,
+        members: *mut [u32; 15],
+        member_rows: usize,
+        pool: *mut u8,
+        pool_length: usize,
+        answer: &mut [u32; 24],
+    );
 }
 
 /// What stands in an answer before the call: no judge gives it, so a slot that is not written shows.
@@ -220,5 +242,42 @@ pub fn signature(room: &mut [u8], at: usize, end: usize, method: bool) -> [u64; 
 pub fn part(descriptor: &[u8], at: usize) -> [u64; 2] {
     let mut answer = [UNWRITTEN; 2];
     unsafe { clumarief_probe_part(descriptor.as_ptr(), descriptor.len(), at, &mut answer) };
+    answer
+}
+
+/// Rows and bytes that are lent to a load.
+pub struct Rooms<'a> {
+    pub classes: &'a mut [[u32; 4]],
+    pub members: &'a mut [[u32; 15]],
+    pub pool: &'a mut [u8],
+}
+
+/// Loads a text as `parse` does where `marks` says that leading marks are dropped, else as `parse_str` does. Number,
+/// place, length, lines, blank, applied, idle, class, field, method, short, names, then zeros.
+pub fn load(text: &[u8], marks: bool, rooms: Rooms<'_>) -> [u32; 24] {
+    let mut answer = [u32::MAX; 24];
+    let Rooms {
+        classes,
+        members,
+        pool,
+    } = rooms;
+    let entry = if marks {
+        clumarief_parse
+    } else {
+        clumarief_parse_str
+    };
+    unsafe {
+        entry(
+            text.as_ptr(),
+            text.len(),
+            classes.as_mut_ptr(),
+            classes.len(),
+            members.as_mut_ptr(),
+            members.len(),
+            pool.as_mut_ptr(),
+            pool.len(),
+            &mut answer,
+        );
+    }
     answer
 }

@@ -29,9 +29,10 @@ pub struct Disagreement(pub String);
 
 pub type Held = Result<(), Disagreement>;
 
-/// A proved function and its judge.
+/// A function and its judge.
 pub struct Subject<C, A> {
     pub name: &'static str,
+    /// The proved function; where the plain program is held against the original, that program.
     pub proved: fn(&C) -> A,
     /// `None` where the judge has no answer, as for a text that is not UTF-8.
     pub judge: fn(&C) -> Option<A>,
@@ -52,12 +53,18 @@ impl<C: Case, A: PartialEq + Debug> Comparison<C, A> {
     }
 
     pub fn hold(&mut self, case: &C) -> Held {
+        self.hold_seen(case, |_| {})
+    }
+
+    /// The same, and `seen` gets what both answered.
+    pub fn hold_seen(&mut self, case: &C, seen: impl FnOnce(&A)) -> Held {
         let Some(judged) = (self.subject.judge)(case) else {
             return Ok(());
         };
         if (self.subject.proved)(case) != judged {
             return Err(self.subject.disagreement(case));
         }
+        seen(&judged);
         let kind = (self.subject.outcome)(&judged);
         match self.outcomes.iter_mut().find(|(known, _)| *known == kind) {
             Some((_, count)) => *count += 1,
@@ -76,7 +83,7 @@ impl<C: Case, A: PartialEq + Debug> Subject<C, A> {
         let least = self.shrink(case);
         let (proved, judged) = ((self.proved)(&least), (self.judge)(&least));
         let mut said = format!("disagreement: {}\n{}", self.name, least.show());
-        said += &format!("  proved: {proved:?}\n");
+        said += &format!("  answer: {proved:?}\n");
         if let Some(judged) = judged {
             said += &format!("  judge:  {judged:?}\n");
         }

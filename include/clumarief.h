@@ -1,0 +1,79 @@
+/* The proved loader of mapping files, as C calls it. Link with libcapi.a. */
+#ifndef CLUMARIEF_H
+#define CLUMARIEF_H
+
+#include <stddef.h>
+#include <stdint.h>
+
+#ifdef __cplusplus
+extern "C" {
+#endif
+
+/* What is lent to a load beyond these counts as so much, and is zeroed all the same. */
+#define CLUMARIEF_MOST_TEXT 1048576
+#define CLUMARIEF_MOST_CLASSES 4096
+#define CLUMARIEF_MOST_MEMBERS 32768
+#define CLUMARIEF_MOST_POOL 4194304
+
+/* A class row: raw descriptor and display descriptor, each its place in the pool and its length. */
+typedef uint32_t clumarief_class[4];
+
+/* A member row: kind (0 field, 1 method); class row; place and length of raw name, raw descriptor, display name and
+ * display owner (0, 0 for a field); range flag (0 none, 1 display only, 2 both); start and end of the raw range, and of
+ * the display range (absent ones are zeros). */
+typedef uint32_t clumarief_member[15];
+
+/* What a load answers.
+ *
+ *  0 number   0 accepted; refused:
+ *               1 the text is over 1,048,576 bytes
+ *               2 the text is not UTF-8
+ *               3 invalid class mapping
+ *               4 member mapping has no class
+ *               5 invalid member mapping
+ *               6 invalid method mapping
+ *               7 invalid field mapping
+ *               8 the mapping contains no classes
+ *               9 class rows, 10 member rows, 11 name pool too small
+ *  1 place    at 2 the valid bytes before it; at 3 to 7 the line, counted from 1; else 0
+ *  2 length   at 2 that of the bad sequence, 1 to 3, or 0 where the text is cut short in it; else 0
+ *
+ * The counts of an accepted load; zeros for a refused one:
+ *
+ *  3 lines    all of them, the sum of the next six
+ *  4 blank
+ *  5 applied  comments that replaced a raw signature
+ *  6 idle     all other comments
+ *  7 class    also the number of class rows used
+ *  8 field    with 9 also the number of member rows used
+ *  9 method
+ * 10 short    methods whose display range has a second part that does not read
+ * 11 names    pool bytes used
+ * 12 to 23    zeros
+ */
+typedef uint32_t clumarief_load[24];
+
+/* Loads the mapping of a text, without the marks (U+FEFF) that it begins with.
+ *
+ * Rows stand in the order of the text. The pool holds each class row's raw and display descriptor, then each member's
+ * texts, unshared. All that is lent is written: what an accepted load does not use is zero, and a refused one leaves
+ * nothing but zeros. Nothing is kept after the call. No pointer may be null or unaligned, also where a length is 0, and
+ * no two of the slices may overlap. */
+void clumarief_parse(const uint8_t *text, size_t text_length,
+                     clumarief_class *classes, size_t class_rows,
+                     clumarief_member *members, size_t member_rows,
+                     uint8_t *pool, size_t pool_length,
+                     clumarief_load *answer);
+
+/* The same, but a mark that the text begins with stays, as a character of its first line. */
+void clumarief_parse_str(const uint8_t *text, size_t text_length,
+                         clumarief_class *classes, size_t class_rows,
+                         clumarief_member *members, size_t member_rows,
+                         uint8_t *pool, size_t pool_length,
+                         clumarief_load *answer);
+
+#ifdef __cplusplus
+}
+#endif
+
+#endif
