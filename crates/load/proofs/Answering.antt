@@ -1,6 +1,6 @@
 -- The entry points: length and UTF-8 first, then the lines. Assumes nothing.
 use mathlib.Core.Path.{_≡_, refl, sym, _∙_, ap}
-use mathlib.Core.Bool.{Bool, true, false}
+use mathlib.Core.Bool.{false}
 use mathlib.Core.List.{List, _++_}
 use Prim.Native.Nat.{ℕ, _+_, _-_, _≤_, _<_}
 use native.Mathlib.Omega.{arith}
@@ -23,15 +23,19 @@ use Rattle.text.proofs.TrimLaws.{run-inside}
 use Rattle.tables.specs.Rows.{zeroClass, zeroMember}
 use Rattle.mapping.specs.declared.Load.{Load}
 use Rattle.mapping.specs.declared.Load.the-variants.{TooLong, NotUtf8}
-use Rattle.mapping.specs.Loading.{counting, linesLoad, checked, answerOf, isLoaded, leaves, classRowsOf, memberRowsOf, poolOf, linesParse}
+use Rattle.mapping.specs.Loading.{Lent, counting, checked, answerOf, isLoaded, leaves, classRowsOf, memberRowsOf, poolOf, linesParse}
 use Rattle.load.specs.Into.{lent}
 use Rattle.load.specs.Loads.{Cleared, Left, Loads}
+
+-- a text that is not too long
+short-text : (s : List ℕ) (ls : List (List ℕ)) (n : Lent) → length s ≤ 1048576 → answerOf s ls n ≡ checked (checkOf s) ls (counting n)
+short-text s ls n h = rw (le-ltb 1048576 (length s) h)
 
 module _ (s : List ℕ) (ls : List (List ℕ)) (nc nm np : ℕ) {c m : List (List ℕ)} {p : List ℕ} where
   -- a refusal, and all is zero
   refused-all : {r : Load} → r ≡ answerOf s ls (lent nc nm np) → isLoaded r ≡ false → Cleared nc nm np c m p → Loads r s ls nc nm np c m p
-  refused-all e no k =
-      let not : isLoaded (answerOf s ls (lent nc nm np)) ≡ false = ap isLoaded (sym e) ∙ no in
+  refused-all e h k =
+      let not : isLoaded (answerOf s ls (lent nc nm np)) ≡ false = ap isLoaded (sym e) ∙ h in
       record {
         answer = e;
         classes = k .classes ∙ sym (ap (λ q. pick q (classRowsOf ls ++ replicate (nc - length (classRowsOf ls)) zeroClass) (replicate nc zeroClass)) not);
@@ -43,16 +47,13 @@ module _ (s : List ℕ) (ls : List (List ℕ)) (nc nm np : ℕ) {c m : List (Lis
   loads-too-long h k = refused-all (sym (rw (lt-ltb 1048576 (length s) h))) refl k
 
   module _ (h : length s ≤ 1048576) {t : Check} (e : t ≡ checkOf s) where
-    short : answerOf s ls (lent nc nm np) ≡ checked (checkOf s) ls (counting (lent nc nm np))
-    short = rw (le-ltb 1048576 (length s) h)
-
     module _ {at k : ℕ} (f : t ≡ Broken at k) where
       pub loads-not-utf8 : Cleared nc nm np c m p → Loads (NotUtf8 at k) s ls nc nm np c m p
-      loads-not-utf8 z = refused-all (sym (short ∙ ap (λ x. checked x ls (counting (lent nc nm np))) (sym e ∙ f))) refl z
+      loads-not-utf8 z = refused-all (sym (short-text s ls (lent nc nm np) h ∙ ap (λ x. checked x ls (counting (lent nc nm np))) (sym e ∙ f))) refl z
 
     pub loads-lines : t ≡ Valid → {r : Load} → Left r ls nc nm np c m p → Loads r s ls nc nm np c m p
     loads-lines f {r} k =
-        let is : r ≡ answerOf s ls (lent nc nm np) = k .answer ∙ sym (short ∙ ap (λ x. checked x ls (counting (lent nc nm np))) (sym e ∙ f)) in
+        let is : r ≡ answerOf s ls (lent nc nm np) = k .answer ∙ sym (short-text s ls (lent nc nm np) h ∙ ap (λ x. checked x ls (counting (lent nc nm np))) (sym e ∙ f)) in
         record {
           answer = is;
           classes = k .classes ∙ ap (λ x. leaves zeroClass nc x (classRowsOf ls)) is;

@@ -1,7 +1,7 @@
 -- Which answer a load gives. Assumes nothing.
 use mathlib.Core.Path.{_≡_, refl, sym, _∙_, ap}
 use mathlib.Core.Bool.{Bool, true, false}
-use mathlib.Core.List.{List, [], _∷_, map}
+use mathlib.Core.List.{List, [], _∷_}
 use mathlib.Core.Logic.{_⊎_, inl, inr}
 use Prim.Native.Nat.{ℕ, suc, _+_, _≤_, _<_}
 use native.Mathlib.Omega.{arith}
@@ -9,18 +9,17 @@ use lib.Dec.{eqb, ltb}
 use lib.ListN.{length, drop, length-map}
 use mir.Val.{Fits}
 use mir.Syntax.{w32}
-use borrow.Author.Tests.{eq-eqb, ne-eqb, lt-ltb, le-ltb, eqb-false, ltb-true, ltb-false}
+use borrow.Author.Tests.{eq-eqb, ne-eqb, lt-ltb, le-ltb, ltb-false}
 use borrow.Author.Needs.{needs}
 use Rattle.ground.specs.Choice.{pick}
 use Rattle.places.specs.Lines.{onto, rawLines, withoutCr, lines}
 use Rattle.mapping.specs.declared.Fates.{Fates}
 use Rattle.mapping.specs.declared.Scan.{Scan}
 use Rattle.mapping.specs.declared.Scan.the-variants as scan
-use Rattle.mapping.specs.declared.Load.{Load}
 use Rattle.mapping.specs.declared.Load.the-variants.{Loaded, Faulty, NoClasses, FewClassRows, FewMemberRows, ShortPool}
-use Rattle.mapping.specs.Fates.{noFates, fatesFrom, scanOf}
+use Rattle.mapping.specs.Fates.{noFates, scanOf}
 use Rattle.mapping.specs.Classes.{classesOf}
-use Rattle.mapping.specs.Loading.{Lent, entriesOf, poolOf, fitting, scanned, linesLoad}
+use Rattle.mapping.specs.Loading.{entriesOf, poolOf, scanned, linesLoad}
 use Rattle.mapping.specs.Members.{under}
 use Rattle.mapping.proofs.Sums.{fates-sum, class-count, member-count}
 use Rattle.scan.specs.Bounds.{Within}

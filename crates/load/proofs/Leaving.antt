@@ -1,5 +1,5 @@
 -- What is left in the lent rows and the pool. Assumes nothing.
-use mathlib.Core.Path.{_≡_, refl, sym, _∙_, ap}
+use mathlib.Core.Path.{_≡_, sym, _∙_, ap}
 use mathlib.Core.Bool.{Bool, true, false}
 use mathlib.Core.List.{List, _++_, append-assoc}
 use Prim.Native.Nat.{ℕ, _+_, _-_, _≤_, min}
@@ -13,8 +13,8 @@ use Rattle.ground.proofs.Parts.{prefix-whole}
 use Rattle.ground.proofs.PutLaws.{put-same-many}
 use Rattle.tables.specs.Rows.{zeroClass, zeroMember}
 use Rattle.mapping.specs.declared.Load.{Load}
-use Rattle.mapping.specs.Loading.{Lent, counting, linesLoad, isLoaded, leaves, classRowsOf, memberRowsOf, poolOf}
-use Rattle.load.specs.Into.{Limits, lent, Full, IntoBy}
+use Rattle.mapping.specs.Loading.{counting, linesLoad, isLoaded, classRowsOf, memberRowsOf, poolOf}
+use Rattle.load.specs.Into.{Limits, lent, IntoBy}
 use Rattle.load.specs.Loads.{Cleared, Left}
 
 -- Part of what was made zero.

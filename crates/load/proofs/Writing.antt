@@ -1,7 +1,7 @@
 -- Rows and pool: classes first, then members. Assumes nothing.
 use mathlib.Core.Path.{_≡_, refl, sym, _∙_, ap}
 use mathlib.Core.Bool.{Bool, true, false}
-use mathlib.Core.List.{List, [], _∷_, _++_}
+use mathlib.Core.List.{List}
 use mathlib.Core.Logic.{_⊎_, inl, inr}
 use Prim.Native.Nat.{ℕ, _+_, _≤_, _<_}
 use native.Mathlib.Nat.{zero-add}
@@ -15,7 +15,6 @@ use Rattle.ground.proofs.Cases.{clash}
 use Rattle.ground.proofs.Parts.{prefix-whole}
 use Rattle.ground.proofs.PutLaws.{put-part, length-put}
 use Rattle.descriptor.specs.declared.write.Wrote.the-variants.{Done}
-use Rattle.descriptor.specs.Pieces.{Pair}
 use Rattle.descriptor.specs.Wrote.{Written}
 use Rattle.descriptor.proofs.Writes.{written-length, wrote-then}
 use Rattle.tables.specs.Back.{readBack}
@@ -28,7 +27,7 @@ use Rattle.mapping.specs.declared.Load.the-variants as loads
 use Rattle.mapping.specs.Fates.{scanOf}
 use Rattle.mapping.specs.Classes.{classesOf, classPool, classRows}
 use Rattle.mapping.specs.Members.{entryPool, entryRows}
-use Rattle.mapping.specs.Loading.{entriesOf, poolOf, classRowsOf, memberRowsOf, scanned, linesLoad, isLoaded}
+use Rattle.mapping.specs.Loading.{entriesOf, poolOf, scanned, isLoaded}
 use Rattle.mapping.proofs.Appended.{class-rows-length, entry-rows-length}
 use Rattle.classes.specs.declared.write.Classes.{Classes}
 use Rattle.classes.specs.declared.write.Classes.the-variants as classes
@@ -36,7 +35,7 @@ use Rattle.classes.specs.Written.{ClassesAt, ClassesBy}
 use Rattle.members.specs.declared.fill.Filled.{Filled}
 use Rattle.members.specs.declared.fill.Filled.the-variants as filled
 use Rattle.members.specs.Filled.{Holding, Over, members, WrittenAll, CutShort, FilledBy}
-use Rattle.load.specs.Into.{lent, missing, refusedOf, acceptedOf, Full, IntoBy}
+use Rattle.load.specs.Into.{lent, refusedOf, acceptedOf, IntoBy}
 use Rattle.load.proofs.Deciding.{decided, accepted-as, scan-counted}
 
 -- A refusal is no load.

@@ -3,6 +3,7 @@ use mathlib.Core.Path.{_≡_}
 use mathlib.Core.Bool.{true, false}
 use mathlib.Core.List.{List, [], _∷_}
 use Prim.Native.Nat.{ℕ}
+use lib.ListN.{take}
 use Rattle.ground.specs.Ascii.{ascii}
 use Rattle.number.specs.declared.read.Number.{Number}
 use Rattle.number.specs.declared.read.Number.the-variants.{Value, Unread}
@@ -12,6 +13,7 @@ use Rattle.number.specs.Numbers.{numberOf}
 use Rattle.number.specs.Ranges.{trailingRange}
 use Rattle.descriptor.specs.Types.{typeDescriptor}
 use Rattle.descriptor.specs.Pieces.{Pair, shown, turn}
+use Rattle.mapping.specs.Loading.{Lent, answerOf, linesParse, loadNumbers}
 
 -- "a.Main -> x:", the class of document 01's example
 abbrev pub main : List Pair
@@ -25,6 +27,8 @@ pub data Row : Type 0 where
   shows : List ℕ → List ℕ → Row
   -- a type's descriptor
   typed : List ℕ → List ℕ → Row
+  -- a text that is refused, whatever is lent: number and line
+  refused : List ℕ → ℕ → ℕ → Row
 
 -- the rule gives that answer
 abbrev pub Holds : Row → Type 0
@@ -32,6 +36,7 @@ Holds (number s answer) = numberOf s ≡ answer
 Holds (rangeAfter s answer) = trailingRange s ≡ answer
 Holds (shows d answer) = turn (shown main) d ≡ answer
 Holds (typed s answer) = typeDescriptor s ≡ answer
+Holds (refused s answer line) = (n : Lent) → take 2 (loadNumbers (answerOf s (linesParse s) n)) ≡ answer ∷ line ∷ []
 
 abbrev pub AllHold : List Row → Type 0
 AllHold [] = Unit {0}
@@ -39,6 +44,10 @@ AllHold (row ∷ rows) = Holds row × AllHold rows
 
 abbrev pub marked : List Row
 marked =
+    -- "P empty text: 8. P `a -> b`: 3 at line 1. P ` int n -> b`: 4 at line 1."
+    refused [] 8 0 ∷
+    refused (ascii "a -> b") 3 1 ∷
+    refused (ascii " int n -> b") 4 1 ∷
     -- "P `:10` and P `:10:x` give (10,10), the second short"
     rangeAfter (ascii ":10") (Taken 10 10 false) ∷
     rangeAfter (ascii ":10:x") (Taken 10 10 true) ∷

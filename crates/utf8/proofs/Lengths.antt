@@ -1,5 +1,5 @@
 -- Document 01, refusal 2: "length 1 to 3, or 0 if cut short". Assumes nothing.
-use mathlib.Core.Path.{_≡_, refl}
+use mathlib.Core.Path.{_≡_}
 use mathlib.Core.Bool.{Bool, true, false}
 use mathlib.Core.List.{List, [], _∷_}
 use Prim.Native.Nat.{ℕ, zero, suc, pred, _+_, _*_, _-_, _≤_}
@@ -8,8 +8,8 @@ use lib.Dec.{eqb}
 use Rattle.ground.specs.Choice.{pick, within}
 use Rattle.utf8.specs.declared.sequence.Sequence.{Sequence}
 use Rattle.utf8.specs.declared.sequence.Sequence.the-variants.{End, Good, Bad}
-use Rattle.utf8.specs.declared.check.Check.the-variants.{Valid, Broken}
-use Rattle.utf8.specs.Utf8.{Lead, lead, leadOf, tails, afterLead, sequenceOf, beyond, piecesFrom, pieces, checkFrom, checkOf}
+use Rattle.utf8.specs.declared.check.Check.the-variants.{Broken}
+use Rattle.utf8.specs.Utf8.{Lead, leadOf, tails, afterLead, sequenceOf, beyond, piecesFrom, checkFrom, checkOf}
 
 -- a bad sequence leaves a start of three octets at most
 Short : Sequence → Type 0

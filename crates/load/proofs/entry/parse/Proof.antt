@@ -1,0 +1,37 @@
+-- `load::entry::parse` meets its contract, by the laws of Answering.
+use Rattle.load.proofs.Answering.{marking}
+use Rattle.load.proofs.entry.parse.Statement.{statement}
+use Rattle.load.proofs.entry.parse.Tie as tie
+use Rattle.load.proofs.entry.parse.Reads as reads
+use Rattle.load.proofs.entry.parse.Lts as lts
+use Rattle.load.proofs.entry.load_from.Reads as load-from-reads
+use Rattle.text.proofs.after_marks.Reads as after-marks-reads
+
+after-marks-requires : tie.Need-after-marks-requires
+after-marks-requires c κs = search marking
+
+load-from-requires : tie.Need-load-from-requires
+load-from-requires c κs = search marking
+
+same-length : tie.Need-same-length
+same-length c = search marking
+
+same-length-2 : tie.Need-same-length-2
+same-length-2 c = search marking
+
+same-length-3 : tie.Need-same-length-3
+same-length-3 c = search marking
+
+returns : tie.Need-returns
+returns c = search marking
+
+pub parse-spec : {M : Type 1} → statement M
+parse-spec =
+    tie.close
+    (tie.spec
+    after-marks-requires
+    load-from-requires
+    same-length
+    same-length-2
+    same-length-3
+    returns)
