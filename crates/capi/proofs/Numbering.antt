@@ -1,12 +1,18 @@
 -- The answer as numbers. Assumes nothing.
 use mathlib.Core.Path.{_≡_, sym, _∙_, ap}
-use mathlib.Core.List.{List}
+use mathlib.Core.List.{List, _∷_}
 use Prim.Native.Nat.{ℕ}
+use lib.ListN.{replicate}
+use Rattle.mapping.specs.declared.Fates.{Fates}
 use borrow.Author.Needs.{needs}
 use Rattle.mapping.specs.declared.Load.{Load}
-use Rattle.mapping.specs.declared.Load.the-variants.{TooLong, NotUtf8, Faulty, NoClasses, FewClassRows, FewMemberRows, ShortPool}
+use Rattle.mapping.specs.declared.Load.the-variants.{Loaded, TooLong, NotUtf8, Faulty, NoClasses, FewClassRows, FewMemberRows, ShortPool}
 use Rattle.load.specs.Loads.{Loads}
 use Rattle.capi.specs.Answers.{refusalNumbers, answerNumbers, Answers}
+
+pub loaded-numbers : {r : Load} {f : Fates} {names : ℕ} → r ≡ Loaded f names →
+    0 ∷ 0 ∷ 0 ∷ f .lines ∷ f .blank ∷ f .applied ∷ f .idle ∷ f .class ∷ f .field ∷ f .method ∷ f .short ∷ names ∷ replicate 12 0 ≡ answerNumbers r
+loaded-numbers e = sym (ap answerNumbers e)
 
 module _ {r : Load} {a : List ℕ} where
   pub too-long-numbers : r ≡ TooLong → a ≡ refusalNumbers 1 0 0 → a ≡ answerNumbers r
@@ -31,7 +37,7 @@ module _ {r : Load} {a : List ℕ} where
   short-pool-numbers e f = f ∙ sym (ap answerNumbers e)
 
 pub ruleset numbering =
-  (too-long-numbers, not-utf8-numbers, faulty-numbers, no-classes-numbers, few-class-rows-numbers, few-member-rows-numbers, short-pool-numbers, needs)
+    (loaded-numbers, too-long-numbers, not-utf8-numbers, faulty-numbers, no-classes-numbers, few-class-rows-numbers, few-member-rows-numbers, short-pool-numbers, needs)
 
 pub answered : {r : Load} {s : List ℕ} {ls : List (List ℕ)} {nc nm np : ℕ} {c m : List (List ℕ)} {p : List ℕ} → Loads r s ls nc nm np c m p → {a : List ℕ} → a ≡ answerNumbers r →
     Answers s ls nc nm np c m p a

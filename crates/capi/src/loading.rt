@@ -14,7 +14,30 @@ fn refusal(number: u32, place: u32, length: u32) -> [u32; 24]
     ensures { λ r. ⌜ r ≡ refusalNumbers number place length ⌝ }
 {
     [
-        number, place, length, 0, 0, 0, 0, 0, 0, 0, 0, 0, 0, 0, 0, 0, 0, 0, 0, 0, 0, 0, 0, 0,
+        number,
+        place,
+        length,
+        0,
+        0,
+        0,
+        0,
+        0,
+        0,
+        0,
+        0,
+        0,
+        0,
+        0,
+        0,
+        0,
+        0,
+        0,
+        0,
+        0,
+        0,
+        0,
+        0,
+        0,
     ]
 }
 
@@ -60,7 +83,13 @@ fn load_numbers(load: Load) -> [u32; 24]
 
 // Loads a text without every leading U+FEFF.
 #[no_mangle]
-pub extern "C" fn clumarief_parse(text: &[u8], classes: &mut [ClassRow], members: &mut [MemberRow], pool: &mut [u8], answer: &mut [u32; 24])
+pub extern "C" fn clumarief_parse(
+    text: &[u8],
+    classes: &mut [ClassRow],
+    members: &mut [MemberRow],
+    pool: &mut [u8],
+    answer: &mut [u32; 24],
+)
     ensures { λ _. ⌜ Answers (now (text .entry)) (linesParse (now (text .entry))) (length (now (classes .entry))) (length (now (members .entry))) (length (now (pool .entry))) (now (classes .exit)) (now (members .exit)) (now (pool .exit)) (now (answer .exit)) ⌝ }
 {
     let load = parse(text, classes, members, pool);
@@ -69,7 +98,13 @@ pub extern "C" fn clumarief_parse(text: &[u8], classes: &mut [ClassRow], members
 
 // Loads a text as it is.
 #[no_mangle]
-pub extern "C" fn clumarief_parse_str(text: &[u8], classes: &mut [ClassRow], members: &mut [MemberRow], pool: &mut [u8], answer: &mut [u32; 24])
+pub extern "C" fn clumarief_parse_str(
+    text: &[u8],
+    classes: &mut [ClassRow],
+    members: &mut [MemberRow],
+    pool: &mut [u8],
+    answer: &mut [u32; 24],
+)
     ensures { λ _. ⌜ Answers (now (text .entry)) (linesStr (now (text .entry))) (length (now (classes .entry))) (length (now (members .entry))) (length (now (pool .entry))) (now (classes .exit)) (now (members .exit)) (now (pool .exit)) (now (answer .exit)) ⌝ }
 {
     let load = parse_str(text, classes, members, pool);

@@ -146,4 +146,4 @@ module _ (ls : List (List ℕ)) (c : List (List ℕ)) (p : List ℕ) (k : Classe
           }
 
 pub ruleset into =
-  (into-few-rows, into-short-pool, into-count, into-indexed, into-pool, into-short, into-short-scan, into-faulty, into-names, into-all, scan-counted, prefix-whole, needs)
+    (into-few-rows, into-short-pool, into-count, into-indexed, into-pool, into-short, into-short-scan, into-faulty, into-names, into-all, scan-counted, prefix-whole, needs)

@@ -57,7 +57,12 @@ fn clear(classes: &mut [ClassRow], members: &mut [MemberRow], pool: &mut [u8])
 }
 
 // The lines of a text, whose UTF-8 and length are checked. A longer lent slice counts as the largest number of rows or bytes.
-fn load_lines(text: &[u8], classes: &mut [ClassRow], members: &mut [MemberRow], pool: &mut [u8]) -> Load
+fn load_lines(
+    text: &[u8],
+    classes: &mut [ClassRow],
+    members: &mut [MemberRow],
+    pool: &mut [u8],
+) -> Load
     requires { ⌜ length (now text) ≤ 1048576 ⌝ }
     ensures { λ r. ⌜ Left r (lines (now (text .entry))) (length (now (classes .entry))) (length (now (members .entry))) (length (now (pool .entry))) (now (classes .exit)) (now (members .exit)) (now (pool .exit)) ⌝ }
 {
@@ -79,7 +84,13 @@ fn load_lines(text: &[u8], classes: &mut [ClassRow], members: &mut [MemberRow], 
 }
 
 // The lines of a text from the place `start` on.
-fn load_from(text: &[u8], start: usize, classes: &mut [ClassRow], members: &mut [MemberRow], pool: &mut [u8]) -> Load
+fn load_from(
+    text: &[u8],
+    start: usize,
+    classes: &mut [ClassRow],
+    members: &mut [MemberRow],
+    pool: &mut [u8],
+) -> Load
     requires { ⌜ start ≤ length (now text) ⌝ }
     ensures { λ r. ⌜ Loads r (now (text .entry)) (lines (drop start (now (text .entry)))) (length (now (classes .entry))) (length (now (members .entry))) (length (now (pool .entry))) (now (classes .exit)) (now (members .exit)) (now (pool .exit)) ⌝ }
 {
@@ -100,14 +111,24 @@ fn load_from(text: &[u8], start: usize, classes: &mut [ClassRow], members: &mut 
 }
 
 // Loads a text as it is.
-pub fn parse_str(text: &[u8], classes: &mut [ClassRow], members: &mut [MemberRow], pool: &mut [u8]) -> Load
+pub fn parse_str(
+    text: &[u8],
+    classes: &mut [ClassRow],
+    members: &mut [MemberRow],
+    pool: &mut [u8],
+) -> Load
     ensures { λ r. ⌜ Loads r (now (text .entry)) (linesStr (now (text .entry))) (length (now (classes .entry))) (length (now (members .entry))) (length (now (pool .entry))) (now (classes .exit)) (now (members .exit)) (now (pool .exit)) ⌝ }
 {
     load_from(text, 0, classes, members, pool)
 }
 
 // Loads a text without every leading U+FEFF.
-pub fn parse(text: &[u8], classes: &mut [ClassRow], members: &mut [MemberRow], pool: &mut [u8]) -> Load
+pub fn parse(
+    text: &[u8],
+    classes: &mut [ClassRow],
+    members: &mut [MemberRow],
+    pool: &mut [u8],
+) -> Load
     ensures { λ r. ⌜ Loads r (now (text .entry)) (linesParse (now (text .entry))) (length (now (classes .entry))) (length (now (members .entry))) (length (now (pool .entry))) (now (classes .exit)) (now (members .exit)) (now (pool .exit)) ⌝ }
 {
     let start = after_marks(text);

@@ -71,7 +71,12 @@ fn accepted(fates: Fates, end: usize) -> Load
 }
 
 // Rows and pool of a text. Where they are too few, what is left in them is the caller's to clear.
-pub fn load_into(text: &[u8], classes: &mut [ClassRow], members: &mut [MemberRow], pool: &mut [u8]) -> Load
+pub fn load_into(
+    text: &[u8],
+    classes: &mut [ClassRow],
+    members: &mut [MemberRow],
+    pool: &mut [u8],
+) -> Load
     requires { ⌜ Limits (length (now text)) (length (now classes)) (length (now members)) (length (now pool)) ⌝ }
     ensures { λ r. ⌜ IntoBy r (lines (now (text .entry))) (now (classes .entry)) (now (members .entry)) (now (pool .entry)) (now (classes .exit)) (now (members .exit)) (now (pool .exit)) ⌝ }
 {
@@ -79,7 +84,14 @@ pub fn load_into(text: &[u8], classes: &mut [ClassRow], members: &mut [MemberRow
     let member_rows = members.len();
     let mut index = [0u16; 8192];
     match write_classes(text, classes, &mut index, pool) {
-        Classes::Written { count, end } => match write_members(text, &classes[..count], &index, members, pool, end) {
+        Classes::Written { count, end } => match write_members(
+            text,
+            &classes[..count],
+            &index,
+            members,
+            pool,
+            end,
+        ) {
             Filled::Written { fates, end: names } => accepted(fates, names),
             Filled::Faulty { number, line } => Load::Faulty { number, line },
             Filled::Short(scan) => refused(scan, class_rows, member_rows),
