@@ -2,13 +2,13 @@
 use libc::STDIN_FILENO;
 use libc::STDOUT_FILENO;
 
-mod line;
+mod answer;
 
 fn main() {
     // One byte more than is read, so that a longer input shows.
     let mut input = [0u8; 65537];
     let n = io::read_full(STDIN_FILENO, &mut input);
     let mut out = [0u8; 256];
-    let size = line::line_for(&input[..n], &mut out);
+    let size = answer::line_for(&input[..n], &mut out);
     io::write_all(STDOUT_FILENO, &out[..size]);
 }
