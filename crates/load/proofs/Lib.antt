@@ -3,3 +3,4 @@ pub mod Deciding
 pub mod Writing
 pub mod Leaving
 pub mod Answering
+pub mod Once

@@ -37,6 +37,8 @@ examples :
     × (loads " int n -> b" (lent 9 9 99) ≡ Faulty 4 1)
     × (loads " int n b" (lent 9 9 99) ≡ Faulty 4 1)
     × (loads "a -> b:\n\n int n b" (lent 9 9 99) ≡ Faulty 5 3)
+    -- a second part that does not read
+    × (loads "a -> b:\n int f():7:x -> c" (lent 9 9 99) ≡ Loaded (fates 2 0 0 0 1 0 1 1) 14)
     × (loads small (lent 1 2 32) ≡ Loaded (fates 3 0 0 0 1 1 1 0) 32)
     × (loads small (lent 0 0 0) ≡ FewClassRows)
     × (loads small (lent 1 1 0) ≡ FewMemberRows)
@@ -48,4 +50,4 @@ examples :
     ∷ (1 ∷ 0 ∷ 14 ∷ 1 ∷ 15 ∷ 6 ∷ 21 ∷ 3 ∷ 24 ∷ 8 ∷ 2 ∷ 1 ∷ 3 ∷ 10 ∷ 12 ∷ [])
     ∷ [])
 unfolding ascii rawLines crEnd firstFrom lastFrom digits plain numberOf runOf trimEnd allWhite piecesFrom sequenceOf afterLead leadOf tails isWhite inRanges whiteRanges commaParts filled checkFrom same baseEnd bracketCount partsFrom join shown residualIn fatesFrom faultsFrom classesOf classRows entriesFrom entryRows
-examples = (refl, refl, refl, refl, refl, refl, refl, refl, refl, refl, refl, refl)
+examples = (refl, refl, refl, refl, refl, refl, refl, refl, refl, refl, refl, refl, refl)

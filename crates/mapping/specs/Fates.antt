@@ -46,7 +46,7 @@ fateOf member l (Field declared name raw) = fates 1 0 0 0 0 1 0 0
 fateOf member l (Method m raw) = methodFate (m .short)
 fateOf member l (Refused number) = fates 1 0 0 0 0 0 0 0
 
--- "after a class line there is no last member"
+-- whether there is a "last member of the current class" after a line: a class line opens a class with none
 abbrev pub memberAfter : Bool → Line → Bool
 memberAfter member Blank = member
 memberAfter member (Comment brace) = member

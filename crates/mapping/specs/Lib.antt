@@ -5,3 +5,4 @@ pub mod Classes
 pub mod Members
 pub mod Loading
 pub mod Examples
+pub mod Commented
