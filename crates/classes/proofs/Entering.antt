@@ -6,13 +6,13 @@ use native.Mathlib.Omega.{arith}
 use lib.ListN.{length, set, take, drop}
 use borrow.Author.Needs.{needs}
 use Rattle.text.specs.declared.trim.Span.{Span}
-use Rattle.descriptor.specs.declared.write.Wrote.{Wrote}
-use Rattle.descriptor.specs.declared.write.Wrote.the-variants as wrote
-use Rattle.descriptor.specs.Names.{classDescriptor}
-use Rattle.descriptor.specs.Pieces.{Pair}
-use Rattle.descriptor.specs.Wrote.{Written, WroteBy}
-use Rattle.descriptor.proofs.Writes.{wrote-told, wrote-none, wrote-then, none-then}
-use Rattle.tables.specs.Rows.{text, packClass}
+use Rattle.pool.specs.declared.write.Wrote.{Wrote}
+use Rattle.pool.specs.declared.write.Wrote.the-variants as wrote
+use Rattle.pool.specs.Names.{classDescriptor}
+use Rattle.pieces.specs.Pieces.{Pair}
+use Rattle.pool.specs.Wrote.{Written, WroteBy}
+use Rattle.pool.proofs.Writes.{wrote-told, wrote-none, wrote-then, none-then}
+use Rattle.rows.specs.Rows.{text, packClass}
 use Rattle.raw_types.specs.Marks.{markOf}
 use Rattle.mapping.specs.Classes.{classText, classRow}
 use Rattle.classes.specs.declared.entry.PairPlaces.{PairPlaces}

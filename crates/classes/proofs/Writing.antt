@@ -14,13 +14,13 @@ use Rattle.places.specs.declared.lines.NextLine.the-variants.{Line, NoLine}
 use Rattle.places.specs.Lines.{lines, nextLine}
 use Rattle.places.proofs.Taking.{Taken, line-taken, none-taken, end-taken}
 use Rattle.text.specs.declared.trim.Span.{Span}
-use Rattle.line.specs.Spans.{Lies}
+use Rattle.parts.specs.Spans.{Lies}
 use Rattle.line.specs.Kinds.{lineOf}
-use Rattle.descriptor.specs.declared.write.Wrote.{Wrote}
-use Rattle.descriptor.specs.declared.write.Wrote.the-variants.{Done, NoRoom}
-use Rattle.descriptor.specs.Pieces.{Pair, join}
-use Rattle.descriptor.specs.Wrote.{Written}
-use Rattle.descriptor.proofs.Writes.{written-length, wrote-then}
+use Rattle.pool.specs.declared.write.Wrote.{Wrote}
+use Rattle.pool.specs.declared.write.Wrote.the-variants.{Done, NoRoom}
+use Rattle.pieces.specs.Pieces.{Pair, join}
+use Rattle.pool.specs.Wrote.{Written}
+use Rattle.pool.proofs.Writes.{written-length, wrote-then}
 use Rattle.tables.specs.Back.{readBack}
 use Rattle.raw_types.specs.Marks.{markOf, Indexed}
 use Rattle.raw_types.proofs.Indexing.{indexed-none, indexed-class, read-back-class}

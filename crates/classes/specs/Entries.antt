@@ -3,10 +3,10 @@ use mathlib.Core.Path.{_≡_}
 use mathlib.Core.List.{List, _++_}
 use Prim.Native.Nat.{ℕ, _+_, _<_}
 use lib.ListN.{length, set}
-use Rattle.descriptor.specs.declared.write.Wrote.{Wrote}
-use Rattle.descriptor.specs.declared.write.Wrote.the-variants as wrote
-use Rattle.descriptor.specs.Pieces.{Pair}
-use Rattle.descriptor.specs.Wrote.{Written}
+use Rattle.pool.specs.declared.write.Wrote.{Wrote}
+use Rattle.pool.specs.declared.write.Wrote.the-variants as wrote
+use Rattle.pieces.specs.Pieces.{Pair}
+use Rattle.pool.specs.Wrote.{Written}
 use Rattle.raw_types.specs.Marks.{markOf}
 use Rattle.mapping.specs.Classes.{classText, classRow}
 use Rattle.classes.specs.declared.entry.PairPlaces.{PairPlaces}

@@ -1,18 +1,18 @@
 // One class: its descriptors in the pool, its row, and its mark in the index.
-use descriptor::Wrote;
-use descriptor::put_class;
+use pool::Wrote;
+use pool::put_class;
 use raw_types::mark_class;
-use tables::Class;
-use tables::ClassRow;
-use tables::Text;
-use tables::pack_class;
+use rows::Class;
+use rows::ClassRow;
+use rows::Text;
+use rows::pack_class;
 use text::Span;
 ghost use mathlib.Core.Path.{_≡_};
 ghost use Prim.Native.Nat.{_≤_, _<_, _-_};
 ghost use lib.ListN.{length};
-ghost use Rattle.line.specs.Spans.{Lies, partOf};
-ghost use Rattle.descriptor.specs.Names.{classDescriptor};
-ghost use Rattle.tables.specs.Rows.{text, packClass};
+ghost use Rattle.parts.specs.Spans.{Lies, partOf};
+ghost use Rattle.pool.specs.Names.{classDescriptor};
+ghost use Rattle.rows.specs.Rows.{text, packClass};
 ghost use Rattle.classes.specs.Entries.{PairBy, EnteredBy};
 ghost use Rattle.classes.specs.Names.{classNamed};
 

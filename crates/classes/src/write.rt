@@ -2,10 +2,10 @@
 use crate::entry::enter_class;
 use crate::names::ClassLine;
 use crate::names::class_line;
-use descriptor::Wrote;
 use places::NextLine;
 use places::next_line;
-use tables::ClassRow;
+use pool::Wrote;
+use rows::ClassRow;
 ghost use mathlib.Core.Path.{_≡_};
 ghost use Prim.Native.Nat.{_≤_};
 ghost use lib.ListN.{length, replicate};

@@ -5,16 +5,16 @@ use Prim.Native.Nat.{ℕ, _+_}
 use Rattle.places.specs.declared.find.Place.{Place}
 use Rattle.places.specs.declared.find.Place.the-variants.{At, Nowhere}
 use Rattle.text.specs.declared.trim.Span.{Span}
-use Rattle.line.specs.declared.arguments.NextArgument.{NextArgument}
-use Rattle.line.specs.declared.arguments.NextArgument.the-variants.{Argument, NoArgument}
-use Rattle.line.specs.declared.signature.Qualified.{Qualified}
-use Rattle.line.specs.declared.signature.Qualified.the-variants.{Owned, Plain}
-use Rattle.line.specs.declared.method.LineRange.{LineRange}
-use Rattle.line.specs.declared.method.LineRange.the-variants.{Lines, NoLines}
-use Rattle.line.specs.declared.method.Method.{Method}
+use Rattle.arguments.specs.declared.arguments.NextArgument.{NextArgument}
+use Rattle.arguments.specs.declared.arguments.NextArgument.the-variants.{Argument, NoArgument}
+use Rattle.parts.specs.declared.signature.Qualified.{Qualified}
+use Rattle.parts.specs.declared.signature.Qualified.the-variants.{Owned, Plain}
+use Rattle.parts.specs.declared.method.LineRange.{LineRange}
+use Rattle.parts.specs.declared.method.LineRange.the-variants.{Lines, NoLines}
+use Rattle.parts.specs.declared.method.Method.{Method}
 use Rattle.line.specs.declared.line.Line.{Line}
 use Rattle.line.specs.declared.line.Line.the-variants as lines
-use Rattle.line.specs.Spans.{span}
+use Rattle.parts.specs.Spans.{span}
 
 abbrev pub bit : Bool → ℕ
 bit true = 1

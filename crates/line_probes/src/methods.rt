@@ -1,7 +1,7 @@
 // The parts of a method.
-use line::LineRange;
-use line::Method;
-use line::Qualified;
+use parts::LineRange;
+use parts::Method;
+use parts::Qualified;
 use text::Span;
 ghost use mathlib.Core.Path.{_≡_};
 ghost use Rattle.line_probes.specs.LineAnswers.{bit, owned, ownerOf, nameOf, lined, firstLine, lastLine, methodNumbers};

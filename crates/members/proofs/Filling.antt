@@ -18,12 +18,12 @@ use Rattle.places.specs.Lines.{lines}
 use Rattle.places.proofs.Taking.{Taken, end-taken}
 use Rattle.text.specs.declared.trim.Span.{Span}
 use Rattle.line.specs.declared.line.Line as line
-use Rattle.line.specs.Spans.{span, partOf, Lies}
+use Rattle.parts.specs.Spans.{span, partOf, Lies}
 use Rattle.line.specs.Kinds.{lineOf}
-use Rattle.descriptor.specs.declared.write.Wrote.the-variants.{Done}
-use Rattle.descriptor.specs.Pieces.{join}
-use Rattle.descriptor.proofs.Writes.{written-length, wrote-then}
-use Rattle.tables.specs.Rows.{packMember}
+use Rattle.pool.specs.declared.write.Wrote.the-variants.{Done}
+use Rattle.pieces.specs.Pieces.{join}
+use Rattle.pool.proofs.Writes.{written-length, wrote-then}
+use Rattle.rows.specs.Rows.{packMember}
 use Rattle.tables.specs.Back.{readBack}
 use Rattle.raw_types.specs.Marks.{Indexed}
 use Rattle.raw_types.proofs.Indexing.{read-back-put, indexed-put}

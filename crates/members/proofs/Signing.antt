@@ -18,13 +18,13 @@ use Rattle.rfc8259.specs.Reader.{Out, got, bad}
 use Rattle.decode.specs.declared.write.Written as decoding
 use Rattle.decode.specs.declared.write.Written.the-variants as decodes
 use Rattle.decode.specs.Decoded.{decoded, writtenOf, roomOf}
-use Rattle.descriptor.specs.declared.write.Wrote.{Wrote}
-use Rattle.descriptor.specs.declared.write.Wrote.the-variants.{Done, NoRoom}
-use Rattle.descriptor.specs.Names.{slashed, classDescriptor}
+use Rattle.pool.specs.declared.write.Wrote.{Wrote}
+use Rattle.pool.specs.declared.write.Wrote.the-variants.{Done, NoRoom}
+use Rattle.pool.specs.Names.{slashed, classDescriptor}
 use Rattle.descriptor.specs.Types.{partOf}
 use Rattle.descriptor.specs.Signatures.{rawKept, rawType, afterClose, rawSignature}
-use Rattle.descriptor.specs.Wrote.{Written, WroteBy}
-use Rattle.descriptor.proofs.Writes.{slashed-length}
+use Rattle.pool.specs.Wrote.{Written, WroteBy}
+use Rattle.pool.proofs.Writes.{slashed-length}
 
 -- A signature does not become shorter.
 type-longer : (s : List ℕ) → length s ≤ length (rawType s)

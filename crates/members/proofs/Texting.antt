@@ -10,18 +10,18 @@ use Rattle.places.specs.Lines.{lines}
 use Rattle.text.specs.declared.trim.Span.{Span}
 use Rattle.rfc8259.specs.Reader.{charsFrom}
 use Rattle.decode.specs.Decoded.{decoded}
-use Rattle.line.specs.declared.signature.Qualified.the-variants.{Owned, Plain}
-use Rattle.line.specs.declared.method.Method as method
-use Rattle.line.specs.Spans.{Lies, NameIn}
-use Rattle.line.specs.Methods.{MethodIn}
-use Rattle.line.specs.Arguments.{argumentsOf}
-use Rattle.descriptor.specs.declared.write.Wrote.{Wrote}
-use Rattle.descriptor.specs.declared.write.Wrote.the-variants.{Done, NoRoom}
-use Rattle.descriptor.specs.Names.{classDescriptor}
+use Rattle.parts.specs.declared.signature.Qualified.the-variants.{Owned, Plain}
+use Rattle.parts.specs.declared.method.Method as method
+use Rattle.parts.specs.Spans.{Lies, NameIn}
+use Rattle.parts.specs.Methods.{MethodIn}
+use Rattle.arguments.specs.Arguments.{argumentsOf}
+use Rattle.pool.specs.declared.write.Wrote.{Wrote}
+use Rattle.pool.specs.declared.write.Wrote.the-variants.{Done, NoRoom}
+use Rattle.pool.specs.Names.{classDescriptor}
 use Rattle.descriptor.specs.Signatures.{rawSignature}
-use Rattle.descriptor.specs.Pieces.{Pair, Look, known, unknown}
-use Rattle.descriptor.specs.Wrote.{Written, WroteBy}
-use Rattle.descriptor.proofs.Writes.{written-length, wrote-told, wrote-none, wrote-then, none-then}
+use Rattle.pieces.specs.Pieces.{Pair, Look, known, unknown}
+use Rattle.pool.specs.Wrote.{Written, WroteBy}
+use Rattle.pool.proofs.Writes.{written-length, wrote-told, wrote-none, wrote-then, none-then}
 use Rattle.tables.specs.Back.{readBack}
 use Rattle.raw_types.specs.Raw.{rawTypeOf}
 use Rattle.raw_types.specs.Marks.{Indexed}

@@ -9,15 +9,15 @@ use borrow.Author.Needs.{needs}
 use Rattle.ground.proofs.PutLaws.{put-nothing}
 use Rattle.utf8.specs.Utf8.{piecesFrom}
 use Rattle.text.specs.Trim.{runOf, allWhite, trimEnd}
-use Rattle.line.specs.declared.arguments.NextArgument.{NextArgument}
-use Rattle.line.specs.declared.arguments.NextArgument.the-variants.{Argument, NoArgument}
-use Rattle.line.specs.Arguments.{commaParts, filled, argumentsOf, nextArgument}
-use Rattle.line.proofs.Listed.{Splits, arguments-split, arguments-end}
-use Rattle.descriptor.specs.declared.write.Wrote.{Wrote}
-use Rattle.descriptor.specs.declared.write.Wrote.the-variants.{Done, NoRoom}
-use Rattle.descriptor.specs.Pieces.{Pair, join}
-use Rattle.descriptor.specs.Wrote.{Written, WroteBy}
-use Rattle.descriptor.proofs.Writes.{written-length, wrote-told, wrote-none, wrote-then, none-then}
+use Rattle.arguments.specs.declared.arguments.NextArgument.{NextArgument}
+use Rattle.arguments.specs.declared.arguments.NextArgument.the-variants.{Argument, NoArgument}
+use Rattle.arguments.specs.Arguments.{commaParts, filled, argumentsOf, nextArgument}
+use Rattle.arguments.proofs.Listed.{Splits, arguments-split, arguments-end}
+use Rattle.pool.specs.declared.write.Wrote.{Wrote}
+use Rattle.pool.specs.declared.write.Wrote.the-variants.{Done, NoRoom}
+use Rattle.pieces.specs.Pieces.{Pair, join}
+use Rattle.pool.specs.Wrote.{Written, WroteBy}
+use Rattle.pool.proofs.Writes.{written-length, wrote-told, wrote-none, wrote-then, none-then}
 use Rattle.tables.specs.Back.{readBack}
 use Rattle.raw_types.specs.Raw.{rawTypeOf}
 use Rattle.raw_types.specs.Marks.{Indexed}

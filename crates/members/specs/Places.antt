@@ -3,10 +3,10 @@ use mathlib.Core.Path.{_≡_}
 use mathlib.Core.List.{List, _++_}
 use Prim.Native.Nat.{ℕ, _+_, _-_, _≤_, _<_}
 use lib.ListN.{length}
-use Rattle.descriptor.specs.Wrote.{Written}
-use Rattle.tables.specs.declared.rows.Member.{Member}
-use Rattle.tables.specs.declared.rows.Ranges.the-variants.{None}
-use Rattle.tables.specs.Rows.{text}
+use Rattle.pool.specs.Wrote.{Written}
+use Rattle.rows.specs.declared.rows.Member.{Member}
+use Rattle.rows.specs.declared.rows.Ranges.the-variants.{None}
+use Rattle.rows.specs.Rows.{text}
 use Rattle.mapping.specs.Members.{rangesOf}
 use Rattle.members.specs.declared.texts.Body.{Body}
 use Rattle.members.specs.declared.texts.Body.the-variants.{Field, Method}

@@ -3,15 +3,15 @@ use mathlib.Core.Bool.{Bool, true, false}
 use mathlib.Core.List.{List, [], _++_}
 use Prim.Native.Nat.{ℕ}
 use Rattle.text.specs.declared.trim.Span.{Span}
-use Rattle.line.specs.declared.signature.Qualified.{Qualified}
-use Rattle.line.specs.declared.signature.Qualified.the-variants.{Owned, Plain}
+use Rattle.parts.specs.declared.signature.Qualified.{Qualified}
+use Rattle.parts.specs.declared.signature.Qualified.the-variants.{Owned, Plain}
 use Rattle.line.specs.declared.line.Line.{Line}
 use Rattle.line.specs.declared.line.Line.the-variants as kinds
-use Rattle.line.specs.Spans.{partOf, Lies}
-use Rattle.line.specs.Methods.{MethodIn}
-use Rattle.line.specs.Arguments.{argumentsOf}
+use Rattle.parts.specs.Spans.{partOf, Lies}
+use Rattle.parts.specs.Methods.{MethodIn}
+use Rattle.arguments.specs.Arguments.{argumentsOf}
 use Rattle.descriptor.specs.Signatures.{rawSignature}
-use Rattle.descriptor.specs.Pieces.{Pair, Look, known, unknown}
+use Rattle.pieces.specs.Pieces.{Pair, Look, known, unknown}
 use Rattle.raw_types.specs.Raw.{rawTypeOf}
 use Rattle.mapping.specs.Members.{typesDescriptor, ownerOf}
 use Rattle.members.specs.declared.texts.Body.{Body}

@@ -1,15 +1,15 @@
 // The row of a member, by the places of its texts.
 use crate::texts::Body;
 use crate::texts::Places;
-use line::LineRange;
-use tables::Member;
-use tables::MemberRow;
-use tables::Ranges;
-use tables::Text;
-use tables::pack_member;
+use parts::LineRange;
+use rows::Member;
+use rows::MemberRow;
+use rows::Ranges;
+use rows::Text;
+use rows::pack_member;
 ghost use mathlib.Core.Path.{_≡_};
 ghost use Prim.Native.Nat.{_≤_, _-_};
-ghost use Rattle.tables.specs.Rows.{text, packMember};
+ghost use Rattle.rows.specs.Rows.{text, packMember};
 ghost use Rattle.mapping.specs.Members.{rangesOf};
 ghost use Rattle.members.specs.Places.{Rising, memberAt};
 

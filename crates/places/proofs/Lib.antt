@@ -1,6 +1,7 @@
 -- Laws of the rules, one file a subject.
 pub mod PlaceLaws
 pub mod LineLaws
+pub mod BlockLaws
 pub mod Holds
 pub mod Taking
 pub mod Found

@@ -138,7 +138,7 @@ module _ (a b : ℕ) (s : List ℕ) (at : ℕ) (h : at + 1 < length s) where
   pub pair-second-other : getD s at 0 ≡ a → (getD s (at + 1) 0 ≡ b → ⊥) → startsPair a b (drop at s) ≡ false
   pair-second-other e f = rw (two-bytes, eq-eqb (getD s at 0) a e, ne-eqb (getD s (at + 1) 0) b f)
 
-no-pair : (a b : ℕ) (l : List ℕ) → length l ≤ 1 → startsPair a b l ≡ false
+pub no-pair : (a b : ℕ) (l : List ℕ) → length l ≤ 1 → startsPair a b l ≡ false
 no-pair a b [] h = refl
 no-pair a b (x ∷ []) h = go (eqb x a)
   where

@@ -1,4 +1,5 @@
 -- Places and lines: the written rules, from document 01 "Text and lines".
 pub mod Places
 pub mod Lines
+pub mod Blocks
 pub mod Examples

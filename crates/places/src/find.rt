@@ -1,4 +1,5 @@
 // Places of bytes in a text, and whether two texts are the same.
+use crate::blocks::after_blocks;
 ghost use mathlib.Core.Path.{_≡_};
 ghost use Rattle.places.specs.Places.{firstWhere, lastWhere, starts, startsPair, same};
 
@@ -12,7 +13,7 @@ pub enum Place {
 pub fn first_byte(s: &[u8], b: u8) -> Place
     ensures { λ r. ⌜ r ≡ firstWhere (starts b) (now (s .entry)) ⌝ }
 {
-    let mut at = 0;
+    let mut at = after_blocks(s, 0, b);
     while at < s.len() {
         if s[at] == b {
             return Place::At(at);
@@ -41,7 +42,7 @@ pub fn last_byte(s: &[u8], b: u8) -> Place
 pub fn first_pair(s: &[u8], a: u8, b: u8) -> Place
     ensures { λ r. ⌜ r ≡ firstWhere (startsPair a b) (now (s .entry)) ⌝ }
 {
-    let mut at = 0;
+    let mut at = after_blocks(s, 0, a);
     while at + 1 < s.len() {
         if s[at] != a {
             at += 1;

@@ -1,4 +1,5 @@
 // Places of bytes in a text, its lines, and whether two texts are the same. Every function takes any bytes.
+mod blocks;
 mod find;
 mod lines;
 

@@ -1,4 +1,5 @@
 // Lines of a text.
+use crate::blocks::after_blocks;
 ghost use mathlib.Core.Path.{_≡_};
 ghost use Prim.Native.Nat.{_+_, _≤_};
 ghost use lib.ListN.{length, drop};
@@ -19,7 +20,7 @@ fn lf_from(s: &[u8], from: usize) -> usize
     requires { ⌜ from ≤ length (now s) ⌝ }
     ensures { λ r. ⌜ r ≡ from + toLf (drop from (now (s .entry))) ⌝ }
 {
-    let mut at = from;
+    let mut at = after_blocks(s, from, b'\n');
     while at < s.len() {
         if s[at] == b'\n' {
             return at;

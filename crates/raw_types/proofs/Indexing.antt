@@ -12,10 +12,10 @@ use borrow.Author.Tests.{eqb-true, eqb-false}
 use Rattle.ground.specs.Put.{put}
 use Rattle.ground.proofs.Cases.{le-or-lt}
 use Rattle.ground.proofs.Parts.{drop-take}
-use Rattle.descriptor.specs.Wrote.{Written}
-use Rattle.descriptor.proofs.Writes.{written-length}
-use Rattle.tables.specs.declared.rows.Text.{Text}
-use Rattle.tables.specs.Rows.{text, packClass, classOf}
+use Rattle.pool.specs.Wrote.{Written}
+use Rattle.pool.proofs.Writes.{written-length}
+use Rattle.rows.specs.declared.rows.Text.{Text}
+use Rattle.rows.specs.Rows.{text, packClass, classOf}
 use Rattle.tables.specs.Back.{textIn, pairOf, readBack}
 use Rattle.raw_types.specs.Marks.{markOf, Indexed}
 use Rattle.raw_types.proofs.Marking.{mark-below}

@@ -13,7 +13,7 @@ use mir.Syntax.{w8, w64}
 use lib.Seq.{drop-cons}
 use borrow.Author.Needs.{needs}
 use Rattle.ground.specs.Choice.{pick}
-use Rattle.descriptor.specs.Names.{slash, classDescriptor}
+use Rattle.pool.specs.Names.{slash, classDescriptor}
 use Rattle.raw_types.specs.Raw.{slashIf, nameBytes, pieceOf}
 use Rattle.raw_types.specs.Marks.{markFrom, markOf}
 

@@ -10,9 +10,9 @@ use borrow.Author.Needs.{needs}
 use Rattle.ground.specs.Choice.{pick}
 use Rattle.places.specs.Places.{same}
 use Rattle.places.proofs.PlaceLaws.{same-equal}
-use Rattle.descriptor.specs.Names.{classDescriptor}
-use Rattle.descriptor.specs.Pieces.{known, unknown, orLook, shown, back}
-use Rattle.tables.specs.Rows.{classOf}
+use Rattle.pool.specs.Names.{classDescriptor}
+use Rattle.pieces.specs.Pieces.{known, unknown, orLook, shown, back}
+use Rattle.rows.specs.Rows.{classOf}
 use Rattle.tables.specs.Back.{textIn, readBack}
 use Rattle.raw_types.specs.Raw.{pieceOf}
 use Rattle.raw_types.specs.Marks.{markOf, Indexed}

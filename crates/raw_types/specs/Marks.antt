@@ -3,8 +3,8 @@ use mathlib.Core.Path.{_≡_}
 use mathlib.Core.List.{List, [], _∷_}
 use Prim.Native.Nat.{ℕ, _+_, _*_, _%_, _≤_, _<_}
 use lib.ListN.{length, getD}
-use Rattle.descriptor.specs.Names.{slash}
-use Rattle.tables.specs.Rows.{classOf}
+use Rattle.pool.specs.Names.{slash}
+use Rattle.rows.specs.Rows.{classOf}
 use Rattle.tables.specs.Back.{textIn}
 
 -- a dot counts as a slash, so that a name with dots has the mark of its descriptor

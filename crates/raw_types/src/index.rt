@@ -1,7 +1,7 @@
 // Where the search for a display class starts: a table of 8,192 numbers, by a mark of the descriptor.
 ghost use mathlib.Core.Path.{_≡_};
 ghost use lib.ListN.{length, set};
-ghost use Rattle.descriptor.specs.Names.{slash, classDescriptor};
+ghost use Rattle.pool.specs.Names.{slash, classDescriptor};
 ghost use Rattle.raw_types.specs.Marks.{markOf};
 
 // A dot as a slash, any other byte as it is.

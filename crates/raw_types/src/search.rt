@@ -1,7 +1,7 @@
 // The last class row with a display descriptor.
 use crate::index::mark_of;
 use crate::write::stored_byte;
-use tables::ClassRow;
+use rows::ClassRow;
 ghost use mathlib.Core.Path.{_≡_};
 ghost use Prim.Native.Nat.{_+_, _≤_};
 ghost use lib.ListN.{length, take, drop};

@@ -1,10 +1,10 @@
 // Bytes written into a lent pool at a place. Where there is no room for all of them, the pool is the caller's to clear.
-use descriptor::Wrote;
+use pool::Wrote;
 ghost use mathlib.Core.Path.{_≡_};
 ghost use mathlib.Core.List.{[], _∷_, _++_};
 ghost use Prim.Native.Nat.{_+_, _≤_};
 ghost use lib.ListN.{length, take, drop, replicate};
-ghost use Rattle.descriptor.specs.Wrote.{WroteBy};
+ghost use Rattle.pool.specs.Wrote.{WroteBy};
 ghost use Rattle.raw_types.specs.Raw.{slashIf, nameBytes, pieceOf};
 
 // A byte of a name as it stands in a descriptor.

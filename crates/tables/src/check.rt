@@ -1,13 +1,13 @@
 // The check for refusal 14, "tables malformed". Every function takes any rows, any pool and any counts.
-use crate::rows::ClassRow;
-use crate::rows::Member;
-use crate::rows::MemberRow;
-use crate::rows::Text;
-use crate::rows::range_flag;
-use crate::rows::unpack_class;
-use crate::rows::unpack_member;
 use crate::texts::lesser;
 use crate::texts::text_in;
+use rows::ClassRow;
+use rows::Member;
+use rows::MemberRow;
+use rows::Text;
+use rows::range_flag;
+use rows::unpack_class;
+use rows::unpack_member;
 use utf8::Check;
 use utf8::check_text;
 ghost use mathlib.Core.Path.{_≡_};

@@ -1,5 +1,6 @@
 -- Laws of the rules, one file a subject.
 pub mod Ranges
 pub mod TrimLaws
+mod Ink
 pub mod Sync
 pub mod Cuts

@@ -17,6 +17,7 @@ use Rattle.utf8.specs.declared.sequence.Sequence.the-variants.{End, Good, Bad}
 use Rattle.utf8.specs.Utf8.{Lead, lead, leadOf, tails, afterLead, sequenceOf, pieces}
 use Rattle.text.specs.White.{isWhite}
 use Rattle.text.specs.Trim.{allWhite, trimEnd, whiteLength, Before}
+use Rattle.text.proofs.Ink.{ink, ink-reads, ink-dark}
 use Rattle.utf8.proofs.Leads.{lead-low-none}
 use Rattle.utf8.proofs.Sequences.{good-fits, end-empty, tails-fit, first-good, second-good, went-on}
 use Rattle.utf8.proofs.Pieces.{pieces-none, pieces-good, pieces-bad}
@@ -177,6 +178,29 @@ white-length-reads l r w h = go (sequenceOf l) refl
     go (Good d m) e = by d m (isWhite d) refl (rw e at w) e
     go (Bad m) e = absurd (let q = rw e at w in omega arith)
 
+-- A byte that alone is no white space ends no white space either.
+pub ink-before : (s : List ℕ) («end» : ℕ) → «end» ≤ length s → 0 < «end» → ink (getD s («end» - 1) 0) ≡ true → Before s «end» 0
+ink-before s e h p i = record { fits = omega arith; found = λ z. absurd (omega arith); missed = λ z k l u w. go k l u (white-length-reads (drop (e - k) s) k w l) (le-or-lt 2 k) }
+  where
+    x : ℕ
+    x = getD s (e - 1) 0
+
+    low : x ≤ 0x7F
+    low = within-both 0x21 0x7F x i .1
+
+    go : (k : ℕ) → 0 < k → k ≤ e → (d : ℕ) × (sequenceOf (drop (e - k) s) ≡ Good d k) × (isWhite d ≡ true) → (2 ≤ k) ⊎ (k < 2) → ⊥
+    go k l u (d, g, w) (inl m) =
+        let back : e - k + (k - 1) ≡ e - 1 = omega arith in
+        let tail = good-inner (drop (e - k) s) g (k - 1) (omega arith) (omega arith) .0 in
+        let there : 0x80 ≤ x = rw (getD-drop (e - k) s (k - 1) 0, back) at tail in
+        omega (arith, low)
+    go k l u (d, g, w) (inr m) =
+        let one : k ≡ 1 = omega arith in
+        let here = ink-reads s (e - 1) (omega arith) i in
+        let same : Good d 1 ≡ Good x 1 = sym (rw one at g) ∙ here in
+        let code : d ≡ x = cc in
+        clash w (rw code (ink-dark x i))
+
 -- The white space character before a place: no shorter one ends there.
 pub record Trying (s : List ℕ) («end» size : ℕ) : Type 0 where
   pub some : 1 ≤ size
@@ -244,4 +268,11 @@ module _ {s : List ℕ} {«end» : ℕ} (k : Ending s «end») where
     pub ending-room : r ≤ «end»
     ending-room = b .fits
 
-pub ruleset ending = (ending-starts, ending-empty, ending-stops, ending-more, ending-falls, ending-room, needs)
+-- a byte that alone tells it
+pub ending-ink : {s : List ℕ} {«end» : ℕ} {r : Bool} → Ending s «end» → 0 < «end» → r ≡ ink (getD s («end» - 1) 0) → r ≡ true → «end» ≡ trimEnd s
+ending-ink {s = s} {«end» = e} k h i t = ending-stops k (ink-before s e (k .inside) h (sym i ∙ t)) refl
+
+pub ending-last : {s : List ℕ} {«end» : ℕ} → Ending s «end» → 0 < «end» → «end» - 1 < length s
+ending-last k h = omega (arith, k .inside)
+
+pub ruleset ending = (ending-ink, ending-last, ending-starts, ending-empty, ending-stops, ending-more, ending-falls, ending-room, needs)

@@ -5,6 +5,7 @@ use utf8::Sequence;
 use utf8::sequence_at;
 ghost use mathlib.Core.Path.{_≡_};
 ghost use lib.ListN.{drop};
+ghost use Rattle.ground.specs.Choice.{within};
 ghost use Rattle.text.specs.Trim.{trimStart, trimEnd, trimBoth, afterMarks, startsWhite, firstWhite, lastWhite, whiteLength, Before};
 
 // A part of a text: where it starts and where it ends.
@@ -13,10 +14,29 @@ pub struct Span {
     pub end: usize,
 }
 
+// Whether a byte alone tells that no white space stands there, and that none ends there: an ASCII character above the space.
+fn is_ink(b: u8) -> bool
+    ensures { λ r. ⌜ r ≡ within 0x21 0x7F b ⌝ }
+{
+    if b < 0x21 {
+        return false;
+    }
+    if 0x7F < b {
+        return false;
+    }
+    true
+}
+
 // Whether a white space character stands at a place.
 fn white_at(s: &[u8], at: usize) -> bool
     ensures { λ r. ⌜ r ≡ startsWhite (drop at (now (s .entry))) ⌝ }
 {
+    if s.len() <= at {
+        return false;
+    }
+    if is_ink(s[at]) {
+        return false;
+    }
     match sequence_at(s, at) {
         Sequence::End => false,
         Sequence::Good { code, length: _ } => is_white(code),
@@ -37,6 +57,9 @@ pub fn trim_start(s: &[u8]) -> usize
 {
     let mut at = 0;
     while at < s.len() {
+        if is_ink(s[at]) {
+            return at;
+        }
         match sequence_at(s, at) {
             Sequence::End => {
                 return at;
@@ -120,6 +143,9 @@ pub fn trim_end(s: &[u8]) -> usize
 {
     let mut end = s.len();
     while 0 < end {
+        if is_ink(s[end - 1]) {
+            return end;
+        }
         let length = white_before(s, end);
         if length == 0 {
             return end;

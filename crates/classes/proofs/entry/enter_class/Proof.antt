@@ -2,11 +2,6 @@
 use Rattle.classes.proofs.Entering.{entering}
 use Rattle.classes.proofs.entry.enter_class.Statement.{statement}
 use Rattle.classes.proofs.entry.enter_class.Tie as tie
-use Rattle.classes.proofs.entry.enter_class.Reads as reads
-use Rattle.classes.proofs.entry.enter_class.Lts as lts
-use Rattle.classes.proofs.entry.class_row.Reads as class-row-reads
-use Rattle.classes.proofs.entry.put_pair.Reads as put-pair-reads
-use Rattle.raw_types.proofs.mark_class.Reads as mark-class-reads
 
 sub-put-pair : tie.Need-sub-put-pair
 sub-put-pair c = search entering

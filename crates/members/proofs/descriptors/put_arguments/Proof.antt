@@ -4,10 +4,6 @@ use Prim.Native.Nat.{_-_}
 use lib.ListN.{length}
 use Rattle.members.proofs.descriptors.put_arguments.Statement.{statement}
 use Rattle.members.proofs.descriptors.put_arguments.Tie as tie
-use Rattle.members.proofs.descriptors.put_arguments.Reads as reads
-use Rattle.members.proofs.descriptors.put_arguments.Lts as lts
-use Rattle.line.proofs.next_argument.Reads as next-argument-reads
-use Rattle.raw_types.proofs.put_raw_type.Reads as put-raw-type-reads
 
 abbrev Inv-loop : tie.InvT-loop
 Inv-loop pool₀ at arguments classes index to₀ from₀ pool to from = Arguing classes index pool₀ at arguments to from pool

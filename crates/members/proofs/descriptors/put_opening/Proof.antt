@@ -2,10 +2,6 @@
 use Rattle.members.proofs.Typing.{opening}
 use Rattle.members.proofs.descriptors.put_opening.Statement.{statement}
 use Rattle.members.proofs.descriptors.put_opening.Tie as tie
-use Rattle.members.proofs.descriptors.put_opening.Reads as reads
-use Rattle.members.proofs.descriptors.put_opening.Lts as lts
-use Rattle.descriptor.proofs.put_text.Reads as put-text-reads
-use Rattle.members.proofs.descriptors.put_arguments.Reads as put-arguments-reads
 
 slice-aggregate-put-text : tie.Need-slice-aggregate-put-text
 slice-aggregate-put-text c = search opening

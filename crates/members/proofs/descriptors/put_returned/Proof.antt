@@ -2,10 +2,6 @@
 use Rattle.members.proofs.Typing.{returning}
 use Rattle.members.proofs.descriptors.put_returned.Statement.{statement}
 use Rattle.members.proofs.descriptors.put_returned.Tie as tie
-use Rattle.members.proofs.descriptors.put_returned.Reads as reads
-use Rattle.members.proofs.descriptors.put_returned.Lts as lts
-use Rattle.descriptor.proofs.put_text.Reads as put-text-reads
-use Rattle.raw_types.proofs.put_raw_type.Reads as put-raw-type-reads
 
 slice-aggregate-put-text : tie.Need-slice-aggregate-put-text
 slice-aggregate-put-text c = search returning

@@ -2,10 +2,6 @@
 use Rattle.members.proofs.Signing.{signing}
 use Rattle.members.proofs.descriptors.put_signature.Statement.{statement}
 use Rattle.members.proofs.descriptors.put_signature.Tie as tie
-use Rattle.members.proofs.descriptors.put_signature.Reads as reads
-use Rattle.members.proofs.descriptors.put_signature.Lts as lts
-use Rattle.decode.proofs.decode_at.Reads as decode-at-reads
-use Rattle.descriptor.proofs.settle_signature.Reads as settle-signature-reads
 
 decode-at-requires : tie.Need-decode-at-requires
 decode-at-requires c κs = search signing

@@ -2,10 +2,6 @@
 use Rattle.members.proofs.Typing.{types}
 use Rattle.members.proofs.descriptors.put_types.Statement.{statement}
 use Rattle.members.proofs.descriptors.put_types.Tie as tie
-use Rattle.members.proofs.descriptors.put_types.Reads as reads
-use Rattle.members.proofs.descriptors.put_types.Lts as lts
-use Rattle.members.proofs.descriptors.put_opening.Reads as put-opening-reads
-use Rattle.members.proofs.descriptors.put_returned.Reads as put-returned-reads
 
 put-opening-requires : tie.Need-put-opening-requires
 put-opening-requires c κs = search types

@@ -2,12 +2,6 @@
 use Rattle.members.proofs.Texting.{describing}
 use Rattle.members.proofs.texts.put_descriptor.Statement.{statement}
 use Rattle.members.proofs.texts.put_descriptor.Tie as tie
-use Rattle.members.proofs.texts.put_descriptor.Reads as reads
-use Rattle.members.proofs.texts.put_descriptor.Lts as lts
-use Rattle.members.proofs.descriptors.put_signature.Reads as put-signature-reads
-use Rattle.members.proofs.texts.is_method.Reads as is-method-reads
-use Rattle.members.proofs.texts.put_display_types.Reads as put-display-types-reads
-use Rattle.scan.proofs.residual_after.Reads as residual-after-reads
 
 residual-after-requires : tie.Need-residual-after-requires
 residual-after-requires c κs = search describing

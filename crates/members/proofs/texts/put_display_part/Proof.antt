@@ -2,10 +2,6 @@
 use Rattle.members.proofs.Texting.{display-part}
 use Rattle.members.proofs.texts.put_display_part.Statement.{statement}
 use Rattle.members.proofs.texts.put_display_part.Tie as tie
-use Rattle.members.proofs.texts.put_display_part.Reads as reads
-use Rattle.members.proofs.texts.put_display_part.Lts as lts
-use Rattle.descriptor.proofs.put_text.Reads as put-text-reads
-use Rattle.members.proofs.texts.put_owner.Reads as put-owner-reads
 
 sub-put-text : tie.Need-sub-put-text
 sub-put-text c = search display-part

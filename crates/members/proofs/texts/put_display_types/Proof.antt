@@ -2,10 +2,6 @@
 use Rattle.members.proofs.Texting.{displaying}
 use Rattle.members.proofs.texts.put_display_types.Statement.{statement}
 use Rattle.members.proofs.texts.put_display_types.Tie as tie
-use Rattle.members.proofs.texts.put_display_types.Reads as reads
-use Rattle.members.proofs.texts.put_display_types.Lts as lts
-use Rattle.members.proofs.descriptors.put_types.Reads as put-types-reads
-use Rattle.raw_types.proofs.put_raw_type.Reads as put-raw-type-reads
 
 enum-known-body : tie.Need-enum-known-body
 enum-known-body c = search displaying

@@ -2,10 +2,6 @@
 use Rattle.members.proofs.Texting.{owning}
 use Rattle.members.proofs.texts.put_owner.Statement.{statement}
 use Rattle.members.proofs.texts.put_owner.Tie as tie
-use Rattle.members.proofs.texts.put_owner.Reads as reads
-use Rattle.members.proofs.texts.put_owner.Lts as lts
-use Rattle.descriptor.proofs.put_class.Reads as put-class-reads
-use Rattle.descriptor.proofs.put_text.Reads as put-text-reads
 
 enum-told : tie.Need-enum-told
 enum-told c = search owning

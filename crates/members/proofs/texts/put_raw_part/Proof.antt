@@ -2,10 +2,6 @@
 use Rattle.members.proofs.Texting.{raw-part}
 use Rattle.members.proofs.texts.put_raw_part.Statement.{statement}
 use Rattle.members.proofs.texts.put_raw_part.Tie as tie
-use Rattle.members.proofs.texts.put_raw_part.Reads as reads
-use Rattle.members.proofs.texts.put_raw_part.Lts as lts
-use Rattle.descriptor.proofs.put_text.Reads as put-text-reads
-use Rattle.members.proofs.texts.put_descriptor.Reads as put-descriptor-reads
 
 sub-put-text : tie.Need-sub-put-text
 sub-put-text c = search raw-part

@@ -2,9 +2,6 @@
 use Rattle.members.proofs.Rowed.{roles}
 use Rattle.members.proofs.texts.role_of.Statement.{statement}
 use Rattle.members.proofs.texts.role_of.Tie as tie
-use Rattle.members.proofs.texts.role_of.Reads as reads
-use Rattle.members.proofs.texts.role_of.Lts as lts
-use Rattle.members.proofs.texts.name_span.Reads as name-span-reads
 
 enum-told : tie.Need-enum-told
 enum-told c = search roles

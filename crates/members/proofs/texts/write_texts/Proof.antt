@@ -2,10 +2,6 @@
 use Rattle.members.proofs.Texting.{texts}
 use Rattle.members.proofs.texts.write_texts.Statement.{statement}
 use Rattle.members.proofs.texts.write_texts.Tie as tie
-use Rattle.members.proofs.texts.write_texts.Reads as reads
-use Rattle.members.proofs.texts.write_texts.Lts as lts
-use Rattle.members.proofs.texts.put_display_part.Reads as put-display-part-reads
-use Rattle.members.proofs.texts.put_raw_part.Reads as put-raw-part-reads
 
 put-raw-part-requires : tie.Need-put-raw-part-requires
 put-raw-part-requires c κs = search texts

@@ -2,9 +2,6 @@
 use Rattle.raw_types.proofs.Marking.{class-marking}
 use Rattle.raw_types.proofs.index.mark_class.Statement.{statement}
 use Rattle.raw_types.proofs.index.mark_class.Tie as tie
-use Rattle.raw_types.proofs.index.mark_class.Reads as reads
-use Rattle.raw_types.proofs.index.mark_class.Lts as lts
-use Rattle.raw_types.proofs.index.mark_of.Reads as mark-of-reads
 
 mark-of-requires : tie.Need-mark-of-requires
 mark-of-requires c κs = search class-marking

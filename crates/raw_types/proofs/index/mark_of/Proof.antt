@@ -4,9 +4,6 @@ use Prim.Native.Nat.{_-_}
 use lib.ListN.{length}
 use Rattle.raw_types.proofs.index.mark_of.Statement.{statement}
 use Rattle.raw_types.proofs.index.mark_of.Tie as tie
-use Rattle.raw_types.proofs.index.mark_of.Reads as reads
-use Rattle.raw_types.proofs.index.mark_of.Lts as lts
-use Rattle.raw_types.proofs.index.slash_number.Reads as slash-number-reads
 
 abbrev Inv-loop : tie.InvT-loop
 Inv-loop name mark₀ k₀ mark k = Marks name mark k

@@ -1,9 +1,7 @@
 -- `raw_types::index::slash_number` meets its contract, by the laws of descriptor's Writes.
-use Rattle.descriptor.proofs.Writes.{slashing}
+use Rattle.pool.proofs.Writes.{slashing}
 use Rattle.raw_types.proofs.index.slash_number.Statement.{statement}
 use Rattle.raw_types.proofs.index.slash_number.Tie as tie
-use Rattle.raw_types.proofs.index.slash_number.Reads as reads
-use Rattle.raw_types.proofs.index.slash_number.Lts as lts
 
 returns : tie.Need-returns
 returns c = search slashing

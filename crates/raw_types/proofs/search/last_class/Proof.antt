@@ -3,12 +3,6 @@ use Rattle.raw_types.proofs.Searching.{behind-more, searching, Behind}
 use Rattle.raw_types.specs.Raw.{pieceOf}
 use Rattle.raw_types.proofs.search.last_class.Statement.{statement}
 use Rattle.raw_types.proofs.search.last_class.Tie as tie
-use Rattle.raw_types.proofs.search.last_class.Reads as reads
-use Rattle.raw_types.proofs.search.last_class.Lts as lts
-use Rattle.raw_types.proofs.index.mark_of.Reads as mark-of-reads
-use Rattle.raw_types.proofs.search.is_piece.Reads as is-piece-reads
-use Rattle.raw_types.proofs.search.wide.Reads as wide-reads
-use Rattle.raw_types.proofs.search.wide_number.Reads as wide-number-reads
 
 abbrev Inv-loop : tie.InvT-loop
 Inv-loop classes pool index name dots mark count₀ count = Behind classes pool (pieceOf dots name) count

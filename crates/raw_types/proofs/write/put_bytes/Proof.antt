@@ -1,11 +1,9 @@
 -- `raw_types::write::put_bytes` meets its contract, by the laws of descriptor's Writes and an invariant that says what is done and what is left.
 use Prim.Native.Nat.{_-_}
 use lib.ListN.{replicate}
-use Rattle.descriptor.proofs.Writes.{bytes, Pasting}
+use Rattle.pool.proofs.Writes.{bytes, Pasting}
 use Rattle.raw_types.proofs.write.put_bytes.Statement.{statement}
 use Rattle.raw_types.proofs.write.put_bytes.Tie as tie
-use Rattle.raw_types.proofs.write.put_bytes.Reads as reads
-use Rattle.raw_types.proofs.write.put_bytes.Lts as lts
 
 abbrev Inv-loop : tie.InvT-loop
 Inv-loop pool₀ at byte count k₀ pool k = Pasting pool₀ at (replicate count byte) pool k

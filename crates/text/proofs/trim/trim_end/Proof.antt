@@ -1,5 +1,6 @@
 -- `text::trim::trim_end` meets its contract, by the laws of Sync and an invariant that says: the rest decides as the whole does.
-use Rattle.text.proofs.Sync.{ending, Ending}
+use Rattle.text.proofs.Sync.{ending}
+use Rattle.text.proofs.Sync.{Ending}
 use Rattle.text.proofs.trim.trim_end.Statement.{statement}
 use Rattle.text.proofs.trim.trim_end.Tie as tie
 
@@ -12,11 +13,23 @@ abbrev μ-loop : tie.MeasureT-loop
 loop-holds : tie.Need-loop-holds Inv-loop μ-loop
 loop-holds c = search ending
 
-white-before-requires : tie.Need-white-before-requires Inv-loop μ-loop
-white-before-requires c κs = search ending
+sub-is-ink : tie.Need-sub-is-ink Inv-loop μ-loop
+sub-is-ink c = search ending
+
+shared-slice-read-is-ink : tie.Need-shared-slice-read-is-ink Inv-loop μ-loop
+shared-slice-read-is-ink c = search ending
+
+is-ink-requires : tie.Need-is-ink-requires Inv-loop μ-loop
+is-ink-requires c κs = search ending
 
 returns : tie.Need-returns Inv-loop μ-loop
 returns c = search ending
+
+white-before-requires : tie.Need-white-before-requires Inv-loop μ-loop
+white-before-requires c κs = search ending
+
+returns-2 : tie.Need-returns-2 Inv-loop μ-loop
+returns-2 c = search ending
 
 sub-end : tie.Need-sub-end Inv-loop μ-loop
 sub-end c = search ending
@@ -27,8 +40,8 @@ loop-less c = search ending
 loop-again : tie.Need-loop-again Inv-loop μ-loop
 loop-again c = search ending
 
-returns-2 : tie.Need-returns-2 Inv-loop μ-loop
-returns-2 c = search ending
+returns-3 : tie.Need-returns-3 Inv-loop μ-loop
+returns-3 c = search ending
 
 pub trim-end-spec : {M : Type 1} → statement M
 trim-end-spec =
@@ -37,9 +50,13 @@ trim-end-spec =
     Inv-loop
     μ-loop
     loop-holds
-    white-before-requires
+    sub-is-ink
+    shared-slice-read-is-ink
+    is-ink-requires
     returns
+    white-before-requires
+    returns-2
     sub-end
     loop-less
     loop-again
-    returns-2)
+    returns-3)

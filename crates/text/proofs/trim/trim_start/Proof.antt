@@ -1,5 +1,6 @@
--- `text::trim::trim_start` meets its contract, by the laws of TrimLaws and an invariant that says: the rest decides as the whole does.
-use Rattle.text.proofs.TrimLaws.{running, Running}
+-- `text::trim::trim_start` meets its contract, by the laws of Ink and an invariant that says: the rest decides as the whole does.
+use Rattle.text.proofs.Ink.{running-to-ink}
+use Rattle.text.proofs.TrimLaws.{Running}
 use Prim.Native.Nat.{_-_}
 use lib.ListN.{length}
 use Rattle.text.specs.White.{isWhite}
@@ -13,43 +14,52 @@ abbrev μ-loop : tie.MeasureT-loop
 μ-loop s at₀ at = length s - at
 
 loop-holds : tie.Need-loop-holds Inv-loop μ-loop
-loop-holds c = search running
+loop-holds c = search running-to-ink
 
-sequence-at-requires : tie.Need-sequence-at-requires Inv-loop μ-loop
-sequence-at-requires c κs = search running
+shared-slice-read-is-ink : tie.Need-shared-slice-read-is-ink Inv-loop μ-loop
+shared-slice-read-is-ink c = search running-to-ink
 
-enum-told : tie.Need-enum-told Inv-loop μ-loop
-enum-told c = search running
+is-ink-requires : tie.Need-is-ink-requires Inv-loop μ-loop
+is-ink-requires c κs = search running-to-ink
 
 returns : tie.Need-returns Inv-loop μ-loop
-returns c = search running
+returns c = search running-to-ink
 
-enum-known-code : tie.Need-enum-known-code Inv-loop μ-loop
-enum-known-code c = search running
+sequence-at-requires : tie.Need-sequence-at-requires Inv-loop μ-loop
+sequence-at-requires c κs = search running-to-ink
 
-is-white-requires : tie.Need-is-white-requires Inv-loop μ-loop
-is-white-requires c κs = search running
-
-add-at : tie.Need-add-at Inv-loop μ-loop
-add-at c = search running
-
-loop-less : tie.Need-loop-less Inv-loop μ-loop
-loop-less c = search running
-
-loop-again : tie.Need-loop-again Inv-loop μ-loop
-loop-again c = search running
+enum-told : tie.Need-enum-told Inv-loop μ-loop
+enum-told c = search running-to-ink
 
 returns-2 : tie.Need-returns-2 Inv-loop μ-loop
-returns-2 c = search running
+returns-2 c = search running-to-ink
 
-enum-told-2 : tie.Need-enum-told-2 Inv-loop μ-loop
-enum-told-2 c = search running
+enum-known-code : tie.Need-enum-known-code Inv-loop μ-loop
+enum-known-code c = search running-to-ink
+
+is-white-requires : tie.Need-is-white-requires Inv-loop μ-loop
+is-white-requires c κs = search running-to-ink
+
+add-at : tie.Need-add-at Inv-loop μ-loop
+add-at c = search running-to-ink
+
+loop-less : tie.Need-loop-less Inv-loop μ-loop
+loop-less c = search running-to-ink
+
+loop-again : tie.Need-loop-again Inv-loop μ-loop
+loop-again c = search running-to-ink
 
 returns-3 : tie.Need-returns-3 Inv-loop μ-loop
-returns-3 c = search running
+returns-3 c = search running-to-ink
+
+enum-told-2 : tie.Need-enum-told-2 Inv-loop μ-loop
+enum-told-2 c = search running-to-ink
 
 returns-4 : tie.Need-returns-4 Inv-loop μ-loop
-returns-4 c = search running
+returns-4 c = search running-to-ink
+
+returns-5 : tie.Need-returns-5 Inv-loop μ-loop
+returns-5 c = search running-to-ink
 
 pub trim-start-spec : {M : Type 1} → statement M
 trim-start-spec =
@@ -58,15 +68,18 @@ trim-start-spec =
     Inv-loop
     μ-loop
     loop-holds
+    shared-slice-read-is-ink
+    is-ink-requires
+    returns
     sequence-at-requires
     enum-told
-    returns
+    returns-2
     enum-known-code
     is-white-requires
     add-at
     loop-less
     loop-again
-    returns-2
-    enum-told-2
     returns-3
-    returns-4)
+    enum-told-2
+    returns-4
+    returns-5)
