@@ -30,8 +30,9 @@ use Rattle.members.specs.declared.texts.Body.{Body}
 use Rattle.members.specs.declared.texts.Body.the-variants.{Field, Method}
 use Rattle.members.specs.declared.texts.MemberLine.{MemberLine}
 use Rattle.members.specs.declared.texts.Places.{Places}
-use Rattle.members.specs.declared.texts.Role.the-variants.{Class, Member, Neither}
-use Rattle.members.specs.Texts.{nameSpan, roleOf, BodyIn, MemberIn, descriptorText, ownerText, MemberTexts, textsOf, allTexts}
+use Rattle.members.specs.declared.role.Role.the-variants.{Class, Member, Neither}
+use Rattle.members.specs.Texts.{BodyIn, MemberIn, descriptorText, ownerText, MemberTexts, textsOf, allTexts}
+use Rattle.members.specs.Roles.{nameSpan, roleOf}
 use Rattle.members.specs.Places.{Placed, memberAt}
 
 -- the member with these texts

@@ -42,12 +42,13 @@ use Rattle.members.specs.declared.texts.MemberLine.{MemberLine}
 use Rattle.members.specs.declared.texts.Places.{Places}
 use Rattle.members.specs.declared.texts.Entered.{Entered}
 use Rattle.members.specs.declared.texts.Entered.the-variants as entered
-use Rattle.members.specs.declared.texts.Role.{Role}
-use Rattle.members.specs.declared.texts.Role.the-variants.{Class, Member, Neither}
+use Rattle.members.specs.declared.role.Role.{Role}
+use Rattle.members.specs.declared.role.Role.the-variants.{Class, Member, Neither}
 use Rattle.members.specs.declared.step.Step.{Step}
 use Rattle.members.specs.declared.step.Step.the-variants as steps
 use Rattle.members.specs.Steps.{StepLine, StepBy}
-use Rattle.members.specs.Texts.{roleOf, MemberIn, MemberTexts, textsOf, allTexts}
+use Rattle.members.specs.Texts.{MemberIn, MemberTexts, textsOf, allTexts}
+use Rattle.members.specs.Roles.{roleOf}
 use Rattle.members.specs.Places.{EnteredAt, EnteredBy, Rising, memberAt}
 use Rattle.members.specs.Filled.{Holding, members, WrittenAll, CutShort}
 use Rattle.members.proofs.Typing.{written-nothing}

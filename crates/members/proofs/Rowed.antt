@@ -20,8 +20,8 @@ use Rattle.mapping.specs.Members.{rangesOf}
 use Rattle.members.specs.declared.texts.Body.{Body}
 use Rattle.members.specs.declared.texts.Body.the-variants.{Field, Method}
 use Rattle.members.specs.declared.texts.Places.{Places}
-use Rattle.members.specs.declared.texts.Role.the-variants.{Class, Member, Neither}
-use Rattle.members.specs.Texts.{nameSpan, roleOf}
+use Rattle.members.specs.declared.role.Role.the-variants.{Class, Member, Neither}
+use Rattle.members.specs.Roles.{nameSpan, roleOf}
 use Rattle.members.specs.Places.{Rising, memberAt}
 
 -- Ranges.

@@ -2,11 +2,6 @@
 use mathlib.Core.Bool.{Bool, true, false}
 use mathlib.Core.List.{List, [], _++_}
 use Prim.Native.Nat.{ℕ}
-use Rattle.text.specs.declared.trim.Span.{Span}
-use Rattle.parts.specs.declared.signature.Qualified.{Qualified}
-use Rattle.parts.specs.declared.signature.Qualified.the-variants.{Owned, Plain}
-use Rattle.line.specs.declared.line.Line.{Line}
-use Rattle.line.specs.declared.line.Line.the-variants as kinds
 use Rattle.parts.specs.Spans.{partOf, Lies}
 use Rattle.parts.specs.Methods.{MethodIn}
 use Rattle.arguments.specs.Arguments.{argumentsOf}
@@ -17,21 +12,6 @@ use Rattle.mapping.specs.Members.{typesDescriptor, ownerOf}
 use Rattle.members.specs.declared.texts.Body.{Body}
 use Rattle.members.specs.declared.texts.Body.the-variants.{Field, Method}
 use Rattle.members.specs.declared.texts.MemberLine.{MemberLine}
-use Rattle.members.specs.declared.texts.Role.{Role}
-use Rattle.members.specs.declared.texts.Role.the-variants.{Class, Member, Neither}
-
-abbrev pub nameSpan : Qualified → Span
-nameSpan (Owned owner name) = name
-nameSpan (Plain name) = name
-
--- what a line is to the rows
-abbrev pub roleOf : Line → Role
-roleOf kinds.Blank = Neither
-roleOf (kinds.Comment brace) = Neither
-roleOf (kinds.Class display raw) = Class display
-roleOf (kinds.Field declared named raw) = Member (record { raw = raw; name = named; body = Field declared })
-roleOf (kinds.Method m raw) = Member (record { raw = raw; name = nameSpan (m .named); body = Method m })
-roleOf (kinds.Refused number) = Neither
 
 -- its parts lie in the first `n` bytes
 abbrev pub BodyIn : Body → ℕ → Type 0

@@ -3,7 +3,7 @@ use crate::row::member_row;
 use crate::step::Step;
 use crate::step::next_step;
 use crate::texts::Entered;
-use crate::texts::Role;
+use crate::role::Role;
 use crate::texts::write_texts;
 use mapping::Fates;
 use mapping::Scan;

@@ -1,7 +1,6 @@
 // The texts of a member, written into the pool in row order.
 use crate::descriptors::put_signature;
 use crate::descriptors::put_types;
-use line::Line;
 use parts::Method;
 use parts::Qualified;
 use pool::Wrote;
@@ -20,7 +19,7 @@ ghost use Rattle.pool.specs.Wrote.{WroteBy};
 ghost use Rattle.tables.specs.Back.{readBack};
 ghost use Rattle.raw_types.specs.Marks.{Indexed};
 ghost use Rattle.mapping.specs.Comments.{residualIn};
-ghost use Rattle.members.specs.Texts.{roleOf, nameSpan, BodyIn, MemberIn, isMethod, displayTypes, descriptorText, ownerText, textsOf};
+ghost use Rattle.members.specs.Texts.{BodyIn, MemberIn, isMethod, displayTypes, descriptorText, ownerText, textsOf};
 ghost use Rattle.members.specs.Places.{TwoBy, EnteredBy};
 
 // What only a field has, and what only a method has.
@@ -35,14 +34,6 @@ pub struct MemberLine {
     pub raw: Span,
     pub name: Span,
     pub body: Body,
-}
-
-// What a line is to the rows.
-pub enum Role {
-    // A class line, by its display name.
-    Class(Span),
-    Member(MemberLine),
-    Neither,
 }
 
 // Where the texts of a member start, after its raw name, and where they end.
@@ -62,43 +53,6 @@ pub enum Entered {
 pub enum TwoTexts {
     At { second: usize, next: usize },
     NoRoom,
-}
-
-fn name_span(named: Qualified) -> Span
-    ensures { λ r. ⌜ r ≡ nameSpan named ⌝ }
-{
-    match named {
-        Qualified::Owned { owner: _, name } => name,
-        Qualified::Plain { name } => name,
-    }
-}
-
-pub fn role_of(kind: Line) -> Role
-    ensures { λ r. ⌜ r ≡ roleOf kind ⌝ }
-{
-    match kind {
-        Line::Blank => Role::Neither,
-        Line::Comment(_) => Role::Neither,
-        Line::Class { display, raw: _ } => Role::Class(display),
-        Line::Field {
-            declared,
-            name,
-            raw,
-        } => Role::Member(MemberLine {
-            raw,
-            name,
-            body: Body::Field(declared),
-        }),
-        Line::Method { method, raw } => {
-            let named = method.named;
-            Role::Member(MemberLine {
-                raw,
-                name: name_span(named),
-                body: Body::Method(method),
-            })
-        }
-        Line::Refused(_) => Role::Neither,
-    }
 }
 
 fn is_method(body: Body) -> bool

@@ -1,7 +1,7 @@
--- `members::texts::role_of` meets its contract, by the laws of Rowed.
+-- `members::role::role_of` meets its contract, by the laws of Rowed.
 use Rattle.members.proofs.Rowed.{roles}
-use Rattle.members.proofs.texts.role_of.Statement.{statement}
-use Rattle.members.proofs.texts.role_of.Tie as tie
+use Rattle.members.proofs.role.role_of.Statement.{statement}
+use Rattle.members.proofs.role.role_of.Tie as tie
 
 enum-told : tie.Need-enum-told
 enum-told c = search roles
