@@ -26,14 +26,14 @@ use Rattle.rows.specs.declared.rows.Member as rows
 use Rattle.rows.specs.Rows.{packMember}
 use Rattle.mapping.specs.Fates.{ownerless, faultOf, classLine}
 use Rattle.mapping.specs.Members.{Entry, field, method, rangesOf, Under, under, underAfter, fieldDescriptor, methodDescriptor, nameOf, entryIn, entryText, entryRow}
-use Rattle.members.specs.declared.texts.Body.{Body}
-use Rattle.members.specs.declared.texts.Body.the-variants.{Field, Method}
-use Rattle.members.specs.declared.texts.MemberLine.{MemberLine}
-use Rattle.members.specs.declared.texts.Places.{Places}
+use Rattle.member_texts.specs.declared.texts.Body.{Body}
+use Rattle.member_texts.specs.declared.texts.Body.the-variants.{Field, Method}
+use Rattle.member_texts.specs.declared.texts.MemberLine.{MemberLine}
+use Rattle.member_texts.specs.declared.texts.Places.{Places}
 use Rattle.members.specs.declared.role.Role.the-variants.{Class, Member, Neither}
-use Rattle.members.specs.Texts.{BodyIn, MemberIn, descriptorText, ownerText, MemberTexts, textsOf, allTexts}
+use Rattle.member_texts.specs.Texts.{BodyIn, MemberIn, descriptorText, ownerText, MemberTexts, textsOf, allTexts}
 use Rattle.members.specs.Roles.{nameSpan, roleOf}
-use Rattle.members.specs.Places.{Placed, memberAt}
+use Rattle.member_texts.specs.Places.{Placed, memberAt}
 
 -- the member with these texts
 abbrev pub entryOf : ℕ → MemberTexts → Body → Entry

@@ -17,12 +17,12 @@ use Rattle.rows.specs.declared.rows.Ranges.the-variants.{None, Display, Both}
 use Rattle.rows.specs.declared.rows.Member as rows
 use Rattle.rows.specs.Rows.{text, packMember}
 use Rattle.mapping.specs.Members.{rangesOf}
-use Rattle.members.specs.declared.texts.Body.{Body}
-use Rattle.members.specs.declared.texts.Body.the-variants.{Field, Method}
-use Rattle.members.specs.declared.texts.Places.{Places}
+use Rattle.member_texts.specs.declared.texts.Body.{Body}
+use Rattle.member_texts.specs.declared.texts.Body.the-variants.{Field, Method}
+use Rattle.member_texts.specs.declared.texts.Places.{Places}
 use Rattle.members.specs.declared.role.Role.the-variants.{Class, Member, Neither}
 use Rattle.members.specs.Roles.{nameSpan, roleOf}
-use Rattle.members.specs.Places.{Rising, memberAt}
+use Rattle.member_texts.specs.Places.{Rising, memberAt}
 
 -- Ranges.
 module _ {raw display : LineRange} where

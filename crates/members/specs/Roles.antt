@@ -4,7 +4,7 @@ use Rattle.parts.specs.declared.signature.Qualified.{Qualified}
 use Rattle.parts.specs.declared.signature.Qualified.the-variants.{Owned, Plain}
 use Rattle.line.specs.declared.line.Line.{Line}
 use Rattle.line.specs.declared.line.Line.the-variants as kinds
-use Rattle.members.specs.declared.texts.Body.the-variants.{Field, Method}
+use Rattle.member_texts.specs.declared.texts.Body.the-variants.{Field, Method}
 use Rattle.members.specs.declared.role.Role.{Role}
 use Rattle.members.specs.declared.role.Role.the-variants.{Class, Member, Neither}
 

@@ -1,12 +1,12 @@
 // All lines of a text: what becomes of each, and its member's row and texts.
+use crate::role::Role;
 use crate::row::member_row;
 use crate::step::Step;
 use crate::step::next_step;
-use crate::texts::Entered;
-use crate::role::Role;
-use crate::texts::write_texts;
 use mapping::Fates;
 use mapping::Scan;
+use member_texts::Entered;
+use member_texts::write_texts;
 use rows::ClassRow;
 use rows::MemberRow;
 use scan::scan_from;

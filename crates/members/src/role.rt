@@ -1,7 +1,7 @@
 // What a line is to the rows.
-use crate::texts::Body;
-use crate::texts::MemberLine;
 use line::Line;
+use member_texts::Body;
+use member_texts::MemberLine;
 use parts::Qualified;
 use text::Span;
 ghost use mathlib.Core.Path.{_≡_};

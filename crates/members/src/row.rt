@@ -1,6 +1,6 @@
 // The row of a member, by the places of its texts.
-use crate::texts::Body;
-use crate::texts::Places;
+use member_texts::Body;
+use member_texts::Places;
 use parts::LineRange;
 use rows::Member;
 use rows::MemberRow;
@@ -11,7 +11,7 @@ ghost use mathlib.Core.Path.{_≡_};
 ghost use Prim.Native.Nat.{_≤_, _-_};
 ghost use Rattle.rows.specs.Rows.{text, packMember};
 ghost use Rattle.mapping.specs.Members.{rangesOf};
-ghost use Rattle.members.specs.Places.{Rising, memberAt};
+ghost use Rattle.member_texts.specs.Places.{Rising, memberAt};
 
 // A text by the places at which it starts and ends.
 pub fn text_between(start: usize, end: usize) -> Text

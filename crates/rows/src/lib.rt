@@ -10,7 +10,6 @@ pub use rows::Ranges;
 pub use rows::Text;
 pub use rows::pack_class;
 pub use rows::pack_member;
-pub use rows::range_flag;
 pub use rows::unpack_class;
 pub use rows::unpack_member;
 pub use zero::zero_bytes;

@@ -1,7 +1,7 @@
 // Rows by value: what a class row and a member row are made of.
 ghost use mathlib.Core.Path.{_≡_};
 ghost use lib.ListN.{length};
-ghost use Rattle.rows.specs.Rows.{packClass, classOf, partsRow, packMember, rangesOf, memberOf, flagOf};
+ghost use Rattle.rows.specs.Rows.{packClass, classOf, partsRow, packMember, rangesOf, memberOf};
 
 pub type ClassRow = [u32; 4];
 
@@ -166,11 +166,4 @@ pub fn unpack_member(row: MemberRow) -> Member
         },
         ranges: unpack_ranges(row),
     }
-}
-
-// The range flag of a row as it stands: 0 none, 1 display only, 2 both. A member keeps no other, so a check has to ask the row.
-pub fn range_flag(row: MemberRow) -> u32
-    ensures { λ r. ⌜ r ≡ flagOf row ⌝ }
-{
-    row[10]
 }

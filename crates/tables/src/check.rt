@@ -5,12 +5,12 @@ use rows::ClassRow;
 use rows::Member;
 use rows::MemberRow;
 use rows::Text;
-use rows::range_flag;
 use rows::unpack_class;
 use rows::unpack_member;
 use utf8::Check;
 use utf8::check_text;
 ghost use mathlib.Core.Path.{_≡_};
+ghost use Rattle.rows.specs.Rows.{flagOf};
 ghost use Rattle.tables.specs.Check.{isUtf8, textFine, classFine, numbersFine, textsFine, memberFine, allOf, countsFine, wellFormed};
 
 // How many class rows, member rows and pool bytes are used.
@@ -55,6 +55,13 @@ fn class_fine(pool: &[u8], used: Used, row: ClassRow) -> bool
         return false;
     }
     text_fine(pool, used, class.display)
+}
+
+// The range flag of a row as it stands: 0 none, 1 display only, 2 both. A member keeps no other, so a check has to ask the row.
+fn range_flag(row: MemberRow) -> u32
+    ensures { λ r. ⌜ r ≡ flagOf row ⌝ }
+{
+    row[10]
 }
 
 // The class row, the kind and the flag of a member row are in range.
