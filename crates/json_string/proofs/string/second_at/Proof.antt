@@ -1,7 +1,7 @@
--- `json::string::second_at` meets its contract, by the laws of PieceLaws.
-use Rattle.json.proofs.PieceLaws.{seconds}
-use Rattle.json.proofs.string.second_at.Statement.{statement}
-use Rattle.json.proofs.string.second_at.Tie as tie
+-- `json_string::string::second_at` meets its contract, by the laws of PieceLaws.
+use Rattle.json_string.proofs.PieceLaws.{seconds}
+use Rattle.json_string.proofs.string.second_at.Statement.{statement}
+use Rattle.json_string.proofs.string.second_at.Tie as tie
 
 add-at : tie.Need-add-at
 add-at c = search seconds

@@ -1,7 +1,7 @@
--- `json::string::piece_at` meets its contract, by the laws of PieceLaws.
-use Rattle.json.proofs.PieceLaws.{pieces-here}
-use Rattle.json.proofs.string.piece_at.Statement.{statement}
-use Rattle.json.proofs.string.piece_at.Tie as tie
+-- `json_string::string::piece_at` meets its contract, by the laws of PieceLaws.
+use Rattle.json_string.proofs.PieceLaws.{pieces-here}
+use Rattle.json_string.proofs.string.piece_at.Statement.{statement}
+use Rattle.json_string.proofs.string.piece_at.Tie as tie
 
 returns : tie.Need-returns
 returns c = search pieces-here

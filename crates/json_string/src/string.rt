@@ -1,11 +1,11 @@
 // Strings (RFC 8259, section 7), char by char.
-use crate::space::After;
+use crate::after::After;
 ghost use mathlib.Core.Path.{_≡_};
 ghost use Prim.Native.Nat.{_+_, _≤_, _<_};
 ghost use lib.ListN.{length, drop};
 ghost use Rattle.rfc8259.specs.Reader.{hexdig, hexValue, hex4, second, unicode, escape, pieceOf, charsFrom};
-ghost use Rattle.json.specs.Means.{Means};
-ghost use Rattle.json.specs.Pieces.{PieceMeans, shortByte};
+ghost use Rattle.json_string.specs.Means.{Means};
+ghost use Rattle.json_string.specs.Pieces.{PieceMeans, shortByte};
 
 // What stands at a place inside a string, and the place after it.
 pub enum Piece {

@@ -1,7 +1,7 @@
--- `json::string::unicode_at` meets its contract, by the laws of PieceLaws.
-use Rattle.json.proofs.PieceLaws.{unicodes}
-use Rattle.json.proofs.string.unicode_at.Statement.{statement}
-use Rattle.json.proofs.string.unicode_at.Tie as tie
+-- `json_string::string::unicode_at` meets its contract, by the laws of PieceLaws.
+use Rattle.json_string.proofs.PieceLaws.{unicodes}
+use Rattle.json_string.proofs.string.unicode_at.Statement.{statement}
+use Rattle.json_string.proofs.string.unicode_at.Tie as tie
 
 add-hex4-at : tie.Need-add-hex4-at
 add-hex4-at c = search unicodes

@@ -1,7 +1,7 @@
--- `json::string::hex_value` meets its contract, by the laws of Hex.
-use Rattle.json.proofs.Hex.{hex-values}
-use Rattle.json.proofs.string.hex_value.Statement.{statement}
-use Rattle.json.proofs.string.hex_value.Tie as tie
+-- `json_string::string::hex_value` meets its contract, by the laws of Hex.
+use Rattle.json_string.proofs.Hex.{hex-values}
+use Rattle.json_string.proofs.string.hex_value.Statement.{statement}
+use Rattle.json_string.proofs.string.hex_value.Tie as tie
 
 returns : tie.Need-returns
 returns c = search hex-values

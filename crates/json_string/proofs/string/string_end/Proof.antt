@@ -1,10 +1,10 @@
--- `json::string::string_end` meets its contract, by the laws of Strings and an invariant that says: the rest decides as the whole does.
-use Rattle.json.proofs.Strings.{stringing}
+-- `json_string::string::string_end` meets its contract, by the laws of Strings and an invariant that says: the rest decides as the whole does.
+use Rattle.json_string.proofs.Strings.{stringing}
 use Prim.Native.Nat.{_-_}
 use lib.ListN.{length}
-use Rattle.json.proofs.Strings.{Stringing}
-use Rattle.json.proofs.string.string_end.Statement.{statement}
-use Rattle.json.proofs.string.string_end.Tie as tie
+use Rattle.json_string.proofs.Strings.{Stringing}
+use Rattle.json_string.proofs.string.string_end.Statement.{statement}
+use Rattle.json_string.proofs.string.string_end.Tie as tie
 
 abbrev Inv-loop : tie.InvT-loop
 Inv-loop s start at₀ at = Stringing s start at

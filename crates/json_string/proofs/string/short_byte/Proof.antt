@@ -1,7 +1,7 @@
--- `json::string::short_byte` meets its contract, by the laws of PieceLaws.
-use Rattle.json.proofs.PieceLaws.{short-bytes}
-use Rattle.json.proofs.string.short_byte.Statement.{statement}
-use Rattle.json.proofs.string.short_byte.Tie as tie
+-- `json_string::string::short_byte` meets its contract, by the laws of PieceLaws.
+use Rattle.json_string.proofs.PieceLaws.{short-bytes}
+use Rattle.json_string.proofs.string.short_byte.Statement.{statement}
+use Rattle.json_string.proofs.string.short_byte.Tie as tie
 
 returns : tie.Need-returns
 returns c = search short-bytes

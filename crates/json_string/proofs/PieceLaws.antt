@@ -18,9 +18,9 @@ use Rattle.rfc8259.specs.Encode.{utf8}
 use Rattle.rfc8259.specs.Reader as Reader
 use Rattle.rfc8259.specs.Reader.{hex4, second, unicode, shortEscape, escape, pieceOf}
 use Rattle.rfc8259.proofs.EncodeLaws.{utf8-one, utf8-short}
-use Rattle.json.proofs.Hex.{hex4-most}
-use Rattle.json.specs.declared.string.Piece.{Piece}
-use Rattle.json.specs.Pieces.{Stood, Coded, Closed, PieceMeans, shortByte}
+use Rattle.json_string.proofs.Hex.{hex4-most}
+use Rattle.json_string.specs.declared.string.Piece.{Piece}
+use Rattle.json_string.specs.Pieces.{Stood, Coded, Closed, PieceMeans, shortByte}
 
 pub ruleset short-bytes = (cases, needs)
 

@@ -1,7 +1,7 @@
--- `json::string::escape_at` meets its contract, by the laws of PieceLaws.
-use Rattle.json.proofs.PieceLaws.{escapes}
-use Rattle.json.proofs.string.escape_at.Statement.{statement}
-use Rattle.json.proofs.string.escape_at.Tie as tie
+-- `json_string::string::escape_at` meets its contract, by the laws of PieceLaws.
+use Rattle.json_string.proofs.PieceLaws.{escapes}
+use Rattle.json_string.proofs.string.escape_at.Statement.{statement}
+use Rattle.json_string.proofs.string.escape_at.Tie as tie
 
 add-at : tie.Need-add-at
 add-at c = search escapes

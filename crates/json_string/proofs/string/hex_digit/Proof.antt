@@ -1,7 +1,7 @@
--- `json::string::hex_digit` meets its contract, by the laws of Hex.
-use Rattle.json.proofs.Hex.{hex-digits}
-use Rattle.json.proofs.string.hex_digit.Statement.{statement}
-use Rattle.json.proofs.string.hex_digit.Tie as tie
+-- `json_string::string::hex_digit` meets its contract, by the laws of Hex.
+use Rattle.json_string.proofs.Hex.{hex-digits}
+use Rattle.json_string.proofs.string.hex_digit.Statement.{statement}
+use Rattle.json_string.proofs.string.hex_digit.Tie as tie
 
 returns : tie.Need-returns
 returns c = search hex-digits

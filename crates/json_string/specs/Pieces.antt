@@ -7,8 +7,8 @@ use lib.ListN.{length}
 use Rattle.ground.specs.Choice.{pick}
 use Rattle.rfc8259.specs.Encode.{utf8}
 use Rattle.rfc8259.specs.Reader as Reader
-use Rattle.json.specs.declared.string.Piece.{Piece}
-use Rattle.json.specs.declared.string.Piece.the-variants.{Byte, Code, Closes, Wrong}
+use Rattle.json_string.specs.declared.string.Piece.{Piece}
+use Rattle.json_string.specs.declared.string.Piece.the-variants.{Byte, Code, Closes, Wrong}
 
 -- a char from the place `base` up to `n`, which stands for the bytes `v`
 pub record Stood (s : List ℕ) (base n : ℕ) (v : List ℕ) (p : Reader.Piece) : Type 0 where

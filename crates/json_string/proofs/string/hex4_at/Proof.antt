@@ -1,9 +1,9 @@
--- `json::string::hex4_at` meets its contract, by the laws of Hex.
+-- `json_string::string::hex4_at` meets its contract, by the laws of Hex.
 use denote.Ref.{now}
-use Rattle.json.proofs.Hex.{four-read}
-use Rattle.json.proofs.Hex.{hex-four}
-use Rattle.json.proofs.string.hex4_at.Statement.{statement}
-use Rattle.json.proofs.string.hex4_at.Tie as tie
+use Rattle.json_string.proofs.Hex.{four-read}
+use Rattle.json_string.proofs.Hex.{hex-four}
+use Rattle.json_string.proofs.string.hex4_at.Statement.{statement}
+use Rattle.json_string.proofs.string.hex4_at.Tie as tie
 
 sub-if1 : tie.Need-sub-if1
 sub-if1 c = search hex-four
