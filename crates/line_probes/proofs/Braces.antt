@@ -8,7 +8,7 @@ use lib.ListN.{length}
 use Rattle.ground.specs.Choice.{pick}
 use Rattle.places.specs.declared.find.Place.{Place}
 use Rattle.places.specs.declared.find.Place.the-variants.{At, Nowhere}
-use Rattle.places.specs.Places.{firstWhere, starts}
+use Rattle.places.specs.Places.{firstWhere, starts, placeNumber}
 use Rattle.places.proofs.PlaceLaws.{first-inside}
 use Rattle.text.specs.declared.trim.Span.{Span}
 use Rattle.text.specs.Trim.{trimBoth, startsWhite}
@@ -26,7 +26,6 @@ use Rattle.parts.specs.Fields.{fieldOf}
 use Rattle.parts.specs.Methods.{methodOf}
 use Rattle.line.specs.Kinds.{placeFrom, commentAt, classBy, classAt, methodBy, fieldBy, bySide, memberBy, memberAt, lineOf}
 use Rattle.parts.proofs.Lying.{trim-lies, part-length}
-use Rattle.line_probes.specs.LineAnswers.{placeNumber}
 
 -- No other line is a comment.
 class-other : (by : ℕ) (a : Arrow) {p : Place} → classBy by a ≡ lines.Comment p → ⊥

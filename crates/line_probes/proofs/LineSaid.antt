@@ -6,6 +6,8 @@ use native.Mathlib.Omega.{arith}
 use mir.Val.{Fits}
 use mir.Syntax.{w64}
 use borrow.Author.Needs.{needs}
+use Rattle.ground.specs.Choice.{bit}
+use Rattle.places.specs.Places.{placeNumber}
 use Rattle.places.specs.declared.find.Place.{Place}
 use Rattle.places.specs.declared.find.Place.the-variants.{At, Nowhere}
 use Rattle.text.specs.declared.trim.Span.{Span}
@@ -17,7 +19,7 @@ use Rattle.parts.specs.declared.method.Method.{Method}
 use Rattle.line.specs.declared.line.Line.{Line}
 use Rattle.line.specs.declared.line.Line.the-variants as lines
 use Rattle.parts.specs.Spans.{span}
-use Rattle.line_probes.specs.LineAnswers.{bit, placeNumber, owned, ownerOf, nameOf, lined, firstLine, lastLine}
+use Rattle.line_probes.specs.LineAnswers.{owned, ownerOf, nameOf, lined, firstLine, lastLine}
 use Rattle.line_probes.specs.LineAnswers.{sevenNumbers, commentNumbers, classNumbers, fieldNumbers, methodNumbers, lineNumbers, argumentNumbers}
 use Rattle.line_probes.proofs.Braces.{brace-counts}
 

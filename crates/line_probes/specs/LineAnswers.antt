@@ -1,9 +1,9 @@
 -- What a line is, as 20 numbers: which kind it is, then what that holds; a part is its start and its end, and what a kind does not hold is 0.
-use mathlib.Core.Bool.{Bool, true, false}
 use mathlib.Core.List.{List, [], _∷_}
-use Prim.Native.Nat.{ℕ, _+_}
+use Prim.Native.Nat.{ℕ}
+use Rattle.ground.specs.Choice.{bit}
 use Rattle.places.specs.declared.find.Place.{Place}
-use Rattle.places.specs.declared.find.Place.the-variants.{At, Nowhere}
+use Rattle.places.specs.Places.{placeNumber}
 use Rattle.text.specs.declared.trim.Span.{Span}
 use Rattle.arguments.specs.declared.arguments.NextArgument.{NextArgument}
 use Rattle.arguments.specs.declared.arguments.NextArgument.the-variants.{Argument, NoArgument}
@@ -15,15 +15,6 @@ use Rattle.parts.specs.declared.method.Method.{Method}
 use Rattle.line.specs.declared.line.Line.{Line}
 use Rattle.line.specs.declared.line.Line.the-variants as lines
 use Rattle.parts.specs.Spans.{span}
-
-abbrev pub bit : Bool → ℕ
-bit true = 1
-bit false = 0
-
--- a place, counted from 1; 0 for none
-abbrev pub placeNumber : Place → ℕ
-placeNumber (At i) = i + 1
-placeNumber Nowhere = 0
 
 -- 1 for a name with an owner
 abbrev pub owned : Qualified → ℕ

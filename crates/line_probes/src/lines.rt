@@ -6,9 +6,10 @@ use places::Place;
 use text::Span;
 ghost use mathlib.Core.Path.{_≡_};
 ghost use Prim.Native.Nat.{_<_, _^_};
+ghost use Rattle.places.specs.Places.{placeNumber};
 ghost use Rattle.line.specs.Kinds.{lineOf};
 ghost use Rattle.arguments.specs.Arguments.{nextArgument};
-ghost use Rattle.line_probes.specs.LineAnswers.{sevenNumbers, placeNumber, commentNumbers, classNumbers, fieldNumbers, lineNumbers, argumentNumbers};
+ghost use Rattle.line_probes.specs.LineAnswers.{sevenNumbers, commentNumbers, classNumbers, fieldNumbers, lineNumbers, argumentNumbers};
 
 // An answer of at most seven numbers.
 fn seven(kind: u64, a: u64, b: u64, c: u64, d: u64, e: u64, f: u64) -> [u64; 20]
