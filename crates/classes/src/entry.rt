@@ -65,7 +65,7 @@ pub fn enter_class(
     display: Span,
     raw: Span,
 ) -> Wrote
-    requires { ⌜ (count < length (now classes)) × (count < 4096) × (length (now index) ≡ 8192) × (length (now pool) ≤ 4194304) × Lies display (length (now line)) × Lies raw (length (now line)) ⌝ }
+    requires { ⌜ (count < length (now classes)) × (count < 4096) × (length (now index) ≡ 12288) × (length (now pool) ≤ 4194304) × Lies display (length (now line)) × Lies raw (length (now line)) ⌝ }
     ensures { λ r. ⌜ EnteredBy r (classNamed (now (line .entry)) display raw) count at (now (classes .entry)) (now (index .entry)) (now (pool .entry)) (now (classes .exit)) (now (index .exit)) (now (pool .exit)) ⌝ }
 {
     let start = raw.start;
@@ -77,7 +77,6 @@ pub fn enter_class(
         return Wrote::NoRoom;
     };
     classes[count] = class_row(at, middle, next);
-    let number = count + 1;
-    mark_class(index, &line[first..last], number as u16);
+    mark_class(index, &line[first..last], count);
     Wrote::Done(next)
 }

@@ -26,7 +26,7 @@ pub fn write_classes(
     index: &mut [u16],
     pool: &mut [u8],
 ) -> Classes
-    requires { ⌜ (now index ≡ replicate 8192 0) × (length (now classes) ≤ 4096) × (length (now pool) ≤ 4194304) ⌝ }
+    requires { ⌜ (now index ≡ replicate 12288 0) × (length (now classes) ≤ 4096) × (length (now pool) ≤ 4194304) ⌝ }
     ensures { λ r. ⌜ ClassesBy r (lines (now (text .entry))) (now (classes .entry)) (now (pool .entry)) (now (classes .exit)) (now (pool .exit)) (now (index .exit)) ⌝ }
 {
     let mut at = 0;

@@ -82,7 +82,7 @@ pub fn load_into(
 {
     let class_rows = classes.len();
     let member_rows = members.len();
-    let mut index = [0u16; 8192];
+    let mut index = [0u16; 12288];
     match write_classes(text, classes, &mut index, pool) {
         Classes::Written { count, end } => match write_members(
             text,

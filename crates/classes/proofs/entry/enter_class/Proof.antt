@@ -39,14 +39,11 @@ returns c = search entering
 class-row-requires : tie.Need-class-row-requires
 class-row-requires c κs = search entering
 
-mul-t20 : tie.Need-mul-t20
-mul-t20 c = search entering
+mul-t19 : tie.Need-mul-t19
+mul-t19 c = search entering
 
 slice-set-from-classes : tie.Need-slice-set-from-classes
 slice-set-from-classes c = search entering
-
-add-number : tie.Need-add-number
-add-number c = search entering
 
 sub-mark-class : tie.Need-sub-mark-class
 sub-mark-class c = search entering
@@ -56,9 +53,6 @@ part-mark-class-start c = search entering
 
 part-mark-class-end : tie.Need-part-mark-class-end
 part-mark-class-end c = search entering
-
-cast-mark-class : tie.Need-cast-mark-class
-cast-mark-class c = search entering
 
 mark-class-requires : tie.Need-mark-class-requires
 mark-class-requires c κs = search entering
@@ -91,13 +85,11 @@ enter-class-spec =
     same-length
     returns
     class-row-requires
-    mul-t20
+    mul-t19
     slice-set-from-classes
-    add-number
     sub-mark-class
     part-mark-class-start
     part-mark-class-end
-    cast-mark-class
     mark-class-requires
     same-length-2
     same-length-3
