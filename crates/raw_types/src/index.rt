@@ -1,20 +1,11 @@
 // Where the search for a display class starts, and how it goes on: a table of 8,192 numbers, by a mark of the descriptor, and behind them 4,096 links
 // from a row to the last one before it with the same mark. One table, so that no function takes two.
+use pool::slash_for_dot;
 ghost use mathlib.Core.Path.{_≡_};
 ghost use Prim.Native.Nat.{_<_};
 ghost use lib.ListN.{length};
-ghost use Rattle.pool.specs.Names.{slash, classDescriptor};
+ghost use Rattle.pool.specs.Names.{classDescriptor};
 ghost use Rattle.raw_types.specs.Marks.{markOf, chained};
-
-// A dot as a slash, any other byte as it is.
-fn slash_number(b: u8) -> usize
-    ensures { λ r. ⌜ r ≡ slash b ⌝ }
-{
-    if b == b'.' {
-        return 0x2F;
-    }
-    b as usize
-}
 
 // The mark of a class name's descriptor: from its `L`, byte by byte, to its `;`.
 pub fn mark_of(name: &[u8]) -> usize
@@ -23,7 +14,8 @@ pub fn mark_of(name: &[u8]) -> usize
     let mut mark = 0x4C;
     let mut k = 0;
     while k < name.len() {
-        mark = (mark * 31 + slash_number(name[k])) % 8192;
+        let byte = slash_for_dot(name[k]);
+        mark = (mark * 31 + byte as usize) % 8192;
         k += 1;
     }
     (mark * 31 + 0x3B) % 8192

@@ -2,7 +2,6 @@
 use crate::search::FoundClass;
 use crate::search::last_class;
 use crate::search::wide;
-use crate::write::put_bytes;
 use crate::write::put_closed;
 use crate::write::put_copy;
 use crate::write::put_name;
@@ -12,6 +11,7 @@ use descriptor::type_shape;
 use places::Place;
 use places::first_byte;
 use pool::Wrote;
+use pool::put_bytes;
 use rows::ClassRow;
 ghost use mathlib.Core.Path.{_≡_};
 ghost use Prim.Native.Nat.{_≤_};
