@@ -1,6 +1,5 @@
 // Numbers, by the grammar alone (RFC 8259, section 6).
 use json_string::After;
-ghost use mathlib.Core.Path.{_≡_};
 ghost use Prim.Native.Nat.{_≤_};
 ghost use lib.ListN.{length, drop};
 ghost use Rattle.rfc8259.specs.Reader.{isDigit, isSign, isMinus, digits, int, frac, exp, numberOf};
