@@ -4,7 +4,14 @@ use std::error::Error;
 use std::path::Path;
 use std::{env, fs};
 
-const LIBRARIES: [&str; 4] = ["probes", "line_probes", "descriptor_probes", "capi"];
+const LIBRARIES: [&str; 6] = [
+    "text_probes",
+    "number_probes",
+    "comment_probes",
+    "line_probes",
+    "descriptor_probes",
+    "capi",
+];
 
 /// The folder is named by this variable of the environment, which `run --source` sets.
 const SOURCE: &str = "CLUMARIEF_SOURCE";

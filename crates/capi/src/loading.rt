@@ -2,8 +2,8 @@
 use load::parse;
 use load::parse_str;
 use mapping::Load;
-use tables::ClassRow;
-use tables::MemberRow;
+use rows::ClassRow;
+use rows::MemberRow;
 ghost use mathlib.Core.Path.{_≡_};
 ghost use lib.ListN.{length};
 ghost use Rattle.mapping.specs.Loading.{linesParse, linesStr};

@@ -6,14 +6,14 @@ use native.Mathlib.Omega.{arith}
 use lib.ListN.{length, set, take, drop}
 use borrow.Author.Needs.{needs}
 use Rattle.text.specs.declared.trim.Span.{Span}
-use Rattle.descriptor.specs.declared.write.Wrote.{Wrote}
-use Rattle.descriptor.specs.declared.write.Wrote.the-variants as wrote
-use Rattle.descriptor.specs.Names.{classDescriptor}
-use Rattle.descriptor.specs.Pieces.{Pair}
-use Rattle.descriptor.specs.Wrote.{Written, WroteBy}
-use Rattle.descriptor.proofs.Writes.{wrote-told, wrote-none, wrote-then, none-then}
-use Rattle.tables.specs.Rows.{text, packClass}
-use Rattle.raw_types.specs.Marks.{markOf}
+use Rattle.pool.specs.declared.write.Wrote.{Wrote}
+use Rattle.pool.specs.declared.write.Wrote.the-variants as wrote
+use Rattle.pool.specs.Names.{classDescriptor}
+use Rattle.pieces.specs.Pieces.{Pair}
+use Rattle.pool.specs.Wrote.{Written, WroteBy}
+use Rattle.pool.proofs.Writes.{wrote-told, wrote-none, wrote-then, none-then}
+use Rattle.rows.specs.Rows.{text, packClass}
+use Rattle.raw_types.specs.Marks.{markOf, chained}
 use Rattle.mapping.specs.Classes.{classText, classRow}
 use Rattle.classes.specs.declared.entry.PairPlaces.{PairPlaces}
 use Rattle.classes.specs.declared.entry.PairPlaces.the-variants.{At, NoRoom}
@@ -73,7 +73,7 @@ module _ (d : List ℕ) (at : ℕ) (l : List ℕ) (display raw : Span) (r : Pair
     enter-inside h = let p = there .written .past in let o = there .written .room in omega arith
 
     pub enter-done : {row : List ℕ} → row ≡ packClass (record { raw = text at (m - at); display = text m (q - m) }) →
-        (c : List (List ℕ)) (i : List ℕ) (count : ℕ) {i₁ : List ℕ} → i₁ ≡ set i (markOf (classDescriptor (take (display .«end» - display .start) (drop (display .start) l)))) (count + 1) →
+        (c : List (List ℕ)) (i : List ℕ) (count : ℕ) {i₁ : List ℕ} → i₁ ≡ chained i (markOf (classDescriptor (take (display .«end» - display .start) (drop (display .start) l)))) count →
         EnteredAt q (classNamed l display raw) count at c i d (set c count row) i₁ d₁
     enter-done f c i count g = record {
       written = there .written;

@@ -7,11 +7,11 @@ use Rattle.places.specs.declared.find.Place.{Place}
 use Rattle.text.specs.declared.trim.Span.{Span}
 use Rattle.text.specs.Trim.{trimBoth}
 use Rattle.text.proofs.TrimLaws.{trim-inside}
-use Rattle.line.specs.declared.method.Method.{Method}
+use Rattle.parts.specs.declared.method.Method.{Method}
 use Rattle.line.specs.declared.line.Line.{Line}
 use Rattle.line.specs.declared.line.Line.the-variants as kinds
 use Rattle.line.specs.Kinds.{lineOf}
-use Rattle.line.proofs.Lying.{lies-more}
+use Rattle.parts.proofs.Lying.{lies-more}
 use Rattle.line.proofs.Whole.{LineIn, line-lies}
 use Rattle.mapping.specs.Classes.{classIn}
 use Rattle.classes.specs.Names.{NamedAt}

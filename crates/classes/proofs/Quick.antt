@@ -14,16 +14,16 @@ use Rattle.utf8.specs.Utf8.{leadOf, tails, afterLead, sequenceOf, piecesFrom}
 use Rattle.text.specs.declared.trim.Span.{Span}
 use Rattle.text.specs.White.{whiteRanges, inRanges, isWhite}
 use Rattle.text.specs.Trim.{runOf, trimEnd, trimBoth, startsWhite}
-use Rattle.line.specs.declared.arrow.Arrow.{Arrow}
-use Rattle.line.specs.declared.arrow.Arrow.the-variants.{Sides, NoArrow}
-use Rattle.line.specs.declared.field.Field as field
-use Rattle.line.specs.declared.field.Field.the-variants as fields
-use Rattle.line.specs.declared.method.MethodParts as method
-use Rattle.line.specs.declared.method.MethodParts.the-variants as methods
-use Rattle.line.specs.Spans.{shift, isEmpty, partOf}
-use Rattle.line.specs.Arrows.{arrowOf}
-use Rattle.line.specs.Fields.{fieldOf}
-use Rattle.line.specs.Methods.{methodOf}
+use Rattle.parts.specs.declared.arrow.Arrow.{Arrow}
+use Rattle.parts.specs.declared.arrow.Arrow.the-variants.{Sides, NoArrow}
+use Rattle.parts.specs.declared.field.Field as field
+use Rattle.parts.specs.declared.field.Field.the-variants as fields
+use Rattle.parts.specs.declared.method.MethodParts as method
+use Rattle.parts.specs.declared.method.MethodParts.the-variants as methods
+use Rattle.parts.specs.Spans.{shift, isEmpty, partOf}
+use Rattle.parts.specs.Arrows.{arrowOf}
+use Rattle.parts.specs.Fields.{fieldOf}
+use Rattle.parts.specs.Methods.{methodOf}
 use Rattle.line.specs.declared.line.Line.the-variants.{Blank}
 use Rattle.line.specs.Kinds.{commentAt, classAt, methodBy, fieldBy, bySide, memberBy, memberAt, lineOf}
 use Rattle.line.proofs.Kinding.{line-blank, line-comment}

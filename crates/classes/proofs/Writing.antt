@@ -14,15 +14,15 @@ use Rattle.places.specs.declared.lines.NextLine.the-variants.{Line, NoLine}
 use Rattle.places.specs.Lines.{lines, nextLine}
 use Rattle.places.proofs.Taking.{Taken, line-taken, none-taken, end-taken}
 use Rattle.text.specs.declared.trim.Span.{Span}
-use Rattle.line.specs.Spans.{Lies}
+use Rattle.parts.specs.Spans.{Lies}
 use Rattle.line.specs.Kinds.{lineOf}
-use Rattle.descriptor.specs.declared.write.Wrote.{Wrote}
-use Rattle.descriptor.specs.declared.write.Wrote.the-variants.{Done, NoRoom}
-use Rattle.descriptor.specs.Pieces.{Pair, join}
-use Rattle.descriptor.specs.Wrote.{Written}
-use Rattle.descriptor.proofs.Writes.{written-length, wrote-then}
+use Rattle.pool.specs.declared.write.Wrote.{Wrote}
+use Rattle.pool.specs.declared.write.Wrote.the-variants.{Done, NoRoom}
+use Rattle.pieces.specs.Pieces.{Pair, join}
+use Rattle.pool.specs.Wrote.{Written}
+use Rattle.pool.proofs.Writes.{written-length, wrote-then}
 use Rattle.tables.specs.Back.{readBack}
-use Rattle.raw_types.specs.Marks.{markOf, Indexed}
+use Rattle.raw_types.specs.Marks.{markOf, chained, Indexed}
 use Rattle.raw_types.proofs.Indexing.{indexed-none, indexed-class, read-back-class}
 use Rattle.raw_types.proofs.Writing.{wrote-as}
 use Rattle.mapping.specs.Classes.{classIn, classesOf, classText, classPool, classRow, classRows}
@@ -43,7 +43,7 @@ pub record Rows (done : List Pair) (c : List (List ℕ)) (p : List ℕ) (count q
   pub indexed : Indexed (classRows 0 done) p₁ i₁ q
   pub back : readBack (classRows 0 done) p₁ ≡ done
 
-rows-none : (c : List (List ℕ)) (p i : List ℕ) → i ≡ replicate 8192 0 → Rows [] c p 0 0 c i p
+rows-none : (c : List (List ℕ)) (p i : List ℕ) → i ≡ replicate 12288 0 → Rows [] c p 0 0 c i p
 unfolding classRows join
 rows-none c p i e = record {
   counted = refl;
@@ -67,17 +67,17 @@ module _ {done : List Pair} {c : List (List ℕ)} {p : List ℕ} {count at : ℕ
     all-rows : wider ≡ classRows 0 (done ++ (k ∷ []))
     all-rows = ap (λ n. classRows 0 done ++ (classRow n k ∷ [])) (w .texts .past) ∙ sym (class-rows-more 0 done k)
 
-    rows-more : count < length c → Rows (done ++ (k ∷ [])) c p (count + 1) q c₂ i₂ p₂
-    rows-more h =
+    rows-more : count < length c → count < 4096 → Rows (done ++ (k ∷ [])) c p (count + 1) q c₂ i₂ p₂
+    rows-more h few =
         let n = length-append done (k ∷ []) in
         let o = w .counted in
         let m = long in
         let put-there : c₂ ≡ put c 0 wider =
         e .row ∙ ap (λ x. set x count (classRow at k)) (w .rows) ∙ ap (λ x. set (put c 0 (classRows 0 done)) x (classRow at k)) m
         ∙ put-set c 0 (classRows 0 done) (classRow at k) (omega arith) in
-        let marked : i₂ ≡ set i₁ (markOf (k .display)) (length (classRows 0 done) + 1) = e .marked ∙ ap (λ x. set i₁ (markOf (k .display)) (x + 1)) (w .counted ∙ sym (class-rows-length 0 done)) in
+        let marked : i₂ ≡ chained i₁ (markOf (k .display)) (length (classRows 0 done)) = e .marked ∙ ap (chained i₁ (markOf (k .display))) (w .counted ∙ sym (class-rows-length 0 done)) in
         let wide : length wider ≡ length (classRows 0 done) + 1 = length-append (classRows 0 done) (classRow at k ∷ []) in
-        let there : Indexed wider p₂ (set i₁ (markOf (k .display)) (length (classRows 0 done) + 1)) q = indexed-class (k .raw) (k .display) (e .written) (w .indexed) in
+        let there : Indexed wider p₂ (chained i₁ (markOf (k .display)) (length (classRows 0 done))) q = indexed-class (k .raw) (k .display) (e .written) (w .indexed) (omega arith) in
         let back : readBack wider p₂ ≡ done ++ (k ∷ []) = read-back-class (k .raw) (k .display) (e .written) (w .indexed) ∙ ap (λ x. x ++ (k ∷ [])) (w .back) in
         record {
           counted = omega arith;
@@ -91,6 +91,7 @@ module _ {done : List Pair} {c : List (List ℕ)} {p : List ℕ} {count at : ℕ
 
 -- what is written up to the place `at` of the text, and what is left
 pub record Writing (s : List ℕ) (c : List (List ℕ)) (i p : List ℕ) (at count q : ℕ) (c₁ : List (List ℕ)) (i₁ p₁ : List ℕ) : Type 0 where
+  pub most : length c ≤ 4096
   pub same-rows : length c₁ ≡ length c
   pub same-index : length i₁ ≡ length i
   pub same-pool : length p₁ ≡ length p
@@ -98,8 +99,8 @@ pub record Writing (s : List ℕ) (c : List (List ℕ)) (i p : List ℕ) (at cou
   pub split : classesOf (lines s) ≡ done ++ classesOf (lines (drop at s))
   pub written : Rows done c p count q c₁ i₁ p₁
 
-pub writing-starts : (s : List ℕ) (c : List (List ℕ)) (p i : List ℕ) → i ≡ replicate 8192 0 → Writing s c i p 0 0 0 c i p
-writing-starts s c p i e = record { same-rows = refl; same-index = refl; same-pool = refl; done = []; split = refl; written = rows-none c p i e }
+pub writing-starts : (s : List ℕ) (c : List (List ℕ)) (p i : List ℕ) → i ≡ replicate 12288 0 → length c ≤ 4096 → Writing s c i p 0 0 0 c i p
+writing-starts s c p i e h = record { most = h; same-rows = refl; same-index = refl; same-pool = refl; done = []; split = refl; written = rows-none c p i e }
 
 -- all of them
 finish : {done : List Pair} {ls : List (List ℕ)} {c : List (List ℕ)} {p : List ℕ} {count q : ℕ} {c₁ : List (List ℕ)} {i₁ p₁ : List ℕ} → done ≡ classesOf ls →
@@ -131,7 +132,7 @@ module _ {s : List ℕ} {c : List (List ℕ)} {i p : List ℕ} {at count q : ℕ
   pub writing-ends : length s ≤ at → ClassesAt count q (lines s) c p c₁ p₁ i₁
   writing-ends h = ended (end-taken s at h)
 
-  pub writing-size : length i₁ ≡ 8192
+  pub writing-size : length i₁ ≡ 12288
   writing-size = w .written .indexed .size
 
   pub writing-pool : length p ≤ 4194304 → length p₁ ≤ 4194304
@@ -167,6 +168,7 @@ module _ {s : List ℕ} {c : List (List ℕ)} {i p : List ℕ} {at count q : ℕ
       module _ (k : ClassLine) (z : NamedBy k (take (e - a) (drop a s))) where
         pub writing-other : k ≡ Other → Writing s c i p n count q c₁ i₁ p₁
         writing-other f = record {
+          most = w .most;
           same-rows = w .same-rows;
           same-index = w .same-index;
           same-pool = w .same-pool;
@@ -211,8 +213,10 @@ module _ {s : List ℕ} {c : List (List ℕ)} {i p : List ℕ} {at count q : ℕ
             writing-more {q₂} h l =
                 let entered : EnteredAt q₂ class count q c₁ i₁ p₁ c₂ i₂ p₂ = rw h at g in
                 let u = w .same-rows in
-                let more = rows-more (w .written) class entered (omega arith) in
+                let v = w .most in
+                let more = rows-more (w .written) class entered (omega arith) (omega arith) in
                 record {
+                  most = w .most;
                   same-rows = more .size;
                   same-index = more .indexed .size ∙ sym (w .written .indexed .size) ∙ w .same-index;
                   same-pool = written-length (more .texts);

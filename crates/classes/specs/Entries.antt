@@ -3,11 +3,11 @@ use mathlib.Core.Path.{_≡_}
 use mathlib.Core.List.{List, _++_}
 use Prim.Native.Nat.{ℕ, _+_, _<_}
 use lib.ListN.{length, set}
-use Rattle.descriptor.specs.declared.write.Wrote.{Wrote}
-use Rattle.descriptor.specs.declared.write.Wrote.the-variants as wrote
-use Rattle.descriptor.specs.Pieces.{Pair}
-use Rattle.descriptor.specs.Wrote.{Written}
-use Rattle.raw_types.specs.Marks.{markOf}
+use Rattle.pool.specs.declared.write.Wrote.{Wrote}
+use Rattle.pool.specs.declared.write.Wrote.the-variants as wrote
+use Rattle.pieces.specs.Pieces.{Pair}
+use Rattle.pool.specs.Wrote.{Written}
+use Rattle.raw_types.specs.Marks.{markOf, chained}
 use Rattle.mapping.specs.Classes.{classText, classRow}
 use Rattle.classes.specs.declared.entry.PairPlaces.{PairPlaces}
 use Rattle.classes.specs.declared.entry.PairPlaces.the-variants.{At, NoRoom}
@@ -22,12 +22,12 @@ abbrev pub PairBy : PairPlaces → List ℕ → ℕ → List ℕ → List ℕ �
 PairBy (At m q) d at a b d₁ = PairAt m q d at a b d₁
 PairBy NoRoom d at a b d₁ = length d < at + length (a ++ b)
 
--- The class `k` is the row `count` of the rows `c`, its descriptors stand in the pool `p` from the place `at` to the place `q`, and the index `i` says
--- that it is the last of `count + 1` rows with its mark. With `₁`: after that.
+-- The class `k` is the row `count` of the rows `c`, its descriptors stand in the pool `p` from the place `at` to the place `q`, and the index `i` has
+-- it as the last row with its mark. With `₁`: after that.
 pub record EnteredAt (q : ℕ) (k : Pair) (count at : ℕ) (c : List (List ℕ)) (i p : List ℕ) (c₁ : List (List ℕ)) (i₁ p₁ : List ℕ) : Type 0 where
   pub written : Written q p at (classText k) p₁
   pub row : c₁ ≡ set c count (classRow at k)
-  pub marked : i₁ ≡ set i (markOf (k .display)) (count + 1)
+  pub marked : i₁ ≡ chained i (markOf (k .display)) count
 
 abbrev pub EnteredBy : Wrote → Pair → ℕ → ℕ → List (List ℕ) → List ℕ → List ℕ → List (List ℕ) → List ℕ → List ℕ → Type 0
 EnteredBy (wrote.Done q) k count at c i p c₁ i₁ p₁ = EnteredAt q k count at c i p c₁ i₁ p₁

@@ -4,10 +4,10 @@ use mathlib.Core.List.{List, [], _∷_}
 use Prim.Native.Nat.{ℕ}
 use lib.ListN.{length}
 use Rattle.text.specs.declared.trim.Span.{Span}
-use Rattle.line.specs.Spans.{partOf, Lies}
+use Rattle.parts.specs.Spans.{partOf, Lies}
 use Rattle.line.specs.Kinds.{lineOf}
-use Rattle.descriptor.specs.Names.{classDescriptor}
-use Rattle.descriptor.specs.Pieces.{Pair}
+use Rattle.pool.specs.Names.{classDescriptor}
+use Rattle.pieces.specs.Pieces.{Pair}
 use Rattle.mapping.specs.Classes.{pair, classIn}
 use Rattle.classes.specs.declared.names.ClassLine.{ClassLine}
 use Rattle.classes.specs.declared.names.ClassLine.the-variants.{Names, Other}

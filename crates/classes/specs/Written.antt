@@ -4,7 +4,7 @@ use mathlib.Core.List.{List}
 use Prim.Native.Nat.{ℕ, _≤_, _<_}
 use lib.ListN.{length}
 use Rattle.ground.specs.Put.{put}
-use Rattle.descriptor.specs.Wrote as pool
+use Rattle.pool.specs.Wrote as pool
 use Rattle.tables.specs.Back.{readBack}
 use Rattle.raw_types.specs.Marks.{Indexed}
 use Rattle.mapping.specs.Classes.{classesOf, classPool, classRows}

@@ -1,18 +1,18 @@
 // One class: its descriptors in the pool, its row, and its mark in the index.
-use descriptor::Wrote;
-use descriptor::put_class;
+use pool::Wrote;
+use pool::put_class;
 use raw_types::mark_class;
-use tables::Class;
-use tables::ClassRow;
-use tables::Text;
-use tables::pack_class;
+use rows::Class;
+use rows::ClassRow;
+use rows::Text;
+use rows::pack_class;
 use text::Span;
 ghost use mathlib.Core.Path.{_≡_};
 ghost use Prim.Native.Nat.{_≤_, _<_, _-_};
 ghost use lib.ListN.{length};
-ghost use Rattle.line.specs.Spans.{Lies, partOf};
-ghost use Rattle.descriptor.specs.Names.{classDescriptor};
-ghost use Rattle.tables.specs.Rows.{text, packClass};
+ghost use Rattle.parts.specs.Spans.{Lies, partOf};
+ghost use Rattle.pool.specs.Names.{classDescriptor};
+ghost use Rattle.rows.specs.Rows.{text, packClass};
 ghost use Rattle.classes.specs.Entries.{PairBy, EnteredBy};
 ghost use Rattle.classes.specs.Names.{classNamed};
 
@@ -65,7 +65,7 @@ pub fn enter_class(
     display: Span,
     raw: Span,
 ) -> Wrote
-    requires { ⌜ (count < length (now classes)) × (count < 4096) × (length (now index) ≡ 8192) × (length (now pool) ≤ 4194304) × Lies display (length (now line)) × Lies raw (length (now line)) ⌝ }
+    requires { ⌜ (count < length (now classes)) × (count < 4096) × (length (now index) ≡ 12288) × (length (now pool) ≤ 4194304) × Lies display (length (now line)) × Lies raw (length (now line)) ⌝ }
     ensures { λ r. ⌜ EnteredBy r (classNamed (now (line .entry)) display raw) count at (now (classes .entry)) (now (index .entry)) (now (pool .entry)) (now (classes .exit)) (now (index .exit)) (now (pool .exit)) ⌝ }
 {
     let start = raw.start;
@@ -77,7 +77,6 @@ pub fn enter_class(
         return Wrote::NoRoom;
     };
     classes[count] = class_row(at, middle, next);
-    let number = count + 1;
-    mark_class(index, &line[first..last], number as u16);
+    mark_class(index, &line[first..last], count);
     Wrote::Done(next)
 }

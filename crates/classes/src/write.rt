@@ -2,10 +2,10 @@
 use crate::entry::enter_class;
 use crate::names::ClassLine;
 use crate::names::class_line;
-use descriptor::Wrote;
 use places::NextLine;
 use places::next_line;
-use tables::ClassRow;
+use pool::Wrote;
+use rows::ClassRow;
 ghost use mathlib.Core.Path.{_≡_};
 ghost use Prim.Native.Nat.{_≤_};
 ghost use lib.ListN.{length, replicate};
@@ -26,7 +26,7 @@ pub fn write_classes(
     index: &mut [u16],
     pool: &mut [u8],
 ) -> Classes
-    requires { ⌜ (now index ≡ replicate 8192 0) × (length (now classes) ≤ 4096) × (length (now pool) ≤ 4194304) ⌝ }
+    requires { ⌜ (now index ≡ replicate 12288 0) × (length (now classes) ≤ 4096) × (length (now pool) ≤ 4194304) ⌝ }
     ensures { λ r. ⌜ ClassesBy r (lines (now (text .entry))) (now (classes .entry)) (now (pool .entry)) (now (classes .exit)) (now (pool .exit)) (now (index .exit)) ⌝ }
 {
     let mut at = 0;

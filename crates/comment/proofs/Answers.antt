@@ -17,9 +17,10 @@ use Rattle.rfc8259.specs.Reader.{Out, got, bad, isWs, structural, charsFrom, en
 use Rattle.rfc8259.specs.Members.{found, lastOf}
 use Rattle.rfc8259.proofs.Took.{never-bad}
 use Rattle.rfc8259.proofs.Onward.{Parts, member-parts, value-text, value-other, no-value, last-later}
-use Rattle.json.specs.declared.space.After.{After}
-use Rattle.json.specs.declared.space.After.the-variants.{Next, Unread}
-use Rattle.json.specs.Means.{Means, Past}
+use Rattle.json_string.specs.declared.after.After.{After}
+use Rattle.json_string.specs.declared.after.After.the-variants.{Next, Unread}
+use Rattle.json_string.specs.Means.{Means}
+use Rattle.json.specs.Runs.{Past}
 use Rattle.json.proofs.Numbers.{means-next, means-unread}
 use Rattle.decode.specs.Decoded.{decodedIs}
 use Rattle.comment.specs.declared.value.Member.{Member}

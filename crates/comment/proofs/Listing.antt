@@ -10,9 +10,10 @@ use borrow.Author.Tests.{eq-eqb}
 use Rattle.rfc8259.specs.Reader.{Out, got, bad, andThen, isWs, skip, structural, itemsOf, insideOf, enclosedOf, afterItem}
 use Rattle.rfc8259.proofs.ValuesTook.{skip-twice}
 use Rattle.rfc8259.proofs.Items.{before, before-nothing, before-both, structural-shorter, inside-closed, inside-items, after-comma, after-closed, after-wrong, items-none, items-item}
-use Rattle.json.specs.declared.space.After.{After}
-use Rattle.json.specs.declared.space.After.the-variants.{Next, Unread}
-use Rattle.json.specs.Means.{Reached, Means, Past}
+use Rattle.json_string.specs.declared.after.After.{After}
+use Rattle.json_string.specs.declared.after.After.the-variants.{Next, Unread}
+use Rattle.json_string.specs.Means.{Reached, Means}
+use Rattle.json.specs.Runs.{Past}
 use Rattle.json.proofs.Numbers.{means-next, means-unread}
 
 -- `whole` is what all of the items give; from `place` on they are still to be read

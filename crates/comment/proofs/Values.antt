@@ -12,9 +12,10 @@ use Rattle.rfc8259.specs.Grammar.{Meaning, other}
 use Rattle.rfc8259.specs.Reader.{Out, got, bad, andThen, isWs, structural, charsFrom, stringOf, asOther, flatOf, enclosedOf, Item, item, memberOf, nestedOf, valueOf}
 use Rattle.rfc8259.proofs.Items.{value-shorter, member-shorter}
 use Rattle.rfc8259.proofs.Onward.{no-value}
-use Rattle.json.specs.declared.space.After.{After}
-use Rattle.json.specs.declared.space.After.the-variants.{Next, Unread}
-use Rattle.json.specs.Means.{Means, Past}
+use Rattle.json_string.specs.declared.after.After.{After}
+use Rattle.json_string.specs.declared.after.After.the-variants.{Next, Unread}
+use Rattle.json_string.specs.Means.{Means}
+use Rattle.json.specs.Runs.{Past}
 use Rattle.json.proofs.Numbers.{means-next, means-unread, means-as}
 use Rattle.json.proofs.Flats.{means-map}
 use Rattle.comment.specs.declared.value.Member.{Member}

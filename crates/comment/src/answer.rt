@@ -2,9 +2,9 @@
 use crate::value::Member;
 use crate::value::member_at;
 use decode::decoded_is;
-use json::After;
 use json::skip_space;
 use json::structural_at;
+use json_string::After;
 ghost use mathlib.Core.Path.{_≡_};
 ghost use Prim.Native.Nat.{_+_, _≤_, _<_};
 ghost use lib.ListN.{length, drop};

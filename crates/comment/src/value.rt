@@ -1,14 +1,14 @@
 // Values, objects and arrays (RFC 8259, sections 3 to 5). Their readers call each other; the depth allowance is passed down.
-use json::After;
 use json::flat_at;
 use json::skip_space;
-use json::string_end;
 use json::structural_at;
+use json_string::After;
+use json_string::string_end;
 ghost use mathlib.Core.Path.{_≡_};
 ghost use Prim.Native.Nat.{_≤_, _<_};
 ghost use lib.ListN.{length, getD, drop};
 ghost use Rattle.rfc8259.specs.Reader.{memberOf, enclosedOf, valueOf};
-ghost use Rattle.json.specs.Means.{Means};
+ghost use Rattle.json_string.specs.Means.{Means};
 ghost use Rattle.comment.specs.Members.{MemberMeans};
 
 // A member: the place of its value, and where reading goes on.

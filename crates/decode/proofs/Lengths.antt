@@ -11,11 +11,11 @@ use Rattle.rfc8259.specs.Encode.{utf8}
 use Rattle.rfc8259.proofs.EncodeLaws.{utf8-one, utf8-two, utf8-three, utf8-four}
 use Rattle.rfc8259.specs.Reader.{pieceOf, charsFrom}
 use Rattle.decode.specs.declared.length.Decoded.the-variants.{Bytes, NoString}
-use Rattle.json.specs.declared.string.Piece.{Piece}
-use Rattle.json.specs.declared.string.Piece.the-variants.{Byte, Code, Closes, Wrong}
+use Rattle.json_string.specs.declared.string.Piece.{Piece}
+use Rattle.json_string.specs.declared.string.Piece.the-variants.{Byte, Code, Closes, Wrong}
 use Rattle.decode.specs.Decoded.{decodedLength}
-use Rattle.json.specs.Pieces.{Stood, PieceMeans}
-use Rattle.json.proofs.Strings.{Stringing, coded-told, string-starts, starts-passed, string-cut, stood-on, stood-passed, closed-value, string-closed, string-wrong, byte-falls, code-falls}
+use Rattle.json_string.specs.Pieces.{Stood, PieceMeans}
+use Rattle.json_string.proofs.Strings.{Stringing, coded-told, string-starts, starts-passed, string-cut, stood-on, stood-passed, closed-value, string-closed, string-wrong, byte-falls, code-falls}
 
 module _ (c : ℕ) where
   pub length-one : c < 0x80 → 1 ≡ length (utf8 c)

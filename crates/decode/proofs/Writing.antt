@@ -17,10 +17,10 @@ use Rattle.rfc8259.specs.Encode.{utf8}
 use Rattle.rfc8259.specs.Reader.{Out, got, bad, andThen, pieceOf, charsFrom}
 use Rattle.rfc8259.proofs.Took.{same-value, never-bad}
 use Rattle.rfc8259.proofs.Items.{before}
-use Rattle.json.specs.declared.string.Piece.{Piece}
-use Rattle.json.specs.declared.string.Piece.the-variants.{Byte, Code, Closes, Wrong}
-use Rattle.json.specs.Pieces.{Stood, PieceMeans}
-use Rattle.json.proofs.Strings.{Stringing, coded-told, string-starts, starts-passed, string-cut, stood-on, stood-passed, closed-value, string-closed, string-wrong, byte-falls, code-falls}
+use Rattle.json_string.specs.declared.string.Piece.{Piece}
+use Rattle.json_string.specs.declared.string.Piece.the-variants.{Byte, Code, Closes, Wrong}
+use Rattle.json_string.specs.Pieces.{Stood, PieceMeans}
+use Rattle.json_string.proofs.Strings.{Stringing, coded-told, string-starts, starts-passed, string-cut, stood-on, stood-passed, closed-value, string-closed, string-wrong, byte-falls, code-falls}
 use Rattle.decode.specs.declared.length.Decoded.{Decoded}
 use Rattle.decode.specs.declared.length.Decoded.the-variants.{Bytes, NoString}
 use Rattle.decode.specs.declared.write.Written.the-variants as written

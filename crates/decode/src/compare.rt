@@ -1,8 +1,8 @@
 // A string against a given text, char by char and without a buffer.
 use crate::length::utf8_length;
 use crate::octets::has_octets;
-use json::Piece;
-use json::piece_at;
+use json_string::Piece;
+use json_string::piece_at;
 ghost use mathlib.Core.Path.{_≡_};
 ghost use lib.ListN.{drop};
 ghost use Rattle.rfc8259.specs.Reader.{charsFrom};

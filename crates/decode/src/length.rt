@@ -1,6 +1,6 @@
 // What a string stands for, without writing it down.
-use json::Piece;
-use json::piece_at;
+use json_string::Piece;
+use json_string::piece_at;
 ghost use mathlib.Core.Path.{_≡_};
 ghost use Prim.Native.Nat.{_≤_};
 ghost use lib.ListN.{length, drop};

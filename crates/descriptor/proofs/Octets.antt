@@ -23,10 +23,10 @@ use Rattle.text.specs.declared.trim.Span.{Span}
 use Rattle.text.specs.Trim.{trimBoth}
 use Rattle.text.proofs.Cuts.{trim-octets}
 use Rattle.descriptor.specs.declared.types.Base.the-variants.{Letter, Kept, Named}
-use Rattle.descriptor.specs.Names.{slash, slashed, classDescriptor}
+use Rattle.pool.specs.Names.{slash, slashed, classDescriptor}
 use Rattle.descriptor.specs.Types.{partOf, bracketsAt, baseEnd, bracketCount, wordLetter, keptText, baseOf, baseBytes, typeDescriptor}
 use Rattle.descriptor.specs.Signatures.{rawKept, rawType, afterClose, rawSignature}
-use Rattle.descriptor.specs.Pieces.{byte, piece, partsFrom, Look, known, unknown, lookOr, turned, join, turn, Pair, orLook, shown, swapped, back}
+use Rattle.pieces.specs.Pieces.{byte, piece, partsFrom, Look, known, unknown, lookOr, turned, join, turn, Pair, orLook, shown, swapped, back}
 
 -- Names.
 slash-low : (x : ℕ) → x < 0x80 → slash x < 0x80

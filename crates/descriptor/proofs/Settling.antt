@@ -21,13 +21,13 @@ use Rattle.places.specs.declared.find.Place.{Place}
 use Rattle.places.specs.declared.find.Place.the-variants.{At, Nowhere}
 use Rattle.places.specs.Places.{lastWhere, starts}
 use Rattle.places.proofs.PlaceLaws.{last-inside}
-use Rattle.descriptor.specs.declared.write.Wrote.{Wrote}
-use Rattle.descriptor.specs.declared.write.Wrote.the-variants.{Done, NoRoom}
-use Rattle.descriptor.specs.Names.{slash, slashed, classDescriptor}
+use Rattle.pool.specs.declared.write.Wrote.{Wrote}
+use Rattle.pool.specs.declared.write.Wrote.the-variants.{Done, NoRoom}
+use Rattle.pool.specs.Names.{slash, slashed, classDescriptor}
 use Rattle.descriptor.specs.Types.{partOf, keptText}
 use Rattle.descriptor.specs.Signatures.{isLetter, oneLetter, rawKept, rawType, afterClose, rawSignature}
-use Rattle.descriptor.specs.Wrote.{Written, WroteBy}
-use Rattle.descriptor.proofs.Writes.{slashed-length, wrote-then}
+use Rattle.pool.specs.Wrote.{Written, WroteBy}
+use Rattle.pool.proofs.Writes.{slashed-length, wrote-then}
 
 pub ruleset letters = (cases, needs)
 

@@ -21,12 +21,12 @@ use Rattle.descriptor.specs.declared.types.Stripped.{Stripped}
 use Rattle.descriptor.specs.declared.types.Base.{Base}
 use Rattle.descriptor.specs.declared.types.Base.the-variants.{Letter, Kept, Named}
 use Rattle.descriptor.specs.declared.types.TypeShape.{TypeShape}
-use Rattle.descriptor.specs.declared.write.Wrote.{Wrote}
-use Rattle.descriptor.specs.declared.write.Wrote.the-variants.{Done, NoRoom}
-use Rattle.descriptor.specs.Names.{classDescriptor}
+use Rattle.pool.specs.declared.write.Wrote.{Wrote}
+use Rattle.pool.specs.declared.write.Wrote.the-variants.{Done, NoRoom}
+use Rattle.pool.specs.Names.{classDescriptor}
 use Rattle.descriptor.specs.Types.{partOf, bracketsAt, baseEnd, bracketCount, strippedOf, wordLetter, keptText, baseOf, baseBytes, shapeIn, shapeOf, shapeBytes, typeDescriptor}
-use Rattle.descriptor.specs.Wrote.{WroteBy}
-use Rattle.descriptor.proofs.Writes.{wrote-told, wrote-none, wrote-then, none-then}
+use Rattle.pool.specs.Wrote.{WroteBy}
+use Rattle.pool.proofs.Writes.{wrote-told, wrote-none, wrote-then, none-then}
 
 -- The nine words.
 module _ (s : List ℕ) where

@@ -6,7 +6,7 @@ use Rattle.places.specs.Places.{firstFrom, lastFrom, same}
 use Rattle.utf8.specs.Utf8.{leadOf, tails, afterLead, sequenceOf, piecesFrom}
 use Rattle.text.specs.White.{whiteRanges, inRanges, isWhite}
 use Rattle.text.specs.Trim.{runOf, allWhite, trimEnd}
-use Rattle.descriptor.specs.Names.{classDescriptor}
+use Rattle.pool.specs.Names.{classDescriptor}
 use Rattle.descriptor.specs.Types.{baseEnd, bracketCount, typeDescriptor}
 use Rattle.descriptor.specs.Signatures.{rawSignature}
 

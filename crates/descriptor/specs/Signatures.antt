@@ -8,7 +8,7 @@ use Rattle.ground.specs.Choice.{pick, either}
 use Rattle.places.specs.declared.find.Place.{Place}
 use Rattle.places.specs.declared.find.Place.the-variants.{At, Nowhere}
 use Rattle.places.specs.Places.{lastWhere, starts}
-use Rattle.descriptor.specs.Names.{classDescriptor}
+use Rattle.pool.specs.Names.{classDescriptor}
 use Rattle.descriptor.specs.Types.{keptText}
 
 -- "one of the nine letters"

@@ -13,7 +13,7 @@ use Rattle.descriptor.specs.declared.types.Stripped.{Stripped}
 use Rattle.descriptor.specs.declared.types.Base.{Base}
 use Rattle.descriptor.specs.declared.types.Base.the-variants.{Letter, Kept, Named}
 use Rattle.descriptor.specs.declared.types.TypeShape.{TypeShape}
-use Rattle.descriptor.specs.Names.{classDescriptor}
+use Rattle.pool.specs.Names.{classDescriptor}
 
 -- the bytes of a part
 abbrev pub partOf : List ℕ → ℕ → ℕ → List ℕ

@@ -1,15 +1,15 @@
 // Types and their descriptors.
-use crate::write::Wrote;
-use crate::write::put_bytes;
-use crate::write::put_class;
-use crate::write::put_text;
 use places::same_bytes;
+use pool::Wrote;
+use pool::put_bytes;
+use pool::put_class;
+use pool::put_text;
 use text::trim_both;
 ghost use mathlib.Core.Path.{_≡_};
 ghost use Prim.Native.Nat.{_≤_};
 ghost use lib.ListN.{length};
 ghost use Rattle.descriptor.specs.Types.{strippedOf, wordLetter, keptText, baseOf, baseBytes, shapeOf, typeDescriptor};
-ghost use Rattle.descriptor.specs.Wrote.{WroteBy};
+ghost use Rattle.pool.specs.Wrote.{WroteBy};
 
 // Where a type ends without the `[]`s at its end, and how many they are.
 pub struct Stripped {

@@ -6,13 +6,13 @@ use Prim.Native.Nat.{ℕ, _≤_}
 use lib.Dec.{eqb, ltb}
 use lib.ListN.{length}
 use Rattle.ground.specs.Choice.{either}
-use Rattle.descriptor.specs.declared.write.Wrote.{Wrote}
-use Rattle.descriptor.specs.declared.write.Wrote.the-variants.{Done, NoRoom}
-use Rattle.descriptor.specs.declared.pieces.Part as parts
-use Rattle.descriptor.specs.declared.pieces.Part.the-variants.{Piece, Plain, End}
+use Rattle.pool.specs.declared.write.Wrote.{Wrote}
+use Rattle.pool.specs.declared.write.Wrote.the-variants.{Done, NoRoom}
+use Rattle.pieces.specs.declared.pieces.Part as parts
+use Rattle.pieces.specs.declared.pieces.Part.the-variants.{Piece, Plain, End}
 use Rattle.descriptor.specs.Types.{partOf}
 use Rattle.descriptor.specs.Signatures.{rawSignature}
-use Rattle.descriptor.specs.Wrote.{WroteBy}
+use Rattle.pool.specs.Wrote.{WroteBy}
 
 abbrev pub wroteNumbers : Wrote → List ℕ
 wroteNumbers (Done q) = 1 ∷ q ∷ []

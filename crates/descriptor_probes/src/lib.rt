@@ -1,12 +1,12 @@
 // C functions over descriptors, for differential runs. Each writes its answer as numbers: 1 and the place after the last byte written, or zeros
 // where there is no room. What a room holds then is the caller's to clear.
-use descriptor::Part;
-use descriptor::Wrote;
+use pieces::Part;
+use pool::Wrote;
 ghost use mathlib.Core.Path.{_≡_};
-ghost use Rattle.descriptor.specs.Names.{classDescriptor};
+ghost use Rattle.pool.specs.Names.{classDescriptor};
 ghost use Rattle.descriptor.specs.Types.{partOf, typeDescriptor};
 ghost use Rattle.descriptor.specs.Signatures.{rawSignature};
-ghost use Rattle.descriptor.specs.Pieces.{partAt};
+ghost use Rattle.pieces.specs.Pieces.{partAt};
 ghost use Rattle.descriptor_probes.specs.Answers.{wroteNumbers, partNumbers, Said, SaidWithin};
 
 fn wrote_numbers(w: Wrote) -> [u64; 2]
@@ -27,7 +27,7 @@ pub extern "C" fn clumarief_probe_class(
 )
     ensures { λ _. ⌜ Said (now (answer .exit)) (now (room .entry)) at (classDescriptor (now (name .entry))) (now (room .exit)) ⌝ }
 {
-    let wrote = descriptor::put_class(room, at, name);
+    let wrote = pool::put_class(room, at, name);
     *answer = wrote_numbers(wrote);
 }
 
@@ -72,7 +72,7 @@ pub extern "C" fn clumarief_probe_signature(
 pub extern "C" fn clumarief_probe_part(d: &[u8], at: usize, answer: &mut [u64; 2])
     ensures { λ _. ⌜ now (answer .exit) ≡ partNumbers (partAt (now (d .entry)) at) ⌝ }
 {
-    match descriptor::part_at(d, at) {
+    match pieces::part_at(d, at) {
         Part::Piece(end) => {
             *answer = [1, end as u64];
         }

@@ -6,7 +6,7 @@ use Prim.Native.Nat.{ℕ, _≤_, _<_}
 use native.Mathlib.Omega.{arith}
 use lib.Dec.{leb, eqb}
 use borrow.Author.Tests.{lt-ltb, le-ltb, le-leb, lt-leb, eq-eqb, ne-eqb, leb-true, leb-false, eqb-true, eqb-false}
-use Rattle.ground.specs.Choice.{both, within}
+use Rattle.ground.specs.Choice.{both, within, bit}
 
 -- for code without a loop: each test of the rule is rewritten by the branch that was taken
 pub ruleset cases = (lt-ltb, le-ltb, le-leb, lt-leb, eq-eqb, ne-eqb, arith)
@@ -62,3 +62,7 @@ le-or-lt m n = go (leb m n) refl
     go : (b : Bool) → leb m n ≡ b → (m ≤ n) ⊎ (n < m)
     go true e = inl (leb-true m n e)
     go false e = inr (leb-false m n e)
+
+-- the number of a test is that of its rule
+pub bit-told : {b x : Bool} {n : ℕ} → b ≡ x → n ≡ bit b → n ≡ bit x
+bit-told e f = rw (← e) f

@@ -19,3 +19,8 @@ either a b = pick a true b
 -- `x` stands in the range from `low` to `high`, both included
 abbrev pub within : ℕ → ℕ → ℕ → Bool
 within low high x = both (leb low x) (leb x high)
+
+-- a test as a number
+abbrev pub bit : Bool → ℕ
+bit true = 1
+bit false = 0

@@ -12,9 +12,9 @@ use borrow.Author.Needs.{needs}
 use Rattle.ground.specs.Ascii.{ascii}
 use Rattle.rfc8259.specs.Grammar.{text, other}
 use Rattle.rfc8259.specs.Reader.{Out, got, bad, andThen, charsFrom, stringOf, pastWord, asText, asOther, flatOf, numberOf}
-use Rattle.json.specs.declared.space.After.{After}
-use Rattle.json.specs.declared.space.After.the-variants.{Next, Unread}
-use Rattle.json.specs.Means.{Reached, Means}
+use Rattle.json_string.specs.declared.after.After.{After}
+use Rattle.json_string.specs.declared.after.After.the-variants.{Next, Unread}
+use Rattle.json_string.specs.Means.{Reached, Means}
 use Rattle.json.proofs.Numbers.{means-as}
 
 -- A literal name: what is left of it decides.

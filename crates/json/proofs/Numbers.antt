@@ -10,9 +10,10 @@ use lib.Seq.{drop-cons}
 use borrow.Author.Needs.{needs}
 use Rattle.ground.proofs.Cases.{within-yes, within-low, within-high}
 use Rattle.rfc8259.specs.Reader.{Out, bad, andThen, isDigit, isSign, isMinus, isE, past, optional, digits, int, frac, exp, numberOf}
-use Rattle.json.specs.declared.space.After.{After}
-use Rattle.json.specs.declared.space.After.the-variants.{Next, Unread}
-use Rattle.json.specs.Means.{Reached, Means, Past, PastOne}
+use Rattle.json_string.specs.declared.after.After.{After}
+use Rattle.json_string.specs.declared.after.After.the-variants.{Next, Unread}
+use Rattle.json_string.specs.Means.{Reached, Means}
+use Rattle.json.specs.Runs.{Past, PastOne}
 use Rattle.json.proofs.Spaces.{passing-starts, passing-ends, passing-stops, passing-more, apart}
 
 -- What an answer means, case by case.

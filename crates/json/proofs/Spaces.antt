@@ -13,7 +13,8 @@ use borrow.Author.Needs.{needs}
 use Rattle.ground.specs.Choice.{within}
 use Rattle.ground.proofs.Cases.{within-yes, within-both}
 use Rattle.rfc8259.specs.Reader.{got, bad, andThen, pastAll, isWs, skip, oneOf, structural}
-use Rattle.json.specs.Means.{Reached, Past}
+use Rattle.json_string.specs.Means.{Reached}
+use Rattle.json.specs.Runs.{Past}
 
 -- White space.
 module _ (b : ℕ) where

@@ -1,3 +1,2 @@
 -- How an answer by places speaks of the reader on lists.
-pub mod Means
-pub mod Pieces
+pub mod Runs

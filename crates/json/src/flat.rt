@@ -1,11 +1,11 @@
 // Values that nest nothing: literal names, numbers and strings (RFC 8259, section 3).
 use crate::number::number_at;
-use crate::space::After;
-use crate::string::string_end;
+use json_string::After;
+use json_string::string_end;
 ghost use Prim.Native.Nat.{_≤_};
 ghost use lib.ListN.{length, drop};
 ghost use Rattle.rfc8259.specs.Reader.{pastWord, flatOf};
-ghost use Rattle.json.specs.Means.{Means};
+ghost use Rattle.json_string.specs.Means.{Means};
 
 // A literal name.
 fn word_at(s: &[u8], at: usize, word: &[u8]) -> After

@@ -1,10 +1,10 @@
 // Numbers, by the grammar alone (RFC 8259, section 6).
-use crate::space::After;
-ghost use mathlib.Core.Path.{_≡_};
+use json_string::After;
 ghost use Prim.Native.Nat.{_≤_};
 ghost use lib.ListN.{length, drop};
 ghost use Rattle.rfc8259.specs.Reader.{isDigit, isSign, isMinus, digits, int, frac, exp, numberOf};
-ghost use Rattle.json.specs.Means.{Means, Past, PastOne};
+ghost use Rattle.json_string.specs.Means.{Means};
+ghost use Rattle.json.specs.Runs.{Past, PastOne};
 
 // The first place from `start` on at which no digit stands.
 fn past_digits(s: &[u8], start: usize) -> usize

@@ -1,15 +1,11 @@
 // White space and structural characters (RFC 8259, section 2).
+use json_string::After;
 ghost use mathlib.Core.Path.{_≡_};
 ghost use Prim.Native.Nat.{_≤_};
 ghost use lib.ListN.{length, drop};
-ghost use Rattle.rfc8259.specs.Reader.{isWs, isDigit, structural};
-ghost use Rattle.json.specs.Means.{Means, Past};
-
-// Where reading goes on, or that there was nothing of the kind.
-pub enum After {
-    Next(usize),
-    Unread,
-}
+ghost use Rattle.rfc8259.specs.Reader.{isWs, structural};
+ghost use Rattle.json_string.specs.Means.{Means};
+ghost use Rattle.json.specs.Runs.{Past};
 
 // Whether a byte is white space.
 pub fn is_space(b: u8) -> bool

@@ -31,23 +31,23 @@ use Rattle.number.specs.declared.range.TrailingRange.{TrailingRange}
 use Rattle.number.specs.declared.range.TrailingRange.the-variants as trailing
 use Rattle.number.specs.Numbers.{numberOf}
 use Rattle.number.specs.Ranges.{firstColon, bothRead, cutTwice, cutOnce, leadingRange}
-use Rattle.line.specs.declared.arrow.Arrow.the-variants.{Sides, NoArrow}
-use Rattle.line.specs.declared.field.Field.the-variants as field
-use Rattle.line.specs.declared.signature.Qualified.{Qualified}
-use Rattle.line.specs.declared.signature.Qualified.the-variants.{Owned, Plain}
-use Rattle.line.specs.declared.signature.Signature.{Signature}
-use Rattle.line.specs.declared.signature.Signature.the-variants as signature
-use Rattle.line.specs.declared.method.LineRange.{LineRange}
-use Rattle.line.specs.declared.method.LineRange.the-variants.{Lines, NoLines}
-use Rattle.line.specs.declared.method.Method.{Method}
-use Rattle.line.specs.declared.method.MethodParts.the-variants.{Parts}
-use Rattle.line.specs.Spans.{span, shift, isEmpty, partOf, Lies, NameIn}
-use Rattle.line.specs.Arguments.{commaParts, filled, argumentsOf}
-use Rattle.line.specs.Arrows.{sidesOf, splitAt, arrowOf, classOf}
-use Rattle.line.specs.Fields.{fieldAt, fieldOf}
-use Rattle.line.specs.Signatures.{nameAt, nameOf, linesAfter, signatureAt, signatureOf}
-use Rattle.line.specs.Methods.{shiftName, shiftMethod, MethodIn, settledOf, withSignature, typeAt, methodFrom, methodAfter, methodOf}
-use Rattle.line.proofs.Lying.{trim-lies, part-length, arrow-lies, signature-lies, shift-lies}
+use Rattle.parts.specs.declared.arrow.Arrow.the-variants.{Sides, NoArrow}
+use Rattle.parts.specs.declared.field.Field.the-variants as field
+use Rattle.parts.specs.declared.signature.Qualified.{Qualified}
+use Rattle.parts.specs.declared.signature.Qualified.the-variants.{Owned, Plain}
+use Rattle.parts.specs.declared.signature.Signature.{Signature}
+use Rattle.parts.specs.declared.signature.Signature.the-variants as signature
+use Rattle.parts.specs.declared.method.LineRange.{LineRange}
+use Rattle.parts.specs.declared.method.LineRange.the-variants.{Lines, NoLines}
+use Rattle.parts.specs.declared.method.Method.{Method}
+use Rattle.parts.specs.declared.method.MethodParts.the-variants.{Parts}
+use Rattle.parts.specs.Spans.{span, shift, isEmpty, partOf, Lies, NameIn}
+use Rattle.arguments.specs.Arguments.{commaParts, filled, argumentsOf}
+use Rattle.parts.specs.Arrows.{sidesOf, splitAt, arrowOf, classOf}
+use Rattle.parts.specs.Fields.{fieldAt, fieldOf}
+use Rattle.parts.specs.Signatures.{nameAt, nameOf, linesAfter, signatureAt, signatureOf}
+use Rattle.parts.specs.Methods.{shiftName, shiftMethod, MethodIn, settledOf, withSignature, typeAt, methodFrom, methodAfter, methodOf}
+use Rattle.parts.proofs.Lying.{trim-lies, part-length, arrow-lies, signature-lies, shift-lies}
 
 -- A text that stands in another from the place `by` on: its parts are parts of that one.
 pub record Stands (s : List ℕ) (by : ℕ) (t : List ℕ) : Type 0 where

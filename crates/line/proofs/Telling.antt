@@ -17,21 +17,21 @@ use Rattle.utf8.proofs.Boundaries.{octets-as, fresh-ascii, drop-octets}
 use Rattle.text.specs.declared.trim.Span.{Span}
 use Rattle.text.specs.Trim.{trimBoth, startsWhite}
 use Rattle.text.proofs.Cuts.{trim-octets}
-use Rattle.line.specs.declared.arrow.Arrow.{Arrow}
-use Rattle.line.specs.declared.arrow.Arrow.the-variants.{Sides, NoArrow}
-use Rattle.line.specs.declared.field.Field as field
-use Rattle.line.specs.declared.field.Field.the-variants as fields
-use Rattle.line.specs.declared.method.MethodParts as method
-use Rattle.line.specs.declared.method.MethodParts.the-variants as methods
+use Rattle.parts.specs.declared.arrow.Arrow.{Arrow}
+use Rattle.parts.specs.declared.arrow.Arrow.the-variants.{Sides, NoArrow}
+use Rattle.parts.specs.declared.field.Field as field
+use Rattle.parts.specs.declared.field.Field.the-variants as fields
+use Rattle.parts.specs.declared.method.MethodParts as method
+use Rattle.parts.specs.declared.method.MethodParts.the-variants as methods
 use Rattle.line.specs.declared.line.Line.{Line}
 use Rattle.line.specs.declared.line.Line.the-variants.{Blank, Comment, Class, Field, Method, Refused}
-use Rattle.line.specs.Spans.{span, shift, isEmpty, partOf, Lies}
-use Rattle.line.specs.Arrows.{arrowOf, classOf}
-use Rattle.line.specs.Fields.{fieldOf}
-use Rattle.line.specs.Methods.{methodOf}
+use Rattle.parts.specs.Spans.{span, shift, isEmpty, partOf, Lies}
+use Rattle.parts.specs.Arrows.{arrowOf, classOf}
+use Rattle.parts.specs.Fields.{fieldOf}
+use Rattle.parts.specs.Methods.{methodOf}
 use Rattle.line.specs.Kinds.{placeFrom, commentAt, classBy, classAt, methodBy, methodAt, fieldBy, fieldAt, bySide, memberBy, memberAt, lineOf}
-use Rattle.line.proofs.Lying.{trim-lies, part-length, arrow-lies, class-lies, field-lies, shift-lies}
-use Rattle.line.proofs.Methods.{method-lies}
+use Rattle.parts.proofs.Lying.{trim-lies, part-length, arrow-lies, class-lies, field-lies, shift-lies}
+use Rattle.parts.proofs.Methods.{method-lies}
 use Rattle.line.proofs.Octets.{Stands, stands-part, part-stands, arrow-octets, class-octets, field-octets, MethodOctets, method-octets, method-stands}
 
 -- each part of the line `s`, which ends at the place `e` without the white space at its end

@@ -12,21 +12,21 @@ use Rattle.places.specs.Places.{firstWhere, starts}
 use Rattle.places.proofs.PlaceLaws.{first-inside}
 use Rattle.text.specs.declared.trim.Span.{Span}
 use Rattle.text.specs.Trim.{trimBoth, startsWhite}
-use Rattle.line.specs.declared.arrow.Arrow.{Arrow}
-use Rattle.line.specs.declared.arrow.Arrow.the-variants.{Sides, NoArrow}
-use Rattle.line.specs.declared.field.Field as field
-use Rattle.line.specs.declared.field.Field.the-variants as fields
-use Rattle.line.specs.declared.method.MethodParts as method
-use Rattle.line.specs.declared.method.MethodParts.the-variants as methods
+use Rattle.parts.specs.declared.arrow.Arrow.{Arrow}
+use Rattle.parts.specs.declared.arrow.Arrow.the-variants.{Sides, NoArrow}
+use Rattle.parts.specs.declared.field.Field as field
+use Rattle.parts.specs.declared.field.Field.the-variants as fields
+use Rattle.parts.specs.declared.method.MethodParts as method
+use Rattle.parts.specs.declared.method.MethodParts.the-variants as methods
 use Rattle.line.specs.declared.line.Line.{Line}
 use Rattle.line.specs.declared.line.Line.the-variants.{Blank, Comment, Class, Field, Method, Refused}
-use Rattle.line.specs.Spans.{shift, isEmpty, partOf, Lies}
-use Rattle.line.specs.Arrows.{arrowOf, classOf}
-use Rattle.line.specs.Fields.{fieldOf}
-use Rattle.line.specs.Methods.{MethodIn, methodOf}
+use Rattle.parts.specs.Spans.{shift, isEmpty, partOf, Lies}
+use Rattle.parts.specs.Arrows.{arrowOf, classOf}
+use Rattle.parts.specs.Fields.{fieldOf}
+use Rattle.parts.specs.Methods.{MethodIn, methodOf}
 use Rattle.line.specs.Kinds.{placeFrom, commentAt, classBy, classAt, methodBy, methodAt, fieldBy, fieldAt, bySide, memberBy, memberAt, lineIn, lineOf}
-use Rattle.line.proofs.Lying.{trim-lies, arrow-lies, class-lies, field-lies, shift-lies, part-length}
-use Rattle.line.proofs.Methods.{method-lies, shift-method-lies}
+use Rattle.parts.proofs.Lying.{trim-lies, arrow-lies, class-lies, field-lies, shift-lies, part-length}
+use Rattle.parts.proofs.Methods.{method-lies, shift-method-lies}
 
 -- all parts lie in the first `n` bytes
 abbrev pub LineIn : Line → ℕ → Type 0

@@ -9,12 +9,12 @@ use Rattle.utf8.specs.Utf8.{leadOf, tails, afterLead, sequenceOf, piecesFrom}
 use Rattle.text.specs.White.{whiteRanges, inRanges, isWhite}
 use Rattle.text.specs.Trim.{runOf, allWhite, trimEnd}
 use Rattle.number.specs.Numbers.{digits, plain, numberOf}
-use Rattle.line.specs.declared.signature.Qualified.the-variants.{Owned, Plain}
-use Rattle.line.specs.declared.method.LineRange.the-variants.{Lines, NoLines}
+use Rattle.parts.specs.declared.signature.Qualified.the-variants.{Owned, Plain}
+use Rattle.parts.specs.declared.method.LineRange.the-variants.{Lines, NoLines}
 use Rattle.line.specs.declared.line.Line.the-variants.{Blank, Comment, Class, Field, Method, Refused}
-use Rattle.line.specs.Arguments.{commaParts, filled, argumentsOf}
+use Rattle.arguments.specs.Arguments.{commaParts, filled, argumentsOf}
 use Rattle.line.specs.Kinds.{lineOf}
-use Rattle.line.specs.Spans.{span}
+use Rattle.parts.specs.Spans.{span}
 
 examples :
     -- the five lines of document 01's example

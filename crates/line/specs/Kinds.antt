@@ -7,18 +7,18 @@ use Rattle.places.specs.declared.find.Place.the-variants.{At, Nowhere}
 use Rattle.places.specs.Places.{firstWhere, starts}
 use Rattle.text.specs.declared.trim.Span.{Span}
 use Rattle.text.specs.Trim.{trimBoth, startsWhite}
-use Rattle.line.specs.declared.arrow.Arrow.{Arrow}
-use Rattle.line.specs.declared.arrow.Arrow.the-variants.{Sides, NoArrow}
-use Rattle.line.specs.declared.field.Field as field
-use Rattle.line.specs.declared.field.Field.the-variants as fields
-use Rattle.line.specs.declared.method.MethodParts as method
-use Rattle.line.specs.declared.method.MethodParts.the-variants as methods
+use Rattle.parts.specs.declared.arrow.Arrow.{Arrow}
+use Rattle.parts.specs.declared.arrow.Arrow.the-variants.{Sides, NoArrow}
+use Rattle.parts.specs.declared.field.Field as field
+use Rattle.parts.specs.declared.field.Field.the-variants as fields
+use Rattle.parts.specs.declared.method.MethodParts as method
+use Rattle.parts.specs.declared.method.MethodParts.the-variants as methods
 use Rattle.line.specs.declared.line.Line.{Line}
 use Rattle.line.specs.declared.line.Line.the-variants.{Blank, Comment, Class, Field, Method, Refused}
-use Rattle.line.specs.Spans.{shift, isEmpty, partOf}
-use Rattle.line.specs.Arrows.{arrowOf, classOf}
-use Rattle.line.specs.Fields.{fieldOf}
-use Rattle.line.specs.Methods.{shiftMethod, methodOf}
+use Rattle.parts.specs.Spans.{shift, isEmpty, partOf}
+use Rattle.parts.specs.Arrows.{arrowOf, classOf}
+use Rattle.parts.specs.Fields.{fieldOf}
+use Rattle.parts.specs.Methods.{shiftMethod, methodOf}
 
 -- a place in what starts at the place `by`
 abbrev pub placeFrom : ℕ → Place → Place

@@ -1,9 +1,3 @@
 -- One line of a mapping file: the written rules, from document 01 "Text and lines".
-pub mod Spans
-pub mod Arrows
-pub mod Fields
-pub mod Signatures
-pub mod Methods
 pub mod Kinds
-pub mod Arguments
 pub mod Examples

@@ -1,14 +1,14 @@
 // What a line is, with the places of its parts in it.
-use crate::arrow::Arrow;
-use crate::arrow::class_sides;
-use crate::arrow::split_arrow;
-use crate::field::Field;
-use crate::field::field_parts;
-use crate::method::Method;
-use crate::method::MethodParts;
-use crate::method::method_parts;
-use crate::method::shifted_method;
-use crate::spans::shifted;
+use parts::Arrow;
+use parts::Field;
+use parts::Method;
+use parts::MethodParts;
+use parts::class_sides;
+use parts::field_parts;
+use parts::method_parts;
+use parts::shifted;
+use parts::shifted_method;
+use parts::split_arrow;
 use places::Place;
 use places::first_byte;
 use text::Span;
@@ -17,7 +17,7 @@ use text::trim_both;
 ghost use mathlib.Core.Path.{_≡_};
 ghost use Prim.Native.Nat.{_+_, _≤_};
 ghost use lib.ListN.{length};
-ghost use Rattle.line.specs.Spans.{largest};
+ghost use Rattle.parts.specs.Spans.{largest};
 ghost use Rattle.line.specs.Kinds.{lineOf, commentAt, classAt, memberAt, methodAt, fieldAt};
 
 pub enum Line {

@@ -8,25 +8,24 @@ use lib.ListN.{length}
 use Rattle.ground.specs.Choice.{pick}
 use Rattle.places.specs.declared.find.Place.{Place}
 use Rattle.places.specs.declared.find.Place.the-variants.{At, Nowhere}
-use Rattle.places.specs.Places.{firstWhere, starts}
+use Rattle.places.specs.Places.{firstWhere, starts, placeNumber}
 use Rattle.places.proofs.PlaceLaws.{first-inside}
 use Rattle.text.specs.declared.trim.Span.{Span}
 use Rattle.text.specs.Trim.{trimBoth, startsWhite}
-use Rattle.line.specs.declared.arrow.Arrow.{Arrow}
-use Rattle.line.specs.declared.arrow.Arrow.the-variants.{Sides, NoArrow}
-use Rattle.line.specs.declared.field.Field as field
-use Rattle.line.specs.declared.field.Field.the-variants as fields
-use Rattle.line.specs.declared.method.MethodParts.{MethodParts}
-use Rattle.line.specs.declared.method.MethodParts.the-variants as methods
+use Rattle.parts.specs.declared.arrow.Arrow.{Arrow}
+use Rattle.parts.specs.declared.arrow.Arrow.the-variants.{Sides, NoArrow}
+use Rattle.parts.specs.declared.field.Field as field
+use Rattle.parts.specs.declared.field.Field.the-variants as fields
+use Rattle.parts.specs.declared.method.MethodParts.{MethodParts}
+use Rattle.parts.specs.declared.method.MethodParts.the-variants as methods
 use Rattle.line.specs.declared.line.Line.{Line}
 use Rattle.line.specs.declared.line.Line.the-variants as lines
-use Rattle.line.specs.Spans.{isEmpty, partOf}
-use Rattle.line.specs.Arrows.{arrowOf, classOf}
-use Rattle.line.specs.Fields.{fieldOf}
-use Rattle.line.specs.Methods.{methodOf}
+use Rattle.parts.specs.Spans.{isEmpty, partOf}
+use Rattle.parts.specs.Arrows.{arrowOf, classOf}
+use Rattle.parts.specs.Fields.{fieldOf}
+use Rattle.parts.specs.Methods.{methodOf}
 use Rattle.line.specs.Kinds.{placeFrom, commentAt, classBy, classAt, methodBy, fieldBy, bySide, memberBy, memberAt, lineOf}
-use Rattle.line.proofs.Lying.{trim-lies, part-length}
-use Rattle.line_probes.specs.LineAnswers.{placeNumber}
+use Rattle.parts.proofs.Lying.{trim-lies, part-length}
 
 -- No other line is a comment.
 class-other : (by : ℕ) (a : Arrow) {p : Place} → classBy by a ≡ lines.Comment p → ⊥

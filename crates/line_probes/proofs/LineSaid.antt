@@ -6,18 +6,20 @@ use native.Mathlib.Omega.{arith}
 use mir.Val.{Fits}
 use mir.Syntax.{w64}
 use borrow.Author.Needs.{needs}
+use Rattle.ground.specs.Choice.{bit}
+use Rattle.places.specs.Places.{placeNumber}
 use Rattle.places.specs.declared.find.Place.{Place}
 use Rattle.places.specs.declared.find.Place.the-variants.{At, Nowhere}
 use Rattle.text.specs.declared.trim.Span.{Span}
-use Rattle.line.specs.declared.arguments.NextArgument.{NextArgument}
-use Rattle.line.specs.declared.arguments.NextArgument.the-variants.{Argument, NoArgument}
-use Rattle.line.specs.declared.signature.Qualified.{Qualified}
-use Rattle.line.specs.declared.signature.Qualified.the-variants.{Owned, Plain}
-use Rattle.line.specs.declared.method.Method.{Method}
+use Rattle.arguments.specs.declared.arguments.NextArgument.{NextArgument}
+use Rattle.arguments.specs.declared.arguments.NextArgument.the-variants.{Argument, NoArgument}
+use Rattle.parts.specs.declared.signature.Qualified.{Qualified}
+use Rattle.parts.specs.declared.signature.Qualified.the-variants.{Owned, Plain}
+use Rattle.parts.specs.declared.method.Method.{Method}
 use Rattle.line.specs.declared.line.Line.{Line}
 use Rattle.line.specs.declared.line.Line.the-variants as lines
-use Rattle.line.specs.Spans.{span}
-use Rattle.line_probes.specs.LineAnswers.{bit, placeNumber, owned, ownerOf, nameOf, lined, firstLine, lastLine}
+use Rattle.parts.specs.Spans.{span}
+use Rattle.line_probes.specs.LineAnswers.{owned, ownerOf, nameOf, lined, firstLine, lastLine}
 use Rattle.line_probes.specs.LineAnswers.{sevenNumbers, commentNumbers, classNumbers, fieldNumbers, methodNumbers, lineNumbers, argumentNumbers}
 use Rattle.line_probes.proofs.Braces.{brace-counts}
 

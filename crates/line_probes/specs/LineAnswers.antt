@@ -1,29 +1,20 @@
 -- What a line is, as 20 numbers: which kind it is, then what that holds; a part is its start and its end, and what a kind does not hold is 0.
-use mathlib.Core.Bool.{Bool, true, false}
 use mathlib.Core.List.{List, [], _∷_}
-use Prim.Native.Nat.{ℕ, _+_}
+use Prim.Native.Nat.{ℕ}
+use Rattle.ground.specs.Choice.{bit}
 use Rattle.places.specs.declared.find.Place.{Place}
-use Rattle.places.specs.declared.find.Place.the-variants.{At, Nowhere}
+use Rattle.places.specs.Places.{placeNumber}
 use Rattle.text.specs.declared.trim.Span.{Span}
-use Rattle.line.specs.declared.arguments.NextArgument.{NextArgument}
-use Rattle.line.specs.declared.arguments.NextArgument.the-variants.{Argument, NoArgument}
-use Rattle.line.specs.declared.signature.Qualified.{Qualified}
-use Rattle.line.specs.declared.signature.Qualified.the-variants.{Owned, Plain}
-use Rattle.line.specs.declared.method.LineRange.{LineRange}
-use Rattle.line.specs.declared.method.LineRange.the-variants.{Lines, NoLines}
-use Rattle.line.specs.declared.method.Method.{Method}
+use Rattle.arguments.specs.declared.arguments.NextArgument.{NextArgument}
+use Rattle.arguments.specs.declared.arguments.NextArgument.the-variants.{Argument, NoArgument}
+use Rattle.parts.specs.declared.signature.Qualified.{Qualified}
+use Rattle.parts.specs.declared.signature.Qualified.the-variants.{Owned, Plain}
+use Rattle.parts.specs.declared.method.LineRange.{LineRange}
+use Rattle.parts.specs.declared.method.LineRange.the-variants.{Lines, NoLines}
+use Rattle.parts.specs.declared.method.Method.{Method}
 use Rattle.line.specs.declared.line.Line.{Line}
 use Rattle.line.specs.declared.line.Line.the-variants as lines
-use Rattle.line.specs.Spans.{span}
-
-abbrev pub bit : Bool → ℕ
-bit true = 1
-bit false = 0
-
--- a place, counted from 1; 0 for none
-abbrev pub placeNumber : Place → ℕ
-placeNumber (At i) = i + 1
-placeNumber Nowhere = 0
+use Rattle.parts.specs.Spans.{span}
 
 -- 1 for a name with an owner
 abbrev pub owned : Qualified → ℕ

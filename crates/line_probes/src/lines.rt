@@ -1,14 +1,15 @@
 // What a line is, and the arguments of a method.
 use crate::methods::method_numbers;
+use arguments::NextArgument;
 use line::Line;
-use line::NextArgument;
 use places::Place;
 use text::Span;
 ghost use mathlib.Core.Path.{_≡_};
 ghost use Prim.Native.Nat.{_<_, _^_};
+ghost use Rattle.places.specs.Places.{placeNumber};
 ghost use Rattle.line.specs.Kinds.{lineOf};
-ghost use Rattle.line.specs.Arguments.{nextArgument};
-ghost use Rattle.line_probes.specs.LineAnswers.{sevenNumbers, placeNumber, commentNumbers, classNumbers, fieldNumbers, lineNumbers, argumentNumbers};
+ghost use Rattle.arguments.specs.Arguments.{nextArgument};
+ghost use Rattle.line_probes.specs.LineAnswers.{sevenNumbers, commentNumbers, classNumbers, fieldNumbers, lineNumbers, argumentNumbers};
 
 // An answer of at most seven numbers.
 fn seven(kind: u64, a: u64, b: u64, c: u64, d: u64, e: u64, f: u64) -> [u64; 20]
@@ -111,7 +112,7 @@ pub extern "C" fn clumarief_probe_line_parts(text: &[u8], answer: &mut [u64; 20]
 pub extern "C" fn clumarief_probe_argument(text: &[u8], at: usize, answer: &mut [u64; 4])
     ensures { λ _. ⌜ now (answer .exit) ≡ argumentNumbers (nextArgument (now (text .entry)) at) ⌝ }
 {
-    match line::next_argument(text, at) {
+    match arguments::next_argument(text, at) {
         NextArgument::Argument { start, end, next } => {
             *answer = [1, start as u64, end as u64, next as u64];
         }

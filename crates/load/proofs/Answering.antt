@@ -20,7 +20,7 @@ use Rattle.utf8.proofs.Grammatical.{broken-breaks}
 use Rattle.utf8.proofs.Lengths.{broken-short}
 use Rattle.text.specs.Trim.{afterMarks}
 use Rattle.text.proofs.TrimLaws.{run-inside}
-use Rattle.tables.specs.Rows.{zeroClass, zeroMember}
+use Rattle.rows.specs.Rows.{zeroClass, zeroMember}
 use Rattle.mapping.specs.declared.Load.{Load}
 use Rattle.mapping.specs.declared.Load.the-variants.{TooLong, NotUtf8}
 use Rattle.mapping.specs.Loading.{Lent, counting, checked, answerOf, isLoaded, leaves, classRowsOf, memberRowsOf, poolOf, linesParse}

@@ -14,9 +14,9 @@ use Rattle.ground.specs.Put.{put}
 use Rattle.ground.proofs.Cases.{clash}
 use Rattle.ground.proofs.Parts.{prefix-whole}
 use Rattle.ground.proofs.PutLaws.{put-part, length-put}
-use Rattle.descriptor.specs.declared.write.Wrote.the-variants.{Done}
-use Rattle.descriptor.specs.Wrote.{Written}
-use Rattle.descriptor.proofs.Writes.{written-length, wrote-then}
+use Rattle.pool.specs.declared.write.Wrote.the-variants.{Done}
+use Rattle.pool.specs.Wrote.{Written}
+use Rattle.pool.proofs.Writes.{written-length, wrote-then}
 use Rattle.tables.specs.Back.{readBack}
 use Rattle.raw_types.specs.Marks.{Indexed}
 use Rattle.mapping.specs.declared.Fates.{Fates}

@@ -3,7 +3,7 @@ use mathlib.Core.Path.{_≡_}
 use mathlib.Core.List.{List}
 use Prim.Native.Nat.{ℕ}
 use lib.ListN.{replicate}
-use Rattle.tables.specs.Rows.{zeroClass, zeroMember}
+use Rattle.rows.specs.Rows.{zeroClass, zeroMember}
 use Rattle.mapping.specs.declared.Load.{Load}
 use Rattle.mapping.specs.Loading.{counting, linesLoad, leaves, classRowsOf, memberRowsOf, poolOf, answerOf, classesLeft, membersLeft, poolLeft}
 use Rattle.load.specs.Into.{lent}

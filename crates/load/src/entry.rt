@@ -1,14 +1,14 @@
 // The entry points.
 use crate::fill::load_into;
 use mapping::Load;
-use tables::ClassRow;
+use rows::ClassRow;
+use rows::MemberRow;
+use rows::zero_bytes;
+use rows::zero_classes;
+use rows::zero_members;
 use tables::MOST_CLASSES;
 use tables::MOST_MEMBERS;
 use tables::MOST_POOL;
-use tables::MemberRow;
-use tables::zero_bytes;
-use tables::zero_classes;
-use tables::zero_members;
 use text::after_marks;
 use utf8::Check;
 use utf8::check_text;
@@ -16,7 +16,7 @@ ghost use mathlib.Core.Path.{_≡_};
 ghost use Prim.Native.Nat.{_≤_, min};
 ghost use lib.ListN.{length, drop, replicate};
 ghost use Rattle.places.specs.Lines.{lines};
-ghost use Rattle.tables.specs.Rows.{zeroClass, zeroMember};
+ghost use Rattle.rows.specs.Rows.{zeroClass, zeroMember};
 ghost use Rattle.mapping.specs.Loading.{isLoaded, linesParse, linesStr};
 ghost use Rattle.load.specs.Loads.{Cleared, Left, Loads};
 

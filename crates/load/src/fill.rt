@@ -6,9 +6,9 @@ use mapping::Load;
 use mapping::Scan;
 use members::Filled;
 use members::write_members;
+use rows::ClassRow;
+use rows::MemberRow;
 use scan::scan_from;
-use tables::ClassRow;
-use tables::MemberRow;
 ghost use mathlib.Core.Path.{_≡_};
 ghost use Prim.Native.Nat.{_≤_};
 ghost use lib.ListN.{length};
@@ -82,7 +82,7 @@ pub fn load_into(
 {
     let class_rows = classes.len();
     let member_rows = members.len();
-    let mut index = [0u16; 8192];
+    let mut index = [0u16; 12288];
     match write_classes(text, classes, &mut index, pool) {
         Classes::Written { count, end } => match write_members(
             text,

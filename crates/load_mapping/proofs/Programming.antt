@@ -4,7 +4,7 @@ use mathlib.Core.List.{List}
 use Prim.Native.Nat.{ℕ, _≤_, _<_}
 use lib.ListN.{length}
 use borrow.Author.Tests.{lt-ltb, le-ltb}
-use Rattle.descriptor.specs.Wrote.{Written}
+use Rattle.pool.specs.Wrote.{Written}
 use Rattle.mapping.specs.declared.Load.{Load}
 use Rattle.mapping.specs.declared.Load.the-variants.{TooLong}
 use Rattle.mapping.specs.Loading.{answerOf, linesParse}

@@ -5,7 +5,7 @@ use report::report_line;
 ghost use mathlib.Core.Path.{_≡_};
 ghost use Prim.Native.Nat.{_≤_};
 ghost use lib.ListN.{length};
-ghost use Rattle.descriptor.specs.Wrote.{Written};
+ghost use Rattle.pool.specs.Wrote.{Written};
 ghost use Rattle.report.specs.Report.{reportOf};
 ghost use Rattle.load_mapping.specs.Program.{programAnswer};
 

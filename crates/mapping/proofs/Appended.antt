@@ -4,7 +4,7 @@ use mathlib.Core.List.{List, [], _∷_, _++_, map, append-assoc, append-nil}
 use Prim.Native.Nat.{ℕ, suc, _+_}
 use native.Mathlib.Nat.{add-assoc, add-zero}
 use lib.ListN.{length, length-append}
-use Rattle.descriptor.specs.Pieces.{Pair, join}
+use Rattle.pieces.specs.Pieces.{Pair, join}
 use Rattle.mapping.specs.Classes.{classText, classPool, classRow, classRows}
 use Rattle.mapping.specs.Members.{Entry, entryText, entryPool, entryRow, entryRows}
 

@@ -14,12 +14,12 @@ use Rattle.utf8.proofs.Grammatical.{valid-iff}
 use Rattle.line.specs.declared.line.Line.{Line}
 use Rattle.line.specs.declared.line.Line.the-variants.{Blank, Comment, Class, Field, Method, Refused}
 use Rattle.line.specs.Kinds.{lineOf}
-use Rattle.descriptor.specs.Pieces.{Pair, Look, join}
+use Rattle.pieces.specs.Pieces.{Pair, Look, join}
 use Rattle.descriptor.proofs.Octets.{Pairs, no-pair, a-pair}
-use Rattle.tables.specs.declared.rows.Ranges.{Ranges}
-use Rattle.tables.specs.declared.rows.Ranges.the-variants.{None, Display, Both}
+use Rattle.rows.specs.declared.rows.Ranges.{Ranges}
+use Rattle.rows.specs.declared.rows.Ranges.the-variants.{None, Display, Both}
 use Rattle.tables.specs.declared.check.Used.{Used}
-use Rattle.tables.specs.Rows.{flagOf, zeroClass, zeroMember}
+use Rattle.rows.specs.Rows.{flagOf, zeroClass, zeroMember}
 use Rattle.tables.specs.Check.{allOf, classFine, memberFine, wellFormed}
 use Rattle.tables.proofs.Checking.{all-none, all-cons, FineCounts, class-fine, member-fine, well-formed-rows}
 use Rattle.tables.proofs.Holding.{Holds, holds-all, holds-as, holds-first, holds-second, holds-fine, nothing-fine}

@@ -19,16 +19,16 @@ use Rattle.comment.specs.declared.answer.Comment as comment
 use Rattle.comment.specs.declared.answer.Comment.the-variants.{Unreadable, Readable}
 use Rattle.comment.specs.Answer.{commentOf}
 use Rattle.comment.proofs.Strings.{signature-octets}
-use Rattle.line.specs.declared.signature.Qualified.{Qualified}
-use Rattle.line.specs.declared.signature.Qualified.the-variants.{Owned, Plain}
+use Rattle.parts.specs.declared.signature.Qualified.{Qualified}
+use Rattle.parts.specs.declared.signature.Qualified.the-variants.{Owned, Plain}
 use Rattle.line.specs.declared.line.Line.{Line}
 use Rattle.line.specs.declared.line.Line.the-variants.{Blank, Comment, Class, Field, Method, Refused}
-use Rattle.line.specs.Spans.{partOf}
-use Rattle.line.specs.Arguments.{argumentsOf}
+use Rattle.parts.specs.Spans.{partOf}
+use Rattle.arguments.specs.Arguments.{argumentsOf}
 use Rattle.line.specs.Kinds.{lineOf}
 use Rattle.line.proofs.Octets.{NameOctets, arguments-texts}
 use Rattle.line.proofs.Telling.{LineOctets, line-octets}
-use Rattle.descriptor.specs.Pieces.{Pair, Look, known, unknown, orLook}
+use Rattle.pieces.specs.Pieces.{Pair, Look, known, unknown, orLook}
 use Rattle.descriptor.proofs.Octets.{class-octets, type-octets, raw-octets, join-octets, Pairs, no-pair, a-pair, back-octets}
 use Rattle.mapping.specs.Comments.{saysResidual, stringAt, signatureBy, signatureOf, signatureAt, residualBy, residualIn}
 use Rattle.mapping.specs.Classes.{classIn, classesOf}

@@ -11,7 +11,7 @@ use Rattle.ground.specs.Choice.{pick, both}
 use Rattle.line.specs.declared.line.Line.{Line}
 use Rattle.line.specs.declared.line.Line.the-variants.{Blank, Comment, Class, Field, Method, Refused}
 use Rattle.line.specs.Kinds.{lineOf}
-use Rattle.descriptor.specs.Pieces.{Pair, Look, unknown}
+use Rattle.pieces.specs.Pieces.{Pair, Look, unknown}
 use Rattle.mapping.specs.declared.Fates.{Fates}
 use Rattle.mapping.specs.declared.Scan.the-variants.{Sound, Faulty}
 use Rattle.mapping.specs.Comments.{signatureAt, residualIn}

@@ -4,11 +4,11 @@ use Prim.Native.Nat.{ℕ, _+_}
 use lib.ListN.{length}
 use Rattle.line.specs.declared.line.Line.{Line}
 use Rattle.line.specs.declared.line.Line.the-variants.{Blank, Comment, Class, Field, Method, Refused}
-use Rattle.line.specs.Spans.{partOf}
+use Rattle.parts.specs.Spans.{partOf}
 use Rattle.line.specs.Kinds.{lineOf}
-use Rattle.descriptor.specs.Names.{classDescriptor}
-use Rattle.descriptor.specs.Pieces.{Pair, join}
-use Rattle.tables.specs.Rows.{text, packClass}
+use Rattle.pool.specs.Names.{classDescriptor}
+use Rattle.pieces.specs.Pieces.{Pair, join}
+use Rattle.rows.specs.Rows.{text, packClass}
 
 abbrev pub pair : List ℕ → List ℕ → Pair
 pair r d = record { raw = r; display = d }

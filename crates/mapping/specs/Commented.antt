@@ -9,12 +9,12 @@ use Rattle.utf8.specs.Utf8.{leadOf, tails, afterLead, sequenceOf, piecesFrom, c
 use Rattle.text.specs.White.{whiteRanges, inRanges, isWhite}
 use Rattle.text.specs.Trim.{runOf, allWhite, trimEnd}
 use Rattle.number.specs.Numbers as numbers
-use Rattle.line.specs.Arguments.{commaParts, filled}
+use Rattle.arguments.specs.Arguments.{commaParts, filled}
 use Rattle.rfc8259.specs.Encode.{utf8}
 use Rattle.rfc8259.specs.Members.{lastOf}
 use Rattle.rfc8259.specs.Reader.{andThen, pastAll, structural, past, shortEscape, escape, pieceOf, charsFrom, stringOf, pastWord, flatOf, afterItem, itemsOf, insideOf, enclosedOf, memberOf, nestedOf, valueOf, membersOf}
 use Rattle.descriptor.specs.Types.{baseEnd, bracketCount}
-use Rattle.descriptor.specs.Pieces.{partsFrom, join, shown}
+use Rattle.pieces.specs.Pieces.{partsFrom, join, shown}
 use Rattle.mapping.specs.declared.Load.the-variants.{Loaded}
 use Rattle.mapping.specs.Comments.{residualIn}
 use Rattle.mapping.specs.Fates.{fates, fatesFrom, faultsFrom}

@@ -16,9 +16,9 @@ use Rattle.comment.specs.declared.answer.Comment.the-variants.{Unreadable, Read
 use Rattle.comment.specs.Answer.{commentOf, residualOf}
 use Rattle.line.specs.declared.line.Line.{Line}
 use Rattle.line.specs.declared.line.Line.the-variants.{Blank, Comment, Class, Field, Method, Refused}
-use Rattle.line.specs.Spans.{span, partOf}
+use Rattle.parts.specs.Spans.{span, partOf}
 use Rattle.line.specs.Kinds.{lineOf}
-use Rattle.descriptor.specs.Pieces.{Look, known, unknown, orLook}
+use Rattle.pieces.specs.Pieces.{Look, known, unknown, orLook}
 
 -- "`id` is compared with `com.android.tools.r8.residualsignature`"
 abbrev pub saysResidual : List ℕ → Stands → Bool

@@ -10,9 +10,9 @@ use Rattle.utf8.specs.Utf8.{leadOf, tails, afterLead, sequenceOf, piecesFrom, c
 use Rattle.text.specs.White.{whiteRanges, inRanges, isWhite}
 use Rattle.text.specs.Trim.{runOf, allWhite, trimEnd}
 use Rattle.number.specs.Numbers.{digits, plain, numberOf}
-use Rattle.line.specs.Arguments.{commaParts, filled}
+use Rattle.arguments.specs.Arguments.{commaParts, filled}
 use Rattle.descriptor.specs.Types.{baseEnd, bracketCount}
-use Rattle.descriptor.specs.Pieces.{partsFrom, join, shown}
+use Rattle.pieces.specs.Pieces.{partsFrom, join, shown}
 use Rattle.mapping.specs.declared.Load.{Load}
 use Rattle.mapping.specs.declared.Load.the-variants.{Loaded, Faulty, NoClasses, FewClassRows, FewMemberRows, ShortPool}
 use Rattle.mapping.specs.Comments.{residualIn}

@@ -10,7 +10,7 @@ use Rattle.utf8.specs.declared.check.Check.{Check}
 use Rattle.utf8.specs.declared.check.Check.the-variants.{Valid, Broken}
 use Rattle.utf8.specs.Utf8.{checkOf}
 use Rattle.text.specs.Trim.{afterMarks}
-use Rattle.tables.specs.Rows.{zeroClass, zeroMember}
+use Rattle.rows.specs.Rows.{zeroClass, zeroMember}
 use Rattle.mapping.specs.declared.Fates.{Fates}
 use Rattle.mapping.specs.declared.Scan.{Scan}
 use Rattle.mapping.specs.declared.Scan.the-variants as scan

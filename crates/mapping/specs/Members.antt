@@ -3,21 +3,21 @@ use mathlib.Core.Bool.{true, false}
 use mathlib.Core.List.{List, [], _∷_, _++_, map}
 use Prim.Native.Nat.{ℕ, _+_, _-_}
 use lib.ListN.{length}
-use Rattle.line.specs.declared.signature.Qualified.{Qualified}
-use Rattle.line.specs.declared.signature.Qualified.the-variants.{Owned, Plain}
-use Rattle.line.specs.declared.method.LineRange.{LineRange}
-use Rattle.line.specs.declared.method.LineRange.the-variants.{Lines, NoLines}
+use Rattle.parts.specs.declared.signature.Qualified.{Qualified}
+use Rattle.parts.specs.declared.signature.Qualified.the-variants.{Owned, Plain}
+use Rattle.parts.specs.declared.method.LineRange.{LineRange}
+use Rattle.parts.specs.declared.method.LineRange.the-variants.{Lines, NoLines}
 use Rattle.line.specs.declared.line.Line.{Line}
 use Rattle.line.specs.declared.line.Line.the-variants.{Blank, Comment, Class, Field, Method, Refused}
-use Rattle.line.specs.Spans.{partOf}
-use Rattle.line.specs.Arguments.{argumentsOf}
+use Rattle.parts.specs.Spans.{partOf}
+use Rattle.arguments.specs.Arguments.{argumentsOf}
 use Rattle.line.specs.Kinds.{lineOf}
-use Rattle.descriptor.specs.Names.{classDescriptor}
+use Rattle.pool.specs.Names.{classDescriptor}
 use Rattle.descriptor.specs.Signatures.{rawSignature}
-use Rattle.descriptor.specs.Pieces.{Pair, Look, known, unknown, join}
-use Rattle.tables.specs.declared.rows.Ranges.{Ranges}
-use Rattle.tables.specs.declared.rows.Ranges.the-variants.{None, Display, Both}
-use Rattle.tables.specs.Rows.{text, packMember}
+use Rattle.pieces.specs.Pieces.{Pair, Look, known, unknown, join}
+use Rattle.rows.specs.declared.rows.Ranges.{Ranges}
+use Rattle.rows.specs.declared.rows.Ranges.the-variants.{None, Display, Both}
+use Rattle.rows.specs.Rows.{text, packMember}
 use Rattle.raw_types.specs.Raw.{rawTypeOf}
 use Rattle.mapping.specs.Comments.{residualIn}
 

@@ -8,7 +8,7 @@ use Rattle.text.specs.White.{whiteRanges, inRanges, isWhite}
 use Rattle.text.specs.Trim.{runOf, allWhite, trimEnd}
 use Rattle.number.specs.Numbers.{digits, plain, numberOf}
 use Rattle.descriptor.specs.Types.{baseEnd, bracketCount}
-use Rattle.descriptor.specs.Pieces.{partsFrom, join, shown}
+use Rattle.pieces.specs.Pieces.{partsFrom, join, shown}
 use Rattle.mapping.specs.Fates.{fatesFrom, faultsFrom}
 use Rattle.mapping.specs.Classes.{classesOf}
 use Rattle.meaning.specs.Marked.{AllHold, marked}

@@ -12,7 +12,7 @@ use Rattle.number.specs.declared.range.TrailingRange.the-variants.{Taken}
 use Rattle.number.specs.Numbers.{numberOf}
 use Rattle.number.specs.Ranges.{trailingRange}
 use Rattle.descriptor.specs.Types.{typeDescriptor}
-use Rattle.descriptor.specs.Pieces.{Pair, shown, turn}
+use Rattle.pieces.specs.Pieces.{Pair, shown, turn}
 use Rattle.mapping.specs.Loading.{Lent, answerOf, linesParse, loadNumbers}
 
 -- "a.Main -> x:", the class of document 01's example

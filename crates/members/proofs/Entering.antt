@@ -11,28 +11,29 @@ use borrow.Author.Tests.{eqb-false}
 use Rattle.ground.specs.Choice.{pick}
 use Rattle.text.specs.declared.trim.Span.{Span}
 use Rattle.text.specs.Trim.{trimBoth}
-use Rattle.line.specs.declared.signature.Qualified.{Qualified}
-use Rattle.line.specs.declared.signature.Qualified.the-variants.{Owned, Plain}
-use Rattle.line.specs.declared.method.Method as method
+use Rattle.parts.specs.declared.signature.Qualified.{Qualified}
+use Rattle.parts.specs.declared.signature.Qualified.the-variants.{Owned, Plain}
+use Rattle.parts.specs.declared.method.Method as method
 use Rattle.line.specs.declared.line.Line.{Line}
 use Rattle.line.specs.declared.line.Line.the-variants as kinds
-use Rattle.line.specs.Spans.{partOf, Lies, NameIn}
-use Rattle.line.specs.Arguments.{argumentsOf}
+use Rattle.parts.specs.Spans.{partOf, Lies, NameIn}
+use Rattle.arguments.specs.Arguments.{argumentsOf}
 use Rattle.line.specs.Kinds.{lineOf}
-use Rattle.line.proofs.Lying.{trim-lies, lies-more, name-more}
+use Rattle.parts.proofs.Lying.{trim-lies, lies-more, name-more}
 use Rattle.line.proofs.Whole.{LineIn, line-lies}
-use Rattle.descriptor.specs.Pieces.{Pair, Look, known, unknown}
-use Rattle.tables.specs.declared.rows.Member as rows
-use Rattle.tables.specs.Rows.{packMember}
+use Rattle.pieces.specs.Pieces.{Pair, Look, known, unknown}
+use Rattle.rows.specs.declared.rows.Member as rows
+use Rattle.rows.specs.Rows.{packMember}
 use Rattle.mapping.specs.Fates.{ownerless, faultOf, classLine}
 use Rattle.mapping.specs.Members.{Entry, field, method, rangesOf, Under, under, underAfter, fieldDescriptor, methodDescriptor, nameOf, entryIn, entryText, entryRow}
-use Rattle.members.specs.declared.texts.Body.{Body}
-use Rattle.members.specs.declared.texts.Body.the-variants.{Field, Method}
-use Rattle.members.specs.declared.texts.MemberLine.{MemberLine}
-use Rattle.members.specs.declared.texts.Places.{Places}
-use Rattle.members.specs.declared.texts.Role.the-variants.{Class, Member, Neither}
-use Rattle.members.specs.Texts.{nameSpan, roleOf, BodyIn, MemberIn, descriptorText, ownerText, MemberTexts, textsOf, allTexts}
-use Rattle.members.specs.Places.{Placed, memberAt}
+use Rattle.member_texts.specs.declared.texts.Body.{Body}
+use Rattle.member_texts.specs.declared.texts.Body.the-variants.{Field, Method}
+use Rattle.member_texts.specs.declared.texts.MemberLine.{MemberLine}
+use Rattle.member_texts.specs.declared.texts.Places.{Places}
+use Rattle.members.specs.declared.role.Role.the-variants.{Class, Member, Neither}
+use Rattle.member_texts.specs.Texts.{BodyIn, MemberIn, descriptorText, ownerText, MemberTexts, textsOf, allTexts}
+use Rattle.members.specs.Roles.{nameSpan, roleOf}
+use Rattle.member_texts.specs.Places.{Placed, memberAt}
 
 -- the member with these texts
 abbrev pub entryOf : ℕ → MemberTexts → Body → Entry

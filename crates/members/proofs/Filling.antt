@@ -18,12 +18,12 @@ use Rattle.places.specs.Lines.{lines}
 use Rattle.places.proofs.Taking.{Taken, end-taken}
 use Rattle.text.specs.declared.trim.Span.{Span}
 use Rattle.line.specs.declared.line.Line as line
-use Rattle.line.specs.Spans.{span, partOf, Lies}
+use Rattle.parts.specs.Spans.{span, partOf, Lies}
 use Rattle.line.specs.Kinds.{lineOf}
-use Rattle.descriptor.specs.declared.write.Wrote.the-variants.{Done}
-use Rattle.descriptor.specs.Pieces.{join}
-use Rattle.descriptor.proofs.Writes.{written-length, wrote-then}
-use Rattle.tables.specs.Rows.{packMember}
+use Rattle.pool.specs.declared.write.Wrote.the-variants.{Done}
+use Rattle.pieces.specs.Pieces.{join}
+use Rattle.pool.proofs.Writes.{written-length, wrote-then}
+use Rattle.rows.specs.Rows.{packMember}
 use Rattle.tables.specs.Back.{readBack}
 use Rattle.raw_types.specs.Marks.{Indexed}
 use Rattle.raw_types.proofs.Indexing.{read-back-put, indexed-put}
@@ -38,19 +38,20 @@ use Rattle.mapping.proofs.Tally.{fate-class}
 use Rattle.mapping.proofs.Appended.{join-more, join-append, entry-rows-length, entry-rows-more}
 use Rattle.scan.specs.Bounds.{Within}
 use Rattle.scan.proofs.Scanning.{scanOn, Scanning, within-more, scan-end, scanned-more}
-use Rattle.members.specs.declared.texts.MemberLine.{MemberLine}
-use Rattle.members.specs.declared.texts.Places.{Places}
-use Rattle.members.specs.declared.texts.Entered.{Entered}
-use Rattle.members.specs.declared.texts.Entered.the-variants as entered
-use Rattle.members.specs.declared.texts.Role.{Role}
-use Rattle.members.specs.declared.texts.Role.the-variants.{Class, Member, Neither}
+use Rattle.member_texts.specs.declared.texts.MemberLine.{MemberLine}
+use Rattle.member_texts.specs.declared.texts.Places.{Places}
+use Rattle.member_texts.specs.declared.texts.Entered.{Entered}
+use Rattle.member_texts.specs.declared.texts.Entered.the-variants as entered
+use Rattle.members.specs.declared.role.Role.{Role}
+use Rattle.members.specs.declared.role.Role.the-variants.{Class, Member, Neither}
 use Rattle.members.specs.declared.step.Step.{Step}
 use Rattle.members.specs.declared.step.Step.the-variants as steps
 use Rattle.members.specs.Steps.{StepLine, StepBy}
-use Rattle.members.specs.Texts.{roleOf, MemberIn, MemberTexts, textsOf, allTexts}
-use Rattle.members.specs.Places.{EnteredAt, EnteredBy, Rising, memberAt}
+use Rattle.member_texts.specs.Texts.{MemberIn, MemberTexts, textsOf, allTexts}
+use Rattle.members.specs.Roles.{roleOf}
+use Rattle.member_texts.specs.Places.{EnteredAt, EnteredBy, Rising, memberAt}
 use Rattle.members.specs.Filled.{Holding, members, WrittenAll, CutShort}
-use Rattle.members.proofs.Typing.{written-nothing}
+use Rattle.member_texts.proofs.Typing.{written-nothing}
 use Rattle.members.proofs.Stepping.{step-told, step-ended, step-faulty}
 use Rattle.members.proofs.Entering.{entryOf, entry-member, entry-class, entry-neither, under-class, under-neither, under-member, member-classed, member-lies, class-lies, entry-text, entry-row}
 

@@ -1,8 +1,5 @@
 -- Laws, one file a subject.
-pub mod Signing
-pub mod Typing
 pub mod Rowed
-pub mod Texting
 pub mod Entering
 pub mod Stepping
 pub mod Filling

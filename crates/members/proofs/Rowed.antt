@@ -6,23 +6,23 @@ use native.Mathlib.Omega.{arith}
 use lib.ListN.{length}
 use borrow.Author.Needs.{needs}
 use Rattle.text.specs.declared.trim.Span.{Span}
-use Rattle.line.specs.declared.method.LineRange.{LineRange}
-use Rattle.line.specs.declared.method.LineRange.the-variants.{Lines, NoLines}
-use Rattle.line.specs.declared.method.Method as method
+use Rattle.parts.specs.declared.method.LineRange.{LineRange}
+use Rattle.parts.specs.declared.method.LineRange.the-variants.{Lines, NoLines}
+use Rattle.parts.specs.declared.method.Method as method
 use Rattle.line.specs.declared.line.Line.{Line}
 use Rattle.line.specs.declared.line.Line.the-variants as kinds
-use Rattle.tables.specs.declared.rows.Text.{Text}
-use Rattle.tables.specs.declared.rows.Ranges.{Ranges}
-use Rattle.tables.specs.declared.rows.Ranges.the-variants.{None, Display, Both}
-use Rattle.tables.specs.declared.rows.Member as rows
-use Rattle.tables.specs.Rows.{text, packMember}
+use Rattle.rows.specs.declared.rows.Text.{Text}
+use Rattle.rows.specs.declared.rows.Ranges.{Ranges}
+use Rattle.rows.specs.declared.rows.Ranges.the-variants.{None, Display, Both}
+use Rattle.rows.specs.declared.rows.Member as rows
+use Rattle.rows.specs.Rows.{text, packMember}
 use Rattle.mapping.specs.Members.{rangesOf}
-use Rattle.members.specs.declared.texts.Body.{Body}
-use Rattle.members.specs.declared.texts.Body.the-variants.{Field, Method}
-use Rattle.members.specs.declared.texts.Places.{Places}
-use Rattle.members.specs.declared.texts.Role.the-variants.{Class, Member, Neither}
-use Rattle.members.specs.Texts.{nameSpan, roleOf}
-use Rattle.members.specs.Places.{Rising, memberAt}
+use Rattle.member_texts.specs.declared.texts.Body.{Body}
+use Rattle.member_texts.specs.declared.texts.Body.the-variants.{Field, Method}
+use Rattle.member_texts.specs.declared.texts.Places.{Places}
+use Rattle.members.specs.declared.role.Role.the-variants.{Class, Member, Neither}
+use Rattle.members.specs.Roles.{nameSpan, roleOf}
+use Rattle.member_texts.specs.Places.{Rising, memberAt}
 
 -- Ranges.
 module _ {raw display : LineRange} where

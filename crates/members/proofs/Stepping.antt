@@ -21,8 +21,8 @@ use Rattle.scan.specs.Bounds.{Within}
 use Rattle.scan.proofs.Scanning.{scanOn, within-more, scan-fault}
 use Rattle.members.specs.declared.step.Step.{Step}
 use Rattle.members.specs.declared.step.Step.the-variants as steps
-use Rattle.members.specs.declared.texts.Role.{Role}
-use Rattle.members.specs.Texts.{roleOf}
+use Rattle.members.specs.declared.role.Role.{Role}
+use Rattle.members.specs.Roles.{roleOf}
 use Rattle.members.specs.Steps.{StepLine, StepBy}
 
 module _ (s : List ℕ) (at : ℕ) (f : Fates) (member : Bool) where

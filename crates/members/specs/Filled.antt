@@ -5,8 +5,8 @@ use mathlib.Core.List.{List, []}
 use Prim.Native.Nat.{ℕ, _+_, _≤_, _<_}
 use lib.ListN.{length}
 use Rattle.ground.specs.Put.{put}
-use Rattle.descriptor.specs.Pieces.{Pair}
-use Rattle.descriptor.specs.Wrote.{Written}
+use Rattle.pieces.specs.Pieces.{Pair}
+use Rattle.pool.specs.Wrote.{Written}
 use Rattle.mapping.specs.declared.Fates.{Fates}
 use Rattle.mapping.specs.declared.Scan.{Scan}
 use Rattle.mapping.specs.declared.Scan.the-variants as scan

@@ -1,5 +1,4 @@
 -- What the functions that write members say, in terms of the rule of loading.
-pub mod Texts
-pub mod Places
+pub mod Roles
 pub mod Steps
 pub mod Filled

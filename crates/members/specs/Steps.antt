@@ -12,8 +12,8 @@ use Rattle.mapping.specs.declared.Scan.the-variants as scan
 use Rattle.mapping.specs.Fates.{plus, fateOf, memberAfter, faultOf, fatesFrom, faultsFrom}
 use Rattle.members.specs.declared.step.Step.{Step}
 use Rattle.members.specs.declared.step.Step.the-variants as steps
-use Rattle.members.specs.declared.texts.Role.{Role}
-use Rattle.members.specs.Texts.{roleOf}
+use Rattle.members.specs.declared.role.Role.{Role}
+use Rattle.members.specs.Roles.{roleOf}
 
 -- a line without a fault at the place `at`, from `a` to `e`; the next one starts at `n`
 pub record StepLine (s : List ℕ) (at : ℕ) (f : Fates) (member : Bool) (a e n : ℕ) (g : Fates) (has : Bool) (role : Role) : Type 0 where

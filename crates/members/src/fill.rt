@@ -1,15 +1,15 @@
 // All lines of a text: what becomes of each, and its member's row and texts.
+use crate::role::Role;
 use crate::row::member_row;
 use crate::step::Step;
 use crate::step::next_step;
-use crate::texts::Entered;
-use crate::texts::Role;
-use crate::texts::write_texts;
 use mapping::Fates;
 use mapping::Scan;
+use member_texts::Entered;
+use member_texts::write_texts;
+use rows::ClassRow;
+use rows::MemberRow;
 use scan::scan_from;
-use tables::ClassRow;
-use tables::MemberRow;
 ghost use mathlib.Core.Path.{_≡_};
 ghost use Prim.Native.Nat.{_≤_};
 ghost use lib.ListN.{length};

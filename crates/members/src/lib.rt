@@ -1,9 +1,8 @@
-// Member rows and their texts, written while the lines of a text are read.
-mod descriptors;
+// Member rows, written with their texts while the lines of a text are read.
 mod fill;
+mod role;
 mod row;
 mod step;
-mod texts;
 
 pub use fill::Filled;
 pub use fill::write_members;

@@ -1,6 +1,6 @@
 // One line of a text: what it is to the rows, and what is counted with it.
-use crate::texts::Role;
-use crate::texts::role_of;
+use crate::role::Role;
+use crate::role::role_of;
 use line::read_line;
 use mapping::Fates;
 use places::NextLine;

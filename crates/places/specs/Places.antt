@@ -1,7 +1,7 @@
 -- Places in a text: the first and the last at which something stands, and whether two texts are the same.
 use mathlib.Core.List.{List, [], _∷_}
 use mathlib.Core.Bool.{Bool, true, false}
-use Prim.Native.Nat.{ℕ, suc}
+use Prim.Native.Nat.{ℕ, suc, _+_}
 use lib.Dec.{eqb}
 use Rattle.ground.specs.Choice.{pick, both}
 use Rattle.places.specs.declared.find.Place.{Place}
@@ -29,6 +29,11 @@ lastFrom p at (x ∷ s) = orElse (lastFrom p (suc at) s) (pick (p (x ∷ s)) (At
 
 abbrev pub lastWhere : (List ℕ → Bool) → List ℕ → Place
 lastWhere p s = lastFrom p 0 s
+
+-- a place as a number, counted from 1; 0 for none
+abbrev pub placeNumber : Place → ℕ
+placeNumber (At i) = i + 1
+placeNumber Nowhere = 0
 
 -- the byte `b` stands at the head
 abbrev pub starts : ℕ → List ℕ → Bool

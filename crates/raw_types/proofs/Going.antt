@@ -7,10 +7,10 @@ use native.Mathlib.Omega.{arith}
 use lib.ListN.{length}
 use borrow.Author.Needs.{needs}
 use Rattle.ground.proofs.PutLaws.{put-nothing}
-use Rattle.descriptor.specs.declared.write.Wrote.the-variants.{Done, NoRoom}
-use Rattle.descriptor.specs.Pieces.{turn, back}
-use Rattle.descriptor.specs.Wrote.{Written}
-use Rattle.descriptor.proofs.Writes.{written-length, wrote-then}
+use Rattle.pool.specs.declared.write.Wrote.the-variants.{Done, NoRoom}
+use Rattle.pieces.specs.Pieces.{turn, back}
+use Rattle.pool.specs.Wrote.{Written}
+use Rattle.pool.proofs.Writes.{written-length, wrote-then}
 use Rattle.tables.specs.Back.{readBack}
 use Rattle.raw_types.specs.declared.types.Stretch.{Stretch}
 use Rattle.raw_types.specs.declared.types.Stretch.the-variants as stretches

@@ -1,24 +1,22 @@
 -- The index while a pool is written: behind the classes, and one class more. Assumes nothing.
 use mathlib.Core.Path.{_≡_, refl, sym, _∙_, ap}
-use mathlib.Core.Bool.{Bool, true, false}
 use mathlib.Core.List.{List, [], _∷_, _++_, map, append-assoc}
 use mathlib.Core.Logic.{_⊎_, inl, inr}
 use Prim.Native.Nat.{ℕ, zero, suc, _+_, _-_, _≤_, _<_}
 use native.Mathlib.Omega.{arith}
-use lib.Dec.{eqb}
-use lib.ListN.{length, getD, set, take, drop, replicate, length-append, length-set, length-replicate, List·getD-append}
-use lib.Seq.{take-take, drop-drop, take-at, drop-at, getD-at, length-take-le, getD-set-same, getD-set-other}
-use borrow.Author.Tests.{eqb-true, eqb-false}
+use lib.ListN.{length, getD, take, drop, replicate, length-append, length-replicate, List·getD-append}
+use lib.Seq.{take-take, drop-drop, take-at, drop-at, getD-at, length-take-le}
 use Rattle.ground.specs.Put.{put}
 use Rattle.ground.proofs.Cases.{le-or-lt}
 use Rattle.ground.proofs.Parts.{drop-take}
-use Rattle.descriptor.specs.Wrote.{Written}
-use Rattle.descriptor.proofs.Writes.{written-length}
-use Rattle.tables.specs.declared.rows.Text.{Text}
-use Rattle.tables.specs.Rows.{text, packClass, classOf}
+use Rattle.pool.specs.Wrote.{Written}
+use Rattle.pool.proofs.Writes.{written-length}
+use Rattle.rows.specs.declared.rows.Text.{Text}
+use Rattle.rows.specs.Rows.{text, packClass, classOf}
 use Rattle.tables.specs.Back.{textIn, pairOf, readBack}
-use Rattle.raw_types.specs.Marks.{markOf, Indexed}
+use Rattle.raw_types.specs.Marks.{markOf, rowMark, lastBelow, chained, Indexed}
 use Rattle.raw_types.proofs.Marking.{mark-below}
+use Rattle.raw_types.proofs.Chains.{last-same, no-row, chained-size, starts-more, links-more}
 
 -- A text that ends at the place `at` or before is one of the first `at` bytes.
 text-of-prefix : (d : List ℕ) (at place size : ℕ) → place + size ≤ at → take size (drop place d) ≡ take size (drop place (take at d))
@@ -53,8 +51,9 @@ module _ {rows : List (List ℕ)} {pool index : List ℕ} {at : ℕ} (x : Indexe
     raw-below = λ i h. let a = x .raw-below i h in let b = x .room in omega arith;
     display-below = λ i h. let a = x .display-below i h in let b = x .room in omega arith;
     size = x .size;
-    inside = x .inside;
-    marked = x .marked;
+    few = x .few;
+    starts = x .starts;
+    links = x .links;
   }
 
   module _ {q : ℕ} {b pool₁ : List ℕ} (w : Written q pool at b pool₁) where
@@ -63,14 +62,20 @@ module _ {rows : List (List ℕ)} {pool index : List ℕ} {at : ℕ} (x : Indexe
     read-back-put =
         rows-alike rows pool pool₁ (λ i h. text-put w (classOf (getD rows i []) .raw) (x .raw-below i h)) (λ i h. text-put w (classOf (getD rows i []) .display) (x .display-below i h))
 
+    same-marks : (i : ℕ) → i < length rows → rowMark rows pool i ≡ rowMark rows pool₁ i
+    same-marks i h = sym (ap markOf (text-put w (classOf (getD rows i []) .display) (x .display-below i h)))
+
     pub indexed-put : Indexed rows pool₁ index q
     indexed-put = record {
       room = let a = w .past in let r = w .room in let n = written-length w in omega arith;
       raw-below = λ i h. let a = x .raw-below i h in let e = w .past in omega arith;
       display-below = λ i h. let a = x .display-below i h in let e = w .past in omega arith;
       size = x .size;
-      inside = x .inside;
-      marked = λ i h. rw (text-put w (classOf (getD rows i []) .display) (x .display-below i h)) (x .marked i h);
+      few = x .few;
+      starts = λ h l. x .starts h l ∙ last-same (rowMark rows pool) (rowMark rows pool₁) h (length rows) same-marks;
+      links = λ i l.
+          x .links i l ∙ ap (λ h. lastBelow (rowMark rows pool) h i) (same-marks i l)
+          ∙ last-same (rowMark rows pool) (rowMark rows pool₁) (rowMark rows pool₁ i) i (λ j k. same-marks j (omega arith));
     }
 
 -- No class.
@@ -79,14 +84,15 @@ zeros zero h = refl
 zeros (suc n) zero = refl
 zeros (suc n) (suc h) = zeros n h
 
-pub indexed-none : (pool : List ℕ) (at : ℕ) → at ≤ length pool → Indexed [] pool (replicate 8192 0) at
+pub indexed-none : (pool : List ℕ) (at : ℕ) → at ≤ length pool → Indexed [] pool (replicate 12288 0) at
 indexed-none pool at h = record {
   room = h;
   raw-below = λ i l. absurd (omega arith);
   display-below = λ i l. absurd (omega arith);
-  size = length-replicate {A = ℕ} 8192 0;
-  inside = λ m. let z = zeros 8192 m in omega arith;
-  marked = λ i l. absurd (omega arith);
+  size = length-replicate {A = ℕ} 12288 0;
+  few = omega arith;
+  starts = λ m l. zeros 12288 m ∙ sym (no-row (rowMark [] pool) m);
+  links = λ i l. absurd (omega arith);
 }
 
 map-append : {A B : Type 0} (f : A → B) (a b : List A) → map f (a ++ b) ≡ map f a ++ map f b
@@ -134,42 +140,29 @@ module _ {q : ℕ} {pool : List ℕ} {at : ℕ} (r d : List ℕ) {pool₁ : List
               rw (← e, getD-at rows (rowAt at r d) [] [] (length rows) refl) new
           go (inr l) = rw (List·getD-append rows (rowAt at r d ∷ []) [] i l) (old i l)
 
-    entry : (h : ℕ) → (getD (set index (markOf d) (length rows + 1)) h 0 ≡ length rows + 1) ⊎ (getD (set index (markOf d) (length rows + 1)) h 0 ≡ getD index h 0)
-    entry h = go (eqb h (markOf d)) refl
-      where
-        go : (t : Bool) → eqb h (markOf d) ≡ t → (getD (set index (markOf d) (length rows + 1)) h 0 ≡ length rows + 1) ⊎ (getD (set index (markOf d) (length rows + 1)) h 0 ≡ getD index h 0)
-        go true e = inl (ap (λ k. getD (set index (markOf d) (length rows + 1)) k 0) (eqb-true h (markOf d) e) ∙ getD-set-same index (markOf d) (length rows + 1) 0 (let b = mark-below d in let s = x .size in omega arith))
-        go false e = inr (getD-set-other index (markOf d) h (length rows + 1) 0 (eqb-false h (markOf d) e))
+    new-mark : rowMark (rows ++ (rowAt at r d ∷ [])) pool₁ (length rows) ≡ markOf d
+    new-mark = ap (λ row. markOf (textIn pool₁ (classOf row .display))) (getD-at rows (rowAt at r d) [] [] (length rows) refl) ∙ ap markOf display-there
 
-    pub indexed-class : Indexed (rows ++ (rowAt at r d ∷ [])) pool₁ (set index (markOf d) (length rows + 1)) q
-    indexed-class =
+    -- the rows before keep their marks
+    old-marks : (i : ℕ) → i < length rows → rowMark rows pool i ≡ rowMark (rows ++ (rowAt at r d ∷ [])) pool₁ i
+    old-marks i h =
+        sym (ap (λ row. markOf (textIn pool₁ (classOf row .display))) (List·getD-append rows (rowAt at r d ∷ []) [] i h)
+        ∙ ap markOf (text-put w (classOf (getD rows i []) .display) (x .display-below i h)))
+
+    pub indexed-class : length rows < 4096 → Indexed (rows ++ (rowAt at r d ∷ [])) pool₁ (chained index (markOf d) (length rows)) q
+    indexed-class few =
         let put-there = indexed-put x w in
         let e = after in
         let n = length-append rows (rowAt at r d ∷ []) in
+        let before-it : ℕ → ℕ = rowMark rows pool in
+        let with-it : ℕ → ℕ = rowMark (rows ++ (rowAt at r d ∷ [])) pool₁ in
+        let one-more : length (rows ++ (rowAt at r d ∷ [])) ≡ suc (length rows) = omega arith in
         record {
           room = put-there .room;
           raw-below = each-row (λ i row. classOf row .raw .place + classOf row .raw .length ≤ q) (put-there .raw-below) (omega arith);
           display-below = each-row (λ i row. classOf row .display .place + classOf row .display .length ≤ q) (put-there .display-below) (omega arith);
-          size = length-set index (markOf d) (length rows + 1) ∙ x .size;
-          inside = λ h. few h (entry h);
-          marked = each-row (λ i row. i < getD (set index (markOf d) (length rows + 1)) (markOf (textIn pool₁ (classOf row .display))) 0) (λ i h. older i h (entry (markOf (textIn pool₁ (classOf (getD rows i []) .display))))) newest;
+          size = chained-size index (markOf d) (length rows) (x .size);
+          few = omega arith;
+          starts = λ h l. rw one-more (starts-more index (markOf d) (length rows) (x .size) before-it with-it old-marks new-mark (mark-below d) few (x .starts) h l);
+          links = λ i l. links-more index (markOf d) (length rows) (x .size) before-it with-it old-marks new-mark (mark-below d) few (x .starts) (x .links) i (omega arith);
         }
-      where
-        few : (h : ℕ) → (getD (set index (markOf d) (length rows + 1)) h 0 ≡ length rows + 1) ⊎ (getD (set index (markOf d) (length rows + 1)) h 0 ≡ getD index h 0) →
-            getD (set index (markOf d) (length rows + 1)) h 0 ≤ length (rows ++ (rowAt at r d ∷ []))
-        few h (inl e) = let n = length-append rows (rowAt at r d ∷ []) in omega arith
-        few h (inr e) = let n = length-append rows (rowAt at r d ∷ []) in let i = x .inside h in omega arith
-
-        older : (i : ℕ) → i < length rows →
-            (getD (set index (markOf d) (length rows + 1)) (markOf (textIn pool₁ (classOf (getD rows i []) .display))) 0 ≡ length rows + 1)
-            ⊎ (getD (set index (markOf d) (length rows + 1)) (markOf (textIn pool₁ (classOf (getD rows i []) .display))) 0 ≡ getD index (markOf (textIn pool₁ (classOf (getD rows i []) .display))) 0) →
-            i < getD (set index (markOf d) (length rows + 1)) (markOf (textIn pool₁ (classOf (getD rows i []) .display))) 0
-        older i h (inl e) = omega arith
-        older i h (inr e) = let m = indexed-put x w .marked i h in omega arith
-
-        newest : length rows < getD (set index (markOf d) (length rows + 1)) (markOf (textIn pool₁ (text (at + length r) (length d)))) 0
-        newest =
-            let b = mark-below d in
-            let s = x .size in
-            let e : getD (set index (markOf d) (length rows + 1)) (markOf d) 0 ≡ length rows + 1 = getD-set-same index (markOf d) (length rows + 1) 0 (omega arith) in
-            rw display-there (omega arith)

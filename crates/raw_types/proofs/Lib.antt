@@ -3,6 +3,7 @@ pub mod Pieces
 pub mod Marking
 pub mod Writing
 pub mod Comparing
+pub mod Chains
 pub mod Searching
 pub mod Indexing
 pub mod Turned

@@ -7,15 +7,15 @@ use native.Mathlib.Numerals.{add-one}
 use native.Mathlib.Omega.{arith}
 use lib.Dec.{eqb}
 use native.Mathlib.Nat.{mod-lt}
-use lib.ListN.{length, getD, set, drop, drop-of-length-le}
+use lib.ListN.{length, getD, set, drop, drop-of-length-le, length-set}
 use mir.Val.{Fits}
 use mir.Syntax.{w8, w64}
 use lib.Seq.{drop-cons}
 use borrow.Author.Needs.{needs}
 use Rattle.ground.specs.Choice.{pick}
-use Rattle.descriptor.specs.Names.{slash, classDescriptor}
+use Rattle.pool.specs.Names.{slash, classDescriptor}
 use Rattle.raw_types.specs.Raw.{slashIf, nameBytes, pieceOf}
-use Rattle.raw_types.specs.Marks.{markFrom, markOf}
+use Rattle.raw_types.specs.Marks.{markFrom, markOf, chained}
 
 -- a slash is one already
 slash-again : (x : ℕ) → slash (slash x) ≡ slash x
@@ -97,10 +97,17 @@ marks-sum {s} {mark} {k} m {x} e b =
 
 pub ruleset marking = (marks-starts, marks-fits, marks-last, marks-done, marks-more, marks-sum, needs)
 
-pub mark-inside : (index name : List ℕ) {m : ℕ} → length index ≡ 8192 → m ≡ markOf (classDescriptor name) → m < length index
+-- One class more in the index.
+pub mark-inside : (index name : List ℕ) {m : ℕ} → length index ≡ 12288 → m ≡ markOf (classDescriptor name) → m < length index
 mark-inside index name e f = let b = mark-below (classDescriptor name) in omega arith
 
-pub mark-set : (index : List ℕ) (number : ℕ) {m n : ℕ} → m ≡ n → set index m number ≡ set index n number
-mark-set index number e = ap (λ k. set index k number) e
+pub link-inside : (index : List ℕ) {count : ℕ} → length index ≡ 12288 → count < 4096 → 8192 + count < length index
+link-inside index e l = omega arith
 
-pub ruleset class-marking = (mark-inside, mark-set, needs)
+pub linked-inside : (index name : List ℕ) (at link : ℕ) {m : ℕ} → length index ≡ 12288 → m ≡ markOf (classDescriptor name) → m < length (set index at link)
+linked-inside index name at link e f = let b = mark-below (classDescriptor name) in let s = length-set index at link in omega arith
+
+pub mark-set : (index : List ℕ) (count : ℕ) {m n : ℕ} → m ≡ n → chained index m count ≡ chained index n count
+mark-set index count e = ap (λ k. chained index k count) e
+
+pub ruleset class-marking = (mark-inside, link-inside, linked-inside, mark-set, needs)

@@ -14,10 +14,10 @@ use Rattle.places.specs.declared.find.Place.the-variants.{At, Nowhere}
 use Rattle.places.specs.Places.{firstFrom, firstWhere, starts}
 use Rattle.places.proofs.PlaceLaws.{first-inside}
 use Rattle.places.proofs.Holds.{first-is}
-use Rattle.descriptor.specs.declared.pieces.Part.the-variants.{Piece, Plain}
-use Rattle.descriptor.specs.Names.{slash}
-use Rattle.descriptor.specs.Pieces.{Look, lookOr, turn, pieceAt, plainAt, partAt}
-use Rattle.descriptor.proofs.Turning.{turn-piece, turn-plain, turn-end}
+use Rattle.pieces.specs.declared.pieces.Part.the-variants.{Piece, Plain}
+use Rattle.pool.specs.Names.{slash}
+use Rattle.pieces.specs.Pieces.{Look, lookOr, turn, pieceAt, plainAt, partAt}
+use Rattle.pieces.proofs.Turning.{turn-piece, turn-plain, turn-end}
 use Rattle.raw_types.specs.Raw.{slashIf, nameBytes, pieceOf}
 
 -- Lists that a map goes over.

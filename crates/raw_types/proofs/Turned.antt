@@ -14,12 +14,12 @@ use Rattle.places.specs.declared.find.Place.{Place}
 use Rattle.places.specs.declared.find.Place.the-variants.{At, Nowhere}
 use Rattle.places.specs.Places.{firstWhere, starts}
 use Rattle.places.proofs.PlaceLaws.{first-inside}
-use Rattle.descriptor.specs.declared.write.Wrote.{Wrote}
-use Rattle.descriptor.specs.declared.write.Wrote.the-variants.{Done, NoRoom}
-use Rattle.descriptor.specs.Pieces.{Look, unknown, lookOr, turn, back}
-use Rattle.descriptor.specs.Wrote.{Written, WroteBy}
-use Rattle.descriptor.proofs.Writes.{wrote-told, none-then, wrote-none}
-use Rattle.tables.specs.Rows.{classOf}
+use Rattle.pool.specs.declared.write.Wrote.{Wrote}
+use Rattle.pool.specs.declared.write.Wrote.the-variants.{Done, NoRoom}
+use Rattle.pieces.specs.Pieces.{Look, unknown, lookOr, turn, back}
+use Rattle.pool.specs.Wrote.{Written, WroteBy}
+use Rattle.pool.proofs.Writes.{wrote-told, none-then, wrote-none}
+use Rattle.rows.specs.Rows.{classOf}
 use Rattle.tables.specs.Back.{textIn, readBack}
 use Rattle.raw_types.specs.declared.search.FoundClass.{FoundClass}
 use Rattle.raw_types.specs.declared.search.FoundClass.the-variants.{Row, Unknown}

@@ -14,15 +14,15 @@ use Rattle.ground.specs.Choice.{pick}
 use Rattle.ground.proofs.Cases.{clash, both-left, both-right}
 use Rattle.places.specs.declared.find.Place.the-variants.{Nowhere}
 use Rattle.places.specs.Places.{firstFrom, firstWhere, starts, same}
-use Rattle.descriptor.specs.declared.write.Wrote.{Wrote}
-use Rattle.descriptor.specs.declared.write.Wrote.the-variants.{Done, NoRoom}
+use Rattle.pool.specs.declared.write.Wrote.{Wrote}
+use Rattle.pool.specs.declared.write.Wrote.the-variants.{Done, NoRoom}
 use Rattle.descriptor.specs.declared.types.Base.{Base}
 use Rattle.descriptor.specs.declared.types.Base.the-variants.{Letter, Kept, Named}
 use Rattle.descriptor.specs.declared.types.TypeShape.{TypeShape}
 use Rattle.descriptor.specs.Types.{partOf, wordLetter, keptText, baseOf, baseBytes, shapeOf, shapeBytes}
-use Rattle.descriptor.specs.Pieces.{Look, partsFrom, join, turn, back}
-use Rattle.descriptor.specs.Wrote.{Written, WroteBy}
-use Rattle.descriptor.proofs.Writes.{wrote-told, wrote-none, wrote-then, none-then}
+use Rattle.pieces.specs.Pieces.{Look, partsFrom, join, turn, back}
+use Rattle.pool.specs.Wrote.{Written, WroteBy}
+use Rattle.pool.proofs.Writes.{wrote-told, wrote-none, wrote-then, none-then}
 use Rattle.descriptor.proofs.Typing.{type-order, type-inside}
 use Rattle.tables.specs.Back.{readBack}
 use Rattle.raw_types.specs.Raw.{nameBytes, pieceOf, rawTypeOf}

@@ -10,10 +10,10 @@ use mir.Val.{Fits}
 use mir.Syntax.{w64}
 use borrow.Author.Tests.{eq-eqb, ne-eqb}
 use borrow.Author.Needs.{needs}
-use Rattle.descriptor.specs.declared.write.Wrote.{Wrote}
-use Rattle.descriptor.specs.declared.write.Wrote.the-variants.{Done, NoRoom}
-use Rattle.descriptor.specs.Wrote.{Written, WroteBy}
-use Rattle.descriptor.proofs.Writes.{Pasting, text-starts, text-done, text-more, wrote-told, wrote-none, wrote-then, none-then}
+use Rattle.pool.specs.declared.write.Wrote.{Wrote}
+use Rattle.pool.specs.declared.write.Wrote.the-variants.{Done, NoRoom}
+use Rattle.pool.specs.Wrote.{Written, WroteBy}
+use Rattle.pool.proofs.Writes.{Pasting, text-starts, text-done, text-more, wrote-told, wrote-none, wrote-then, none-then}
 use Rattle.raw_types.specs.Raw.{slashIf, nameBytes, pieceOf}
 
 -- the same bytes in other words

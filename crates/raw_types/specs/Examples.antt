@@ -1,16 +1,18 @@
 -- Worked examples of raw descriptors, computed from the rules.
 use mathlib.Core.Path.{_≡_, refl}
 use mathlib.Core.List.{List, [], _∷_}
+use Prim.Native.Nat.{ℕ}
+use lib.ListN.{getD}
 use Rattle.ground.specs.Ascii.{ascii}
 use Rattle.places.specs.Places.{firstFrom, lastFrom, same}
 use Rattle.utf8.specs.Utf8.{leadOf, tails, afterLead, sequenceOf, piecesFrom}
 use Rattle.text.specs.White.{whiteRanges, inRanges, isWhite}
 use Rattle.text.specs.Trim.{runOf, allWhite, trimEnd}
-use Rattle.descriptor.specs.Names.{classDescriptor}
+use Rattle.pool.specs.Names.{classDescriptor}
 use Rattle.descriptor.specs.Types.{baseEnd, bracketCount}
-use Rattle.descriptor.specs.Pieces.{Pair, partsFrom, join, shown}
+use Rattle.pieces.specs.Pieces.{Pair, partsFrom, join, shown}
 use Rattle.raw_types.specs.Raw.{rawTypeOf}
-use Rattle.raw_types.specs.Marks.{markFrom, markOf}
+use Rattle.raw_types.specs.Marks.{markFrom, markOf, lastBelow}
 
 -- three classes, of which two have the same display name
 abbrev classes : List Pair
@@ -18,6 +20,10 @@ classes =
     record { raw = ascii "Lx;"; display = ascii "La/Main;" }
     ∷ (record { raw = ascii "Ly;"; display = ascii "Lb;" }
     ∷ (record { raw = ascii "Lz;"; display = ascii "La/Main;" } ∷ []))
+
+-- the marks of four rows
+abbrev marks : ℕ → ℕ
+marks i = getD (5 ∷ (7 ∷ (5 ∷ (9 ∷ [])))) i 0
 
 examples :
     -- the last class with the display name answers
@@ -35,5 +41,10 @@ examples :
     × (rawTypeOf classes (ascii "a.Main;c.d") ≡ ascii "Lz;c/d;")
     -- a name with dots has the mark of its descriptor
     × (markOf (ascii "La.Main;") ≡ markOf (classDescriptor (ascii "a.Main")))
-unfolding ascii firstFrom lastFrom same baseEnd bracketCount runOf trimEnd allWhite piecesFrom sequenceOf afterLead leadOf tails isWhite inRanges whiteRanges partsFrom join shown markFrom
-examples = (refl, refl, refl, refl, refl, refl, refl, refl, refl, refl)
+    -- the search for a mark starts at the last row with it, goes on at the one before, and ends where there is none
+    × (lastBelow marks 5 4 ≡ 3)
+    × (lastBelow marks 5 2 ≡ 1)
+    × (lastBelow marks 5 0 ≡ 0)
+    × (lastBelow marks 8 4 ≡ 0)
+unfolding ascii firstFrom lastFrom same baseEnd bracketCount runOf trimEnd allWhite piecesFrom sequenceOf afterLead leadOf tails isWhite inRanges whiteRanges partsFrom join shown markFrom lastBelow
+examples = (refl, refl, refl, refl, refl, refl, refl, refl, refl, refl, refl, refl, refl, refl)

@@ -3,8 +3,8 @@ use mathlib.Core.Path.{_≡_}
 use mathlib.Core.List.{List, []}
 use Prim.Native.Nat.{ℕ, _<_}
 use lib.ListN.{length, getD}
-use Rattle.descriptor.specs.Pieces.{known, unknown, back}
-use Rattle.tables.specs.Rows.{classOf}
+use Rattle.pieces.specs.Pieces.{known, unknown, back}
+use Rattle.rows.specs.Rows.{classOf}
 use Rattle.tables.specs.Back.{textIn, readBack}
 use Rattle.raw_types.specs.declared.search.FoundClass.{FoundClass}
 use Rattle.raw_types.specs.declared.search.FoundClass.the-variants.{Row, Unknown}

@@ -2,9 +2,9 @@
 use mathlib.Core.Bool.{Bool, true, false}
 use mathlib.Core.List.{List, [], _∷_, _++_, map}
 use Prim.Native.Nat.{ℕ}
-use Rattle.descriptor.specs.Names.{slash}
+use Rattle.pool.specs.Names.{slash}
 use Rattle.descriptor.specs.Types.{typeDescriptor}
-use Rattle.descriptor.specs.Pieces.{Pair, turn, back}
+use Rattle.pieces.specs.Pieces.{Pair, turn, back}
 
 -- the raw descriptor of a display type, over the classes of a mapping
 abbrev pub rawTypeOf : List Pair → List ℕ → List ℕ

@@ -4,8 +4,8 @@ use mathlib.Core.Bool.{Bool}
 use mathlib.Core.List.{List, [], _∷_, _++_}
 use Prim.Native.Nat.{ℕ, _+_, _≤_, _<_}
 use lib.ListN.{length, drop}
-use Rattle.descriptor.specs.Pieces.{Look, turn}
-use Rattle.descriptor.specs.Wrote.{Written}
+use Rattle.pieces.specs.Pieces.{Look, turn}
+use Rattle.pool.specs.Wrote.{Written}
 use Rattle.raw_types.specs.declared.types.Stretch.{Stretch}
 use Rattle.raw_types.specs.declared.types.Stretch.the-variants.{More, Last, NoRoom}
 use Rattle.raw_types.specs.Raw.{nameBytes, pieceOf}

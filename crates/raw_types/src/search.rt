@@ -1,7 +1,7 @@
-// The last class row with a display descriptor.
+// The last class row with a display descriptor: only rows with its mark are looked at, from the last one backwards, link by link.
 use crate::index::mark_of;
 use crate::write::stored_byte;
-use tables::ClassRow;
+use rows::ClassRow;
 ghost use mathlib.Core.Path.{_≡_};
 ghost use Prim.Native.Nat.{_+_, _≤_};
 ghost use lib.ListN.{length, take, drop};
@@ -76,7 +76,7 @@ pub fn last_class(
         if is_piece(pool, place, size, name, dots) {
             return FoundClass::Row(row);
         }
-        count = row;
+        count = wide_number(index[8192 + row]);
     }
     FoundClass::Unknown
 }

@@ -1,10 +1,11 @@
 // Bytes written into a lent pool at a place. Where there is no room for all of them, the pool is the caller's to clear.
-use descriptor::Wrote;
+use pool::Wrote;
+use pool::put_bytes;
 ghost use mathlib.Core.Path.{_≡_};
 ghost use mathlib.Core.List.{[], _∷_, _++_};
 ghost use Prim.Native.Nat.{_+_, _≤_};
-ghost use lib.ListN.{length, take, drop, replicate};
-ghost use Rattle.descriptor.specs.Wrote.{WroteBy};
+ghost use lib.ListN.{length, take, drop};
+ghost use Rattle.pool.specs.Wrote.{WroteBy};
 ghost use Rattle.raw_types.specs.Raw.{slashIf, nameBytes, pieceOf};
 
 // A byte of a name as it stands in a descriptor.
@@ -18,24 +19,6 @@ pub fn stored_byte(b: u8, dots: bool) -> u8
         return b;
     }
     b
-}
-
-// One byte so many times.
-pub fn put_bytes(pool: &mut [u8], at: usize, byte: u8, count: usize) -> Wrote
-    ensures { λ r. ⌜ WroteBy r (now (pool .entry)) at (replicate count byte) (now (pool .exit)) ⌝ }
-{
-    if pool.len() < at {
-        return Wrote::NoRoom;
-    }
-    if pool.len() - at < count {
-        return Wrote::NoRoom;
-    }
-    let mut k = 0;
-    while k < count {
-        pool[at + k] = byte;
-        k += 1;
-    }
-    Wrote::Done(at + k)
 }
 
 // A name, with dots as slashes or as they are.

@@ -11,8 +11,8 @@ use mir.Syntax.{w32}
 use borrow.Author.Tests.{le-leb, lt-leb}
 use borrow.Author.Needs.{needs}
 use Rattle.ground.proofs.Parts.{take-rest}
-use Rattle.descriptor.specs.declared.write.Wrote.{Wrote}
-use Rattle.descriptor.specs.Wrote.{WroteBy}
+use Rattle.pool.specs.declared.write.Wrote.{Wrote}
+use Rattle.pool.specs.Wrote.{WroteBy}
 use Rattle.raw_types.proofs.Writing.{wrote-as}
 use Rattle.report.specs.Digits.{digits, decimal}
 

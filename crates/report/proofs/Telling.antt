@@ -3,8 +3,8 @@ use mathlib.Core.Path.{_≡_, sym, ap}
 use mathlib.Core.List.{List}
 use Prim.Native.Nat.{ℕ}
 use borrow.Author.Needs.{needs}
-use Rattle.descriptor.specs.declared.write.Wrote.{Wrote}
-use Rattle.descriptor.specs.Wrote.{WroteBy}
+use Rattle.pool.specs.declared.write.Wrote.{Wrote}
+use Rattle.pool.specs.Wrote.{WroteBy}
 use Rattle.raw_types.proofs.Writing.{wrote-as}
 use Rattle.mapping.specs.declared.Fates.{Fates}
 use Rattle.mapping.specs.declared.Load.{Load}

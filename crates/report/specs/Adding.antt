@@ -1,8 +1,8 @@
 -- Writing behind what was written.
 use mathlib.Core.List.{List, _++_}
 use Prim.Native.Nat.{ℕ}
-use Rattle.descriptor.specs.declared.write.Wrote.{Wrote}
-use Rattle.descriptor.specs.Wrote.{WroteBy}
+use Rattle.pool.specs.declared.write.Wrote.{Wrote}
+use Rattle.pool.specs.Wrote.{WroteBy}
 
 -- Where `before` is the answer of writing any bytes `a` into `d`, which left `out`, `r` is the answer of writing those and `b`, which leaves `out₁`.
 pub record Adds (before r : Wrote) (out b out₁ : List ℕ) : Type 0 where

@@ -1,7 +1,7 @@
 // A number in decimal digits.
-use descriptor::Wrote;
-use descriptor::put_text;
-ghost use Rattle.descriptor.specs.Wrote.{WroteBy};
+use pool::Wrote;
+use pool::put_text;
+ghost use Rattle.pool.specs.Wrote.{WroteBy};
 ghost use Rattle.report.specs.Digits.{decimal};
 
 // The digits, written from the last to the first, and then into place.

@@ -1,14 +1,14 @@
 // The line that the loading program prints.
 use crate::decimal::put_decimal;
-use descriptor::Wrote;
-use descriptor::put_text;
 use mapping::Fates;
 use mapping::Load;
+use pool::Wrote;
+use pool::put_text;
 ghost use mathlib.Core.List.{_++_};
 ghost use Prim.Native.Nat.{_≤_};
 ghost use lib.ListN.{length};
 ghost use Rattle.mapping.specs.declared.Load.the-variants.{Loaded, NotUtf8};
-ghost use Rattle.descriptor.specs.Wrote.{Written, WroteBy};
+ghost use Rattle.pool.specs.Wrote.{Written, WroteBy};
 ghost use Rattle.report.specs.Digits.{decimal};
 ghost use Rattle.report.specs.Report.{refusedLine, lineItems, rowItems, reportOf};
 ghost use Rattle.report.specs.Adding.{Adds};

@@ -14,10 +14,10 @@ use Rattle.places.specs.Lines.{lines, nextLine}
 use Rattle.places.proofs.Taking.{Taken, line-taken, none-taken, end-taken}
 use Rattle.line.specs.declared.line.Line as line
 use Rattle.line.specs.declared.line.Line.the-variants as kinds
-use Rattle.line.specs.Spans.{shift, Lies, largest}
+use Rattle.parts.specs.Spans.{shift, Lies, largest}
 use Rattle.line.specs.Kinds.{lineOf}
-use Rattle.line.proofs.Lying.{shift-lies, lies-more}
-use Rattle.descriptor.specs.Pieces.{Look, known, unknown, orLook}
+use Rattle.parts.proofs.Lying.{shift-lies, lies-more}
+use Rattle.pieces.specs.Pieces.{Look, known, unknown, orLook}
 use Rattle.mapping.specs.Comments.{signatureAt, residualBy, residualIn}
 use Rattle.scan.specs.declared.residual.Residual.{Residual}
 use Rattle.scan.specs.declared.residual.Residual.the-variants.{Text, Nothing}

@@ -20,11 +20,11 @@ use Rattle.comment.specs.declared.answer.Comment as comment
 use Rattle.comment.specs.declared.answer.Comment.the-variants.{Unreadable, Readable}
 use Rattle.comment.specs.Answer.{commentOf, residualOf}
 use Rattle.line.specs.declared.line.Line.the-variants as kinds
-use Rattle.line.specs.Spans.{span, shift, partOf, Lies, largest}
+use Rattle.parts.specs.Spans.{span, shift, partOf, Lies, largest}
 use Rattle.line.specs.Kinds.{lineOf}
-use Rattle.line.proofs.Lying.{trim-lies}
+use Rattle.parts.proofs.Lying.{trim-lies}
 use Rattle.line.proofs.Whole.{brace-inside}
-use Rattle.descriptor.specs.Pieces.{unknown}
+use Rattle.pieces.specs.Pieces.{unknown}
 use Rattle.mapping.specs.Comments.{saysResidual, stringAt, signatureBy, signatureOf, signatureAt}
 use Rattle.mapping.specs.Fates.{isKnown}
 use Rattle.scan.specs.declared.residual.Residual.{Residual}

@@ -10,8 +10,8 @@ use Rattle.rfc8259.specs.Reader.{charsFrom}
 use Rattle.decode.specs.Decoded.{decoded}
 use Rattle.line.specs.declared.line.Line.{Line}
 use Rattle.line.specs.declared.line.Line.the-variants as kinds
-use Rattle.line.specs.Spans.{span, partOf, Lies}
-use Rattle.descriptor.specs.Pieces.{Look, known, unknown}
+use Rattle.parts.specs.Spans.{span, partOf, Lies}
+use Rattle.pieces.specs.Pieces.{Look, known, unknown}
 use Rattle.scan.specs.declared.residual.Residual.{Residual}
 use Rattle.scan.specs.declared.residual.Residual.the-variants.{Text, Nothing}
 use Rattle.scan.specs.declared.residual.Opening.{Opening}

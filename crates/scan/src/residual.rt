@@ -16,7 +16,7 @@ ghost use Rattle.places.specs.Lines.{lines};
 ghost use Rattle.line.specs.declared.line.Line.the-variants as kinds;
 ghost use Rattle.line.specs.Kinds.{lineOf};
 ghost use Rattle.mapping.specs.Comments.{signatureOf, signatureAt, residualIn};
-ghost use Rattle.line.specs.Spans.{shift, Lies, largest};
+ghost use Rattle.parts.specs.Spans.{shift, Lies, largest};
 ghost use Rattle.mapping.specs.Fates.{isKnown};
 ghost use Rattle.scan.specs.Residuals.{placeLook, jsonPart, openingOf, laterOf, Gives};
 

@@ -14,10 +14,10 @@ use Rattle.ground.proofs.Cases.{both-left, both-right, clash}
 use Rattle.utf8.specs.declared.check.Check.{Check}
 use Rattle.utf8.specs.declared.check.Check.the-variants.{Valid, Broken}
 use Rattle.utf8.specs.Utf8.{checkOf}
-use Rattle.tables.specs.declared.rows.Text.{Text}
-use Rattle.tables.specs.declared.rows.Member.{Member}
+use Rattle.rows.specs.declared.rows.Text.{Text}
+use Rattle.rows.specs.declared.rows.Member.{Member}
 use Rattle.tables.specs.declared.check.Used.{Used}
-use Rattle.tables.specs.Rows.{classOf, memberOf, flagOf, mostClasses, mostMembers, mostPool}
+use Rattle.rows.specs.Rows.{classOf, memberOf, flagOf, mostClasses, mostMembers, mostPool}
 use Rattle.tables.specs.Back.{textIn}
 use Rattle.tables.specs.Check.{allOf, countsFine, isValid, isUtf8, textFine, classFine, numbersFine, textsFine, memberFine, wellFormed}
 

@@ -11,7 +11,7 @@ use Rattle.utf8.specs.Grammar.{UTF8-octets}
 use Rattle.utf8.specs.Utf8.{checkOf}
 use Rattle.utf8.proofs.Grammatical.{valid-iff}
 use Rattle.tables.specs.declared.check.Used.{Used}
-use Rattle.tables.specs.Rows.{text}
+use Rattle.rows.specs.Rows.{text}
 use Rattle.tables.specs.Back.{textIn}
 use Rattle.tables.proofs.Checking.{FineText}
 

@@ -1,6 +1,4 @@
 -- Laws of rows.
-pub mod Packing
-pub mod Zeroing
 pub mod TextLaws
 pub mod Searching
 pub mod Checking

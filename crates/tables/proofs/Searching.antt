@@ -9,13 +9,13 @@ use lib.Seq.{drop-cons, drop-length}
 use borrow.Author.Needs.{needs}
 use Rattle.ground.specs.Choice.{pick}
 use Rattle.places.specs.Places.{same}
-use Rattle.descriptor.specs.Pieces.{Pair, Look, known, unknown, orLook, shown, swapped, back}
-use Rattle.tables.specs.declared.rows.Text.{Text}
-use Rattle.tables.specs.declared.rows.Class.{Class}
+use Rattle.pieces.specs.Pieces.{Pair, Look, known, unknown, orLook, shown, swapped, back}
+use Rattle.rows.specs.declared.rows.Text.{Text}
+use Rattle.rows.specs.declared.rows.Class.{Class}
 use Rattle.tables.specs.declared.search.Found.{Found}
 use Rattle.tables.specs.declared.search.Found.the-variants.{Row, Unknown}
 use Rattle.tables.specs.declared.search.Side.{Side}
-use Rattle.tables.specs.Rows.{classOf}
+use Rattle.rows.specs.Rows.{classOf}
 use Rattle.tables.specs.Back.{textIn, pairOf, readBack}
 use Rattle.tables.specs.Search.{orRow, lastFrom, textOn, named, lastRaw, lastDisplay}
 

@@ -2,9 +2,9 @@
 use mathlib.Core.List.{List, map}
 use Prim.Native.Nat.{ℕ}
 use lib.ListN.{take, drop}
-use Rattle.descriptor.specs.Pieces.{Pair}
-use Rattle.tables.specs.declared.rows.Text.{Text}
-use Rattle.tables.specs.Rows.{classOf}
+use Rattle.pieces.specs.Pieces.{Pair}
+use Rattle.rows.specs.declared.rows.Text.{Text}
+use Rattle.rows.specs.Rows.{classOf}
 
 -- a text of the pool
 abbrev pub textIn : List ℕ → Text → List ℕ

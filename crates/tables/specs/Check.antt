@@ -9,10 +9,10 @@ use Rattle.ground.specs.Choice.{both}
 use Rattle.utf8.specs.declared.check.Check.{Check}
 use Rattle.utf8.specs.declared.check.Check.the-variants.{Valid, Broken}
 use Rattle.utf8.specs.Utf8.{checkOf}
-use Rattle.tables.specs.declared.rows.Text.{Text}
-use Rattle.tables.specs.declared.rows.Member.{Member}
+use Rattle.rows.specs.declared.rows.Text.{Text}
+use Rattle.rows.specs.declared.rows.Member.{Member}
 use Rattle.tables.specs.declared.check.Used.{Used}
-use Rattle.tables.specs.Rows.{classOf, memberOf, flagOf, mostClasses, mostMembers, mostPool}
+use Rattle.rows.specs.Rows.{classOf, memberOf, flagOf, mostClasses, mostMembers, mostPool}
 use Rattle.tables.specs.Back.{textIn}
 
 -- a test holds of every element

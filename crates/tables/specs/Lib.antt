@@ -1,5 +1,4 @@
 -- Rows and names: the written rules, from document 01 "Rows and names".
-pub mod Rows
 pub mod Back
 pub mod Search
 pub mod Check

@@ -4,13 +4,13 @@ use mathlib.Core.List.{List, [], _∷_}
 use Prim.Native.Nat.{ℕ, suc}
 use Rattle.ground.specs.Choice.{pick}
 use Rattle.places.specs.Places.{same}
-use Rattle.tables.specs.declared.rows.Text.{Text}
-use Rattle.tables.specs.declared.rows.Class.{Class}
+use Rattle.rows.specs.declared.rows.Text.{Text}
+use Rattle.rows.specs.declared.rows.Class.{Class}
 use Rattle.tables.specs.declared.search.Found.{Found}
 use Rattle.tables.specs.declared.search.Found.the-variants.{Row, Unknown}
 use Rattle.tables.specs.declared.search.Side.{Side}
 use Rattle.tables.specs.declared.search.Side.the-variants.{Raw, Display}
-use Rattle.tables.specs.Rows.{classOf}
+use Rattle.rows.specs.Rows.{classOf}
 use Rattle.tables.specs.Back.{textIn}
 
 -- the first of two answers that is a row

@@ -1,16 +1,16 @@
 // The check for refusal 14, "tables malformed". Every function takes any rows, any pool and any counts.
-use crate::rows::ClassRow;
-use crate::rows::Member;
-use crate::rows::MemberRow;
-use crate::rows::Text;
-use crate::rows::range_flag;
-use crate::rows::unpack_class;
-use crate::rows::unpack_member;
 use crate::texts::lesser;
 use crate::texts::text_in;
+use rows::ClassRow;
+use rows::Member;
+use rows::MemberRow;
+use rows::Text;
+use rows::unpack_class;
+use rows::unpack_member;
 use utf8::Check;
 use utf8::check_text;
 ghost use mathlib.Core.Path.{_≡_};
+ghost use Rattle.rows.specs.Rows.{flagOf};
 ghost use Rattle.tables.specs.Check.{isUtf8, textFine, classFine, numbersFine, textsFine, memberFine, allOf, countsFine, wellFormed};
 
 // How many class rows, member rows and pool bytes are used.
@@ -55,6 +55,13 @@ fn class_fine(pool: &[u8], used: Used, row: ClassRow) -> bool
         return false;
     }
     text_fine(pool, used, class.display)
+}
+
+// The range flag of a row as it stands: 0 none, 1 display only, 2 both. A member keeps no other, so a check has to ask the row.
+fn range_flag(row: MemberRow) -> u32
+    ensures { λ r. ⌜ r ≡ flagOf row ⌝ }
+{
+    row[10]
 }
 
 // The class row, the kind and the flag of a member row are in range.

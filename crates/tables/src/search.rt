@@ -1,11 +1,11 @@
 // The last class row with a given descriptor. Every function takes any rows and any pool: a text that reaches past the pool's end counts as what of it
 // stands in the pool.
-use crate::rows::Class;
-use crate::rows::ClassRow;
-use crate::rows::Text;
-use crate::rows::unpack_class;
 use crate::texts::text_in;
 use places::same_bytes;
+use rows::Class;
+use rows::ClassRow;
+use rows::Text;
+use rows::unpack_class;
 ghost use mathlib.Core.Path.{_≡_};
 ghost use Rattle.tables.specs.Search.{textOn, lastWith, lastRaw, lastDisplay};
 

@@ -2,9 +2,6 @@
 use Rattle.descriptor_probes.proofs.Saying.{part-saying}
 use Rattle.descriptor_probes.proofs.clumarief_probe_part.Statement.{statement}
 use Rattle.descriptor_probes.proofs.clumarief_probe_part.Tie as tie
-use Rattle.descriptor_probes.proofs.clumarief_probe_part.Reads as reads
-use Rattle.descriptor_probes.proofs.clumarief_probe_part.Lts as lts
-use Rattle.descriptor.proofs.part_at.Reads as part-at-reads
 
 part-at-requires : tie.Need-part-at-requires
 part-at-requires c κs = search part-saying

@@ -2,10 +2,6 @@
 use Rattle.descriptor_probes.proofs.Saying.{signature-saying}
 use Rattle.descriptor_probes.proofs.clumarief_probe_signature.Statement.{statement}
 use Rattle.descriptor_probes.proofs.clumarief_probe_signature.Tie as tie
-use Rattle.descriptor_probes.proofs.clumarief_probe_signature.Reads as reads
-use Rattle.descriptor_probes.proofs.clumarief_probe_signature.Lts as lts
-use Rattle.descriptor.proofs.settle_signature.Reads as settle-signature-reads
-use Rattle.descriptor_probes.proofs.wrote_numbers.Reads as wrote-numbers-reads
 
 returns : tie.Need-returns
 returns c = search signature-saying

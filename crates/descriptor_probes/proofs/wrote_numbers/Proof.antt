@@ -2,8 +2,6 @@
 use Rattle.descriptor_probes.proofs.Saying.{wrote-saying}
 use Rattle.descriptor_probes.proofs.wrote_numbers.Statement.{statement}
 use Rattle.descriptor_probes.proofs.wrote_numbers.Tie as tie
-use Rattle.descriptor_probes.proofs.wrote_numbers.Reads as reads
-use Rattle.descriptor_probes.proofs.wrote_numbers.Lts as lts
 
 enum-known-w : tie.Need-enum-known-w
 enum-known-w c = search wrote-saying

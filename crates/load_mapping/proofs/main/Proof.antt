@@ -1,17 +1,12 @@
 use native.Mathlib.Omega.{arith}
 use Prim.Native.Nat.{ℕ}
 use lib.ListN.{length-replicate}
-use Rattle.descriptor.proofs.Writes.{written-length}
+use Rattle.pool.proofs.Writes.{written-length}
 use Rattle.ground.proofs.Parts.{prefix-whole}
 -- `load_mapping::main` is safe: the line is a part of the buffer it was written to.
 use borrow.Author.Needs.{needs}
 use Rattle.load_mapping.proofs.main.Statement.{statement}
 use Rattle.load_mapping.proofs.main.Tie as tie
-use Rattle.load_mapping.proofs.main.Reads as reads
-use Rattle.load_mapping.proofs.main.Lts as lts
-use Rattle.io.proofs.read_full.Reads as read-full-reads
-use Rattle.io.proofs.write_all.Reads as write-all-reads
-use Rattle.load_mapping.proofs.answer.line_for.Reads as line-for-reads
 
 slice-aggregate-read-full : tie.Need-slice-aggregate-read-full
 slice-aggregate-read-full c = search needs

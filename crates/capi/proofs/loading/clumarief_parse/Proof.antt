@@ -2,10 +2,6 @@
 use Rattle.capi.proofs.Numbering.{answering}
 use Rattle.capi.proofs.loading.clumarief_parse.Statement.{statement}
 use Rattle.capi.proofs.loading.clumarief_parse.Tie as tie
-use Rattle.capi.proofs.loading.clumarief_parse.Reads as reads
-use Rattle.capi.proofs.loading.clumarief_parse.Lts as lts
-use Rattle.capi.proofs.loading.load_numbers.Reads as load-numbers-reads
-use Rattle.load.proofs.parse.Reads as parse-reads
 
 parse-requires : tie.Need-parse-requires
 parse-requires c κs = search answering

@@ -2,10 +2,6 @@
 use Rattle.capi.proofs.Numbering.{answering}
 use Rattle.capi.proofs.loading.clumarief_parse_str.Statement.{statement}
 use Rattle.capi.proofs.loading.clumarief_parse_str.Tie as tie
-use Rattle.capi.proofs.loading.clumarief_parse_str.Reads as reads
-use Rattle.capi.proofs.loading.clumarief_parse_str.Lts as lts
-use Rattle.capi.proofs.loading.load_numbers.Reads as load-numbers-reads
-use Rattle.load.proofs.parse_str.Reads as parse-str-reads
 
 parse-str-requires : tie.Need-parse-str-requires
 parse-str-requires c κs = search answering

@@ -2,9 +2,6 @@
 use Rattle.capi.proofs.Numbering.{numbering}
 use Rattle.capi.proofs.loading.load_numbers.Statement.{statement}
 use Rattle.capi.proofs.loading.load_numbers.Tie as tie
-use Rattle.capi.proofs.loading.load_numbers.Reads as reads
-use Rattle.capi.proofs.loading.load_numbers.Lts as lts
-use Rattle.capi.proofs.loading.refusal.Reads as refusal-reads
 
 enum-known-load : tie.Need-enum-known-load
 enum-known-load c = search numbering

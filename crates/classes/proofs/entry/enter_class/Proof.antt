@@ -2,11 +2,6 @@
 use Rattle.classes.proofs.Entering.{entering}
 use Rattle.classes.proofs.entry.enter_class.Statement.{statement}
 use Rattle.classes.proofs.entry.enter_class.Tie as tie
-use Rattle.classes.proofs.entry.enter_class.Reads as reads
-use Rattle.classes.proofs.entry.enter_class.Lts as lts
-use Rattle.classes.proofs.entry.class_row.Reads as class-row-reads
-use Rattle.classes.proofs.entry.put_pair.Reads as put-pair-reads
-use Rattle.raw_types.proofs.mark_class.Reads as mark-class-reads
 
 sub-put-pair : tie.Need-sub-put-pair
 sub-put-pair c = search entering
@@ -44,14 +39,11 @@ returns c = search entering
 class-row-requires : tie.Need-class-row-requires
 class-row-requires c κs = search entering
 
-mul-t20 : tie.Need-mul-t20
-mul-t20 c = search entering
+mul-t19 : tie.Need-mul-t19
+mul-t19 c = search entering
 
 slice-set-from-classes : tie.Need-slice-set-from-classes
 slice-set-from-classes c = search entering
-
-add-number : tie.Need-add-number
-add-number c = search entering
 
 sub-mark-class : tie.Need-sub-mark-class
 sub-mark-class c = search entering
@@ -61,9 +53,6 @@ part-mark-class-start c = search entering
 
 part-mark-class-end : tie.Need-part-mark-class-end
 part-mark-class-end c = search entering
-
-cast-mark-class : tie.Need-cast-mark-class
-cast-mark-class c = search entering
 
 mark-class-requires : tie.Need-mark-class-requires
 mark-class-requires c κs = search entering
@@ -96,13 +85,11 @@ enter-class-spec =
     same-length
     returns
     class-row-requires
-    mul-t20
+    mul-t19
     slice-set-from-classes
-    add-number
     sub-mark-class
     part-mark-class-start
     part-mark-class-end
-    cast-mark-class
     mark-class-requires
     same-length-2
     same-length-3

@@ -2,9 +2,6 @@
 use Rattle.classes.proofs.Entering.{pairing}
 use Rattle.classes.proofs.entry.put_pair.Statement.{statement}
 use Rattle.classes.proofs.entry.put_pair.Tie as tie
-use Rattle.classes.proofs.entry.put_pair.Reads as reads
-use Rattle.classes.proofs.entry.put_pair.Lts as lts
-use Rattle.descriptor.proofs.put_class.Reads as put-class-reads
 
 put-class-requires : tie.Need-put-class-requires
 put-class-requires c κs = search pairing

@@ -2,9 +2,6 @@
 use Rattle.classes.proofs.Naming.{naming}
 use Rattle.classes.proofs.names.class_line.Statement.{statement}
 use Rattle.classes.proofs.names.class_line.Tie as tie
-use Rattle.classes.proofs.names.class_line.Reads as reads
-use Rattle.classes.proofs.names.class_line.Lts as lts
-use Rattle.line.proofs.read_line.Reads as read-line-reads
 
 returns : tie.Need-returns
 returns c = search naming

@@ -5,11 +5,6 @@ use Prim.Native.Nat.{_-_}
 use lib.ListN.{length}
 use Rattle.classes.proofs.write.write_classes.Statement.{statement}
 use Rattle.classes.proofs.write.write_classes.Tie as tie
-use Rattle.classes.proofs.write.write_classes.Reads as reads
-use Rattle.classes.proofs.write.write_classes.Lts as lts
-use Rattle.classes.proofs.entry.enter_class.Reads as enter-class-reads
-use Rattle.classes.proofs.names.class_line.Reads as class-line-reads
-use Rattle.places.proofs.next_line.Reads as next-line-reads
 
 abbrev Inv-loop : tie.InvT-loop
 Inv-loop text classes₀ index₀ pool₀ at₀ count₀ end₀ classes index pool at count end = Writing text classes₀ index₀ pool₀ at count «end» classes index pool

@@ -19,7 +19,7 @@ use Rattle.comment.proofs.value.+array_at+member_at+object_at+value_at.
 use Rattle.json.proofs.flat_at.Reads as flat-at-reads
 use Rattle.json.proofs.skip_space.Reads as skip-space-reads
 use Rattle.json.proofs.structural_at.Reads as structural-at-reads
-use Rattle.json.proofs.string_end.Reads as string-end-reads
+use Rattle.json_string.proofs.string_end.Reads as string-end-reads
 use Rattle.rfc8259.specs.Reader.{enclosedOf, memberOf, valueOf}
 use Rattle.comment.proofs.Listing.{Listing}
 use Rattle.comment.proofs.Values.{valuing, membering, arraying, objecting}

@@ -2,10 +2,6 @@
 use Rattle.descriptor.proofs.Settling.{raw-kinds}
 use Rattle.descriptor.proofs.settle.is_descriptor.Statement.{statement}
 use Rattle.descriptor.proofs.settle.is_descriptor.Tie as tie
-use Rattle.descriptor.proofs.settle.is_descriptor.Reads as reads
-use Rattle.descriptor.proofs.settle.is_descriptor.Lts as lts
-use Rattle.descriptor.proofs.settle.is_letter.Reads as is-letter-reads
-use Rattle.descriptor.proofs.types.is_kept.Reads as is-kept-reads
 
 returns : tie.Need-returns
 returns c = search raw-kinds

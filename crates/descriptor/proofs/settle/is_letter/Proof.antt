@@ -2,8 +2,6 @@
 use Rattle.descriptor.proofs.Settling.{letters}
 use Rattle.descriptor.proofs.settle.is_letter.Statement.{statement}
 use Rattle.descriptor.proofs.settle.is_letter.Tie as tie
-use Rattle.descriptor.proofs.settle.is_letter.Reads as reads
-use Rattle.descriptor.proofs.settle.is_letter.Lts as lts
 
 returns : tie.Need-returns
 returns c = search letters

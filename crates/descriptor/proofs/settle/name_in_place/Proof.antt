@@ -2,9 +2,6 @@
 use Rattle.descriptor.proofs.Settling.{moving, Moving}
 use Rattle.descriptor.proofs.settle.name_in_place.Statement.{statement}
 use Rattle.descriptor.proofs.settle.name_in_place.Tie as tie
-use Rattle.descriptor.proofs.settle.name_in_place.Reads as reads
-use Rattle.descriptor.proofs.settle.name_in_place.Lts as lts
-use Rattle.descriptor.proofs.write.slash_for_dot.Reads as slash-for-dot-reads
 
 abbrev Inv-loop : tie.InvT-loop
 Inv-loop pool₀ at end j₀ pool j = Moving pool₀ at «end» pool j

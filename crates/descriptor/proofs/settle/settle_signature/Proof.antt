@@ -2,10 +2,6 @@
 use Rattle.descriptor.proofs.Settling.{settling}
 use Rattle.descriptor.proofs.settle.settle_signature.Statement.{statement}
 use Rattle.descriptor.proofs.settle.settle_signature.Tie as tie
-use Rattle.descriptor.proofs.settle.settle_signature.Reads as reads
-use Rattle.descriptor.proofs.settle.settle_signature.Lts as lts
-use Rattle.descriptor.proofs.settle.settle_type.Reads as settle-type-reads
-use Rattle.places.proofs.last_byte.Reads as last-byte-reads
 
 sub-last-byte : tie.Need-sub-last-byte
 sub-last-byte c = search settling

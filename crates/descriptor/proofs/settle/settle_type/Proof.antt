@@ -2,10 +2,6 @@
 use Rattle.descriptor.proofs.Settling.{settling}
 use Rattle.descriptor.proofs.settle.settle_type.Statement.{statement}
 use Rattle.descriptor.proofs.settle.settle_type.Tie as tie
-use Rattle.descriptor.proofs.settle.settle_type.Reads as reads
-use Rattle.descriptor.proofs.settle.settle_type.Lts as lts
-use Rattle.descriptor.proofs.settle.is_descriptor.Reads as is-descriptor-reads
-use Rattle.descriptor.proofs.settle.name_in_place.Reads as name-in-place-reads
 
 sub-is-descriptor : tie.Need-sub-is-descriptor
 sub-is-descriptor c = search settling

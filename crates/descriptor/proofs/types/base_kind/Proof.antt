@@ -2,10 +2,6 @@
 use Rattle.descriptor.proofs.Typing.{base-kinds}
 use Rattle.descriptor.proofs.types.base_kind.Statement.{statement}
 use Rattle.descriptor.proofs.types.base_kind.Tie as tie
-use Rattle.descriptor.proofs.types.base_kind.Reads as reads
-use Rattle.descriptor.proofs.types.base_kind.Lts as lts
-use Rattle.descriptor.proofs.types.is_kept.Reads as is-kept-reads
-use Rattle.descriptor.proofs.types.word_letter.Reads as word-letter-reads
 
 word-letter-requires : tie.Need-word-letter-requires
 word-letter-requires c κs = search base-kinds

@@ -2,8 +2,6 @@
 use Rattle.descriptor.proofs.Typing.{keeping}
 use Rattle.descriptor.proofs.types.is_kept.Statement.{statement}
 use Rattle.descriptor.proofs.types.is_kept.Tie as tie
-use Rattle.descriptor.proofs.types.is_kept.Reads as reads
-use Rattle.descriptor.proofs.types.is_kept.Lts as lts
 
 returns : tie.Need-returns
 returns c = search keeping

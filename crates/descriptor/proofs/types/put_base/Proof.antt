@@ -2,11 +2,6 @@
 use Rattle.descriptor.proofs.Typing.{base-puts}
 use Rattle.descriptor.proofs.types.put_base.Statement.{statement}
 use Rattle.descriptor.proofs.types.put_base.Tie as tie
-use Rattle.descriptor.proofs.types.put_base.Reads as reads
-use Rattle.descriptor.proofs.types.put_base.Lts as lts
-use Rattle.descriptor.proofs.write.put_bytes.Reads as put-bytes-reads
-use Rattle.descriptor.proofs.write.put_class.Reads as put-class-reads
-use Rattle.descriptor.proofs.write.put_text.Reads as put-text-reads
 
 enum-known-base : tie.Need-enum-known-base
 enum-known-base c = search base-puts

@@ -2,11 +2,6 @@
 use Rattle.descriptor.proofs.Typing.{type-puts}
 use Rattle.descriptor.proofs.types.put_type.Statement.{statement}
 use Rattle.descriptor.proofs.types.put_type.Tie as tie
-use Rattle.descriptor.proofs.types.put_type.Reads as reads
-use Rattle.descriptor.proofs.types.put_type.Lts as lts
-use Rattle.descriptor.proofs.types.put_base.Reads as put-base-reads
-use Rattle.descriptor.proofs.types.type_shape.Reads as type-shape-reads
-use Rattle.descriptor.proofs.write.put_bytes.Reads as put-bytes-reads
 
 type-shape-requires : tie.Need-type-shape-requires
 type-shape-requires c κs = search type-puts

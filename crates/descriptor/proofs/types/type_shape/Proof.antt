@@ -2,11 +2,6 @@
 use Rattle.descriptor.proofs.Typing.{shaping}
 use Rattle.descriptor.proofs.types.type_shape.Statement.{statement}
 use Rattle.descriptor.proofs.types.type_shape.Tie as tie
-use Rattle.descriptor.proofs.types.type_shape.Reads as reads
-use Rattle.descriptor.proofs.types.type_shape.Lts as lts
-use Rattle.descriptor.proofs.types.base_kind.Reads as base-kind-reads
-use Rattle.descriptor.proofs.types.without_brackets.Reads as without-brackets-reads
-use Rattle.text.proofs.trim_both.Reads as trim-both-reads
 
 trim-both-requires : tie.Need-trim-both-requires
 trim-both-requires c κs = search shaping

@@ -2,8 +2,6 @@
 use Rattle.descriptor.proofs.Typing.{stripping, Stripping}
 use Rattle.descriptor.proofs.types.without_brackets.Statement.{statement}
 use Rattle.descriptor.proofs.types.without_brackets.Tie as tie
-use Rattle.descriptor.proofs.types.without_brackets.Reads as reads
-use Rattle.descriptor.proofs.types.without_brackets.Lts as lts
 
 abbrev Inv-loop : tie.InvT-loop
 Inv-loop s end₀ brackets₀ end brackets = Stripping s end brackets

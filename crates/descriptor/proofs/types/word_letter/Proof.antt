@@ -2,9 +2,6 @@
 use Rattle.descriptor.proofs.Typing.{words}
 use Rattle.descriptor.proofs.types.word_letter.Statement.{statement}
 use Rattle.descriptor.proofs.types.word_letter.Tie as tie
-use Rattle.descriptor.proofs.types.word_letter.Reads as reads
-use Rattle.descriptor.proofs.types.word_letter.Lts as lts
-use Rattle.places.proofs.same_bytes.Reads as same-bytes-reads
 
 slice-aggregate-same-bytes : tie.Need-slice-aggregate-same-bytes
 slice-aggregate-same-bytes c = search words

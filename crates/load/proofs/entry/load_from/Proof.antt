@@ -2,11 +2,6 @@
 use Rattle.load.proofs.Answering.{answering}
 use Rattle.load.proofs.entry.load_from.Statement.{statement}
 use Rattle.load.proofs.entry.load_from.Tie as tie
-use Rattle.load.proofs.entry.load_from.Reads as reads
-use Rattle.load.proofs.entry.load_from.Lts as lts
-use Rattle.load.proofs.entry.clear.Reads as clear-reads
-use Rattle.load.proofs.entry.load_lines.Reads as load-lines-reads
-use Rattle.utf8.proofs.check_text.Reads as check-text-reads
 
 clear-requires : tie.Need-clear-requires
 clear-requires c κs = search answering

@@ -4,12 +4,6 @@ use Rattle.load.proofs.Leaving.{left-loaded, left-refused}
 use Rattle.load.proofs.Leaving.{leaving}
 use Rattle.load.proofs.entry.load_lines.Statement.{statement}
 use Rattle.load.proofs.entry.load_lines.Tie as tie
-use Rattle.load.proofs.entry.load_lines.Reads as reads
-use Rattle.load.proofs.entry.load_lines.Lts as lts
-use Rattle.load.proofs.entry.clear.Reads as clear-reads
-use Rattle.load.proofs.entry.is_loaded.Reads as is-loaded-reads
-use Rattle.load.proofs.entry.lesser.Reads as lesser-reads
-use Rattle.load.proofs.fill.load_into.Reads as load-into-reads
 
 clear-requires : tie.Need-clear-requires
 clear-requires c κs = search leaving

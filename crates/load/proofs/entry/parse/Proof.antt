@@ -2,10 +2,6 @@
 use Rattle.load.proofs.Answering.{marking}
 use Rattle.load.proofs.entry.parse.Statement.{statement}
 use Rattle.load.proofs.entry.parse.Tie as tie
-use Rattle.load.proofs.entry.parse.Reads as reads
-use Rattle.load.proofs.entry.parse.Lts as lts
-use Rattle.load.proofs.entry.load_from.Reads as load-from-reads
-use Rattle.text.proofs.after_marks.Reads as after-marks-reads
 
 after-marks-requires : tie.Need-after-marks-requires
 after-marks-requires c κs = search marking

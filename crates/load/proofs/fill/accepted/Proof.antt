@@ -2,8 +2,6 @@
 use Rattle.load.proofs.Deciding.{accepting}
 use Rattle.load.proofs.fill.accepted.Statement.{statement}
 use Rattle.load.proofs.fill.accepted.Tie as tie
-use Rattle.load.proofs.fill.accepted.Reads as reads
-use Rattle.load.proofs.fill.accepted.Lts as lts
 
 returns : tie.Need-returns
 returns c = search accepting

@@ -3,13 +3,6 @@ use Rattle.load.proofs.Writing.{into-pool, into-indexed}
 use Rattle.load.proofs.Writing.{into}
 use Rattle.load.proofs.fill.load_into.Statement.{statement}
 use Rattle.load.proofs.fill.load_into.Tie as tie
-use Rattle.load.proofs.fill.load_into.Reads as reads
-use Rattle.load.proofs.fill.load_into.Lts as lts
-use Rattle.classes.proofs.write_classes.Reads as write-classes-reads
-use Rattle.load.proofs.fill.accepted.Reads as accepted-reads
-use Rattle.load.proofs.fill.refused.Reads as refused-reads
-use Rattle.load.proofs.fill.scan_all.Reads as scan-all-reads
-use Rattle.members.proofs.write_members.Reads as write-members-reads
 
 slice-aggregate-write-classes : tie.Need-slice-aggregate-write-classes
 slice-aggregate-write-classes c = search into

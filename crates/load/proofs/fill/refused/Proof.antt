@@ -2,8 +2,6 @@
 use Rattle.load.proofs.Deciding.{refusing}
 use Rattle.load.proofs.fill.refused.Statement.{statement}
 use Rattle.load.proofs.fill.refused.Tie as tie
-use Rattle.load.proofs.fill.refused.Reads as reads
-use Rattle.load.proofs.fill.refused.Lts as lts
 
 enum-known-scan : tie.Need-enum-known-scan
 enum-known-scan c = search refusing

@@ -2,9 +2,6 @@
 use Rattle.load.proofs.Deciding.{scanning-all}
 use Rattle.load.proofs.fill.scan_all.Statement.{statement}
 use Rattle.load.proofs.fill.scan_all.Tie as tie
-use Rattle.load.proofs.fill.scan_all.Reads as reads
-use Rattle.load.proofs.fill.scan_all.Lts as lts
-use Rattle.scan.proofs.scan_from.Reads as scan-from-reads
 
 scan-from-requires : tie.Need-scan-from-requires
 scan-from-requires c κs = search scanning-all

@@ -8,10 +8,6 @@ use lib.ListN.{length-replicate}
 use borrow.Author.Needs.{needs}
 use Rattle.load_mapping.proofs.answer.line_for.Statement.{statement}
 use Rattle.load_mapping.proofs.answer.line_for.Tie as tie
-use Rattle.load_mapping.proofs.answer.line_for.Reads as reads
-use Rattle.load_mapping.proofs.answer.line_for.Lts as lts
-use Rattle.load.proofs.parse.Reads as parse-reads
-use Rattle.report.proofs.report_line.Reads as report-line-reads
 
 report-line-requires : tie.Need-report-line-requires
 report-line-requires c κs = search needs

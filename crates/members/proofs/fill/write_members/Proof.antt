@@ -7,12 +7,6 @@ use Prim.Native.Nat.{_-_}
 use lib.ListN.{length}
 use Rattle.members.proofs.fill.write_members.Statement.{statement}
 use Rattle.members.proofs.fill.write_members.Tie as tie
-use Rattle.members.proofs.fill.write_members.Reads as reads
-use Rattle.members.proofs.fill.write_members.Lts as lts
-use Rattle.members.proofs.row.member_row.Reads as member-row-reads
-use Rattle.members.proofs.step.next_step.Reads as next-step-reads
-use Rattle.members.proofs.texts.write_texts.Reads as write-texts-reads
-use Rattle.scan.proofs.scan_from.Reads as scan-from-reads
 
 abbrev Inv-loop : tie.InvT-loop
 Inv-loop text classes index members₀ pool₀ used at₀ count₀ place₀ member₀ own₀ own-end₀ fates₀ members pool at count place member own own-end fates =

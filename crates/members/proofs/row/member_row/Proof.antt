@@ -2,11 +2,6 @@
 use Rattle.members.proofs.Rowed.{member-rows}
 use Rattle.members.proofs.row.member_row.Statement.{statement}
 use Rattle.members.proofs.row.member_row.Tie as tie
-use Rattle.members.proofs.row.member_row.Reads as reads
-use Rattle.members.proofs.row.member_row.Lts as lts
-use Rattle.members.proofs.row.ranges.Reads as ranges-reads
-use Rattle.members.proofs.row.text_between.Reads as text-between-reads
-use Rattle.tables.proofs.pack_member.Reads as pack-member-reads
 
 text-between-requires : tie.Need-text-between-requires
 text-between-requires c κs = search member-rows

@@ -2,8 +2,6 @@
 use Rattle.members.proofs.Rowed.{ranging}
 use Rattle.members.proofs.row.ranges.Statement.{statement}
 use Rattle.members.proofs.row.ranges.Tie as tie
-use Rattle.members.proofs.row.ranges.Reads as reads
-use Rattle.members.proofs.row.ranges.Lts as lts
 
 enum-told : tie.Need-enum-told
 enum-told c = search ranging

@@ -2,14 +2,6 @@
 use Rattle.members.proofs.Stepping.{stepping}
 use Rattle.members.proofs.step.next_step.Statement.{statement}
 use Rattle.members.proofs.step.next_step.Tie as tie
-use Rattle.members.proofs.step.next_step.Reads as reads
-use Rattle.members.proofs.step.next_step.Lts as lts
-use Rattle.line.proofs.read_line.Reads as read-line-reads
-use Rattle.members.proofs.texts.role_of.Reads as role-of-reads
-use Rattle.places.proofs.next_line.Reads as next-line-reads
-use Rattle.scan.proofs.counted.Reads as counted-reads
-use Rattle.scan.proofs.fault.Reads as fault-reads
-use Rattle.scan.proofs.member_after.Reads as member-after-reads
 
 next-line-requires : tie.Need-next-line-requires
 next-line-requires c κs = search stepping

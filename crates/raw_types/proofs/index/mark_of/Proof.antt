@@ -1,12 +1,10 @@
--- `raw_types::index::mark_of` meets its contract, by the laws of Marking and an invariant that says what is done and what is left.
-use Rattle.raw_types.proofs.Marking.{marking, Marks}
+-- `raw_types::index::mark_of` meets its contract, by the laws of Marking and an invariant that says: the rest decides as the whole does.
+use Rattle.raw_types.proofs.Marking.{marking}
+use Rattle.raw_types.proofs.Marking.{Marks}
 use Prim.Native.Nat.{_-_}
 use lib.ListN.{length}
 use Rattle.raw_types.proofs.index.mark_of.Statement.{statement}
 use Rattle.raw_types.proofs.index.mark_of.Tie as tie
-use Rattle.raw_types.proofs.index.mark_of.Reads as reads
-use Rattle.raw_types.proofs.index.mark_of.Lts as lts
-use Rattle.raw_types.proofs.index.slash_number.Reads as slash-number-reads
 
 abbrev Inv-loop : tie.InvT-loop
 Inv-loop name mark₀ k₀ mark k = Marks name mark k
@@ -17,14 +15,17 @@ abbrev μ-loop : tie.MeasureT-loop
 loop-holds : tie.Need-loop-holds Inv-loop μ-loop
 loop-holds c = search marking
 
+shared-slice-read-slash-for-dot : tie.Need-shared-slice-read-slash-for-dot Inv-loop μ-loop
+shared-slice-read-slash-for-dot c = search marking
+
+slash-for-dot-requires : tie.Need-slash-for-dot-requires Inv-loop μ-loop
+slash-for-dot-requires c κs = search marking
+
 mul-mark : tie.Need-mul-mark Inv-loop μ-loop
 mul-mark c = search marking
 
-shared-slice-read-slash-number : tie.Need-shared-slice-read-slash-number Inv-loop μ-loop
-shared-slice-read-slash-number c = search marking
-
-slash-number-requires : tie.Need-slash-number-requires Inv-loop μ-loop
-slash-number-requires c κs = search marking
+cast-mark : tie.Need-cast-mark Inv-loop μ-loop
+cast-mark c = search marking
 
 add-mark : tie.Need-add-mark Inv-loop μ-loop
 add-mark c = search marking
@@ -54,9 +55,10 @@ mark-of-spec =
     Inv-loop
     μ-loop
     loop-holds
+    shared-slice-read-slash-for-dot
+    slash-for-dot-requires
     mul-mark
-    shared-slice-read-slash-number
-    slash-number-requires
+    cast-mark
     add-mark
     add-k
     loop-less

@@ -2,9 +2,6 @@
 use Rattle.raw_types.proofs.Comparing.{comparing, Alike}
 use Rattle.raw_types.proofs.search.is_piece.Statement.{statement}
 use Rattle.raw_types.proofs.search.is_piece.Tie as tie
-use Rattle.raw_types.proofs.search.is_piece.Reads as reads
-use Rattle.raw_types.proofs.search.is_piece.Lts as lts
-use Rattle.raw_types.proofs.write.stored_byte.Reads as stored-byte-reads
 
 abbrev Inv-loop : tie.InvT-loop
 Inv-loop pool place size name dots first k₀ k = Alike pool place name dots k

@@ -1,14 +1,8 @@
--- `raw_types::search::last_class` meets its contract, by the laws of Searching and an invariant that says what is done and what is left.
+-- `raw_types::search::last_class` meets its contract, by the laws of Searching and an invariant that says: no row from the number on is the one, and the row before has its mark.
 use Rattle.raw_types.proofs.Searching.{behind-more, searching, Behind}
 use Rattle.raw_types.specs.Raw.{pieceOf}
 use Rattle.raw_types.proofs.search.last_class.Statement.{statement}
 use Rattle.raw_types.proofs.search.last_class.Tie as tie
-use Rattle.raw_types.proofs.search.last_class.Reads as reads
-use Rattle.raw_types.proofs.search.last_class.Lts as lts
-use Rattle.raw_types.proofs.index.mark_of.Reads as mark-of-reads
-use Rattle.raw_types.proofs.search.is_piece.Reads as is-piece-reads
-use Rattle.raw_types.proofs.search.wide.Reads as wide-reads
-use Rattle.raw_types.proofs.search.wide_number.Reads as wide-number-reads
 
 abbrev Inv-loop : tie.InvT-loop
 Inv-loop classes pool index name dots mark count₀ count = Behind classes pool (pieceOf dots name) count
@@ -64,11 +58,23 @@ is-piece-requires c κs = search searching
 returns : tie.Need-returns Inv-loop μ-loop
 returns c = search searching
 
+add-wide-number : tie.Need-add-wide-number Inv-loop μ-loop
+add-wide-number c = search searching
+
+mul-wide-number-2 : tie.Need-mul-wide-number-2 Inv-loop μ-loop
+mul-wide-number-2 c = search searching
+
+shared-slice-read-wide-number-2 : tie.Need-shared-slice-read-wide-number-2 Inv-loop μ-loop
+shared-slice-read-wide-number-2 c = search searching
+
+wide-number-requires-2 : tie.Need-wide-number-requires-2 Inv-loop μ-loop
+wide-number-requires-2 c κs = search searching
+
 loop-less : tie.Need-loop-less Inv-loop μ-loop
 loop-less c = search searching
 
 loop-again : tie.Need-loop-again Inv-loop μ-loop
-loop-again c = behind-more (c .before .before .before .before .before .before .before .before .before .before .before .before .before .before .pre) (c .before .before .before .before .before .before .before .loop .inv) (c .before .before .before .before .before .before .loop-test .taken) (c .before .before .before .before .wide .ensures) (c .before .before .wide2 .ensures) (c .before .is-piece .ensures) (c .if1 .left)
+loop-again c = behind-more (c .before .before .before .before .before .before .before .before .before .before .before .before .before .before .before .before .pre) (c .before .before .before .before .before .before .before .before .before .loop .inv) (c .before .before .before .before .before .before .before .before .loop-test .taken) (c .before .before .before .before .before .before .wide .ensures) (c .before .before .before .before .wide2 .ensures) (c .before .before .before .is-piece .ensures) (c .before .before .if1 .left) (c .wide-number2 .ensures)
 
 returns-2 : tie.Need-returns-2 Inv-loop μ-loop
 returns-2 c = search searching
@@ -95,6 +101,10 @@ last-class-spec =
     wide-requires-2
     is-piece-requires
     returns
+    add-wide-number
+    mul-wide-number-2
+    shared-slice-read-wide-number-2
+    wide-number-requires-2
     loop-less
     loop-again
     returns-2)

@@ -2,10 +2,6 @@
 use Rattle.raw_types.proofs.Turned.{first-pieces}
 use Rattle.raw_types.proofs.types.put_first.Statement.{statement}
 use Rattle.raw_types.proofs.types.put_first.Tie as tie
-use Rattle.raw_types.proofs.types.put_first.Reads as reads
-use Rattle.raw_types.proofs.types.put_first.Lts as lts
-use Rattle.places.proofs.first_byte.Reads as first-byte-reads
-use Rattle.raw_types.proofs.types.put_raw_piece.Reads as put-raw-piece-reads
 
 sub-first-byte : tie.Need-sub-first-byte
 sub-first-byte c = search first-pieces

@@ -2,11 +2,6 @@
 use Rattle.raw_types.proofs.Turned.{plains}
 use Rattle.raw_types.proofs.types.put_plain.Statement.{statement}
 use Rattle.raw_types.proofs.types.put_plain.Tie as tie
-use Rattle.raw_types.proofs.types.put_plain.Reads as reads
-use Rattle.raw_types.proofs.types.put_plain.Lts as lts
-use Rattle.places.proofs.first_byte.Reads as first-byte-reads
-use Rattle.raw_types.proofs.write.put_closed.Reads as put-closed-reads
-use Rattle.raw_types.proofs.write.put_name.Reads as put-name-reads
 
 sub-first-byte : tie.Need-sub-first-byte
 sub-first-byte c = search plains

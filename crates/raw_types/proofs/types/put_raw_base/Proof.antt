@@ -2,10 +2,6 @@
 use Rattle.raw_types.proofs.Typed.{base-turns}
 use Rattle.raw_types.proofs.types.put_raw_base.Statement.{statement}
 use Rattle.raw_types.proofs.types.put_raw_base.Tie as tie
-use Rattle.raw_types.proofs.types.put_raw_base.Reads as reads
-use Rattle.raw_types.proofs.types.put_raw_base.Lts as lts
-use Rattle.raw_types.proofs.types.put_raw_pieces.Reads as put-raw-pieces-reads
-use Rattle.raw_types.proofs.write.put_bytes.Reads as put-bytes-reads
 
 enum-known-base : tie.Need-enum-known-base
 enum-known-base c = search base-turns

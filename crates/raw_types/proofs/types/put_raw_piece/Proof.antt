@@ -2,12 +2,6 @@
 use Rattle.raw_types.proofs.Turned.{turning-one}
 use Rattle.raw_types.proofs.types.put_raw_piece.Statement.{statement}
 use Rattle.raw_types.proofs.types.put_raw_piece.Tie as tie
-use Rattle.raw_types.proofs.types.put_raw_piece.Reads as reads
-use Rattle.raw_types.proofs.types.put_raw_piece.Lts as lts
-use Rattle.raw_types.proofs.search.last_class.Reads as last-class-reads
-use Rattle.raw_types.proofs.search.wide.Reads as wide-reads
-use Rattle.raw_types.proofs.write.put_copy.Reads as put-copy-reads
-use Rattle.raw_types.proofs.write.put_piece.Reads as put-piece-reads
 
 last-class-requires : tie.Need-last-class-requires
 last-class-requires c κs = search turning-one

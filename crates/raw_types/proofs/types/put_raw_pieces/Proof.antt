@@ -4,10 +4,6 @@ use Prim.Native.Nat.{_-_}
 use lib.ListN.{length}
 use Rattle.raw_types.proofs.types.put_raw_pieces.Statement.{statement}
 use Rattle.raw_types.proofs.types.put_raw_pieces.Tie as tie
-use Rattle.raw_types.proofs.types.put_raw_pieces.Reads as reads
-use Rattle.raw_types.proofs.types.put_raw_pieces.Lts as lts
-use Rattle.raw_types.proofs.types.put_first.Reads as put-first-reads
-use Rattle.raw_types.proofs.types.put_plain.Reads as put-plain-reads
 
 abbrev Inv-loop : tie.InvT-loop
 Inv-loop pool₀ at text dots classes index start₀ next₀ pool start next = Going classes pool₀ at dots text pool start next

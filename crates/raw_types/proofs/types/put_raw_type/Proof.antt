@@ -2,11 +2,6 @@
 use Rattle.raw_types.proofs.Typed.{raw-types}
 use Rattle.raw_types.proofs.types.put_raw_type.Statement.{statement}
 use Rattle.raw_types.proofs.types.put_raw_type.Tie as tie
-use Rattle.raw_types.proofs.types.put_raw_type.Reads as reads
-use Rattle.raw_types.proofs.types.put_raw_type.Lts as lts
-use Rattle.descriptor.proofs.type_shape.Reads as type-shape-reads
-use Rattle.raw_types.proofs.types.put_raw_base.Reads as put-raw-base-reads
-use Rattle.raw_types.proofs.write.put_bytes.Reads as put-bytes-reads
 
 type-shape-requires : tie.Need-type-shape-requires
 type-shape-requires c κs = search raw-types

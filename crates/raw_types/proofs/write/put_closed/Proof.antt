@@ -2,10 +2,6 @@
 use Rattle.raw_types.proofs.Writing.{closing}
 use Rattle.raw_types.proofs.write.put_closed.Statement.{statement}
 use Rattle.raw_types.proofs.write.put_closed.Tie as tie
-use Rattle.raw_types.proofs.write.put_closed.Reads as reads
-use Rattle.raw_types.proofs.write.put_closed.Lts as lts
-use Rattle.raw_types.proofs.write.put_bytes.Reads as put-bytes-reads
-use Rattle.raw_types.proofs.write.put_name.Reads as put-name-reads
 
 put-name-requires : tie.Need-put-name-requires
 put-name-requires c κs = search closing

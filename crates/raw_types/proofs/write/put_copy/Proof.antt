@@ -2,11 +2,9 @@
 use Rattle.raw_types.proofs.Writing.{copying}
 use Prim.Native.Nat.{_-_}
 use lib.ListN.{take, drop}
-use Rattle.descriptor.proofs.Writes.{Pasting}
+use Rattle.pool.proofs.Writes.{Pasting}
 use Rattle.raw_types.proofs.write.put_copy.Statement.{statement}
 use Rattle.raw_types.proofs.write.put_copy.Tie as tie
-use Rattle.raw_types.proofs.write.put_copy.Reads as reads
-use Rattle.raw_types.proofs.write.put_copy.Lts as lts
 
 abbrev Inv-loop : tie.InvT-loop
 Inv-loop pool₀ at place size k₀ pool k = Pasting pool₀ at (take size (drop place pool₀)) pool k

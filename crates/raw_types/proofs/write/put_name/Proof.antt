@@ -2,13 +2,10 @@
 use Rattle.raw_types.proofs.Writing.{naming}
 use Prim.Native.Nat.{_-_}
 use lib.ListN.{length}
-use Rattle.descriptor.proofs.Writes.{Pasting}
+use Rattle.pool.proofs.Writes.{Pasting}
 use Rattle.raw_types.specs.Raw.{nameBytes}
 use Rattle.raw_types.proofs.write.put_name.Statement.{statement}
 use Rattle.raw_types.proofs.write.put_name.Tie as tie
-use Rattle.raw_types.proofs.write.put_name.Reads as reads
-use Rattle.raw_types.proofs.write.put_name.Lts as lts
-use Rattle.raw_types.proofs.write.stored_byte.Reads as stored-byte-reads
 
 abbrev Inv-loop : tie.InvT-loop
 Inv-loop pool₀ at name dots end k₀ pool k = Pasting pool₀ at (nameBytes dots name) pool k

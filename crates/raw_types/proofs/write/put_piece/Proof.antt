@@ -2,10 +2,6 @@
 use Rattle.raw_types.proofs.Writing.{piecing}
 use Rattle.raw_types.proofs.write.put_piece.Statement.{statement}
 use Rattle.raw_types.proofs.write.put_piece.Tie as tie
-use Rattle.raw_types.proofs.write.put_piece.Reads as reads
-use Rattle.raw_types.proofs.write.put_piece.Lts as lts
-use Rattle.raw_types.proofs.write.put_bytes.Reads as put-bytes-reads
-use Rattle.raw_types.proofs.write.put_closed.Reads as put-closed-reads
 
 put-bytes-requires : tie.Need-put-bytes-requires
 put-bytes-requires c κs = search piecing

@@ -2,8 +2,6 @@
 use Rattle.raw_types.proofs.Writing.{storing}
 use Rattle.raw_types.proofs.write.stored_byte.Statement.{statement}
 use Rattle.raw_types.proofs.write.stored_byte.Tie as tie
-use Rattle.raw_types.proofs.write.stored_byte.Reads as reads
-use Rattle.raw_types.proofs.write.stored_byte.Lts as lts
 
 returns : tie.Need-returns
 returns c = search storing

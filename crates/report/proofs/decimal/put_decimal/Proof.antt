@@ -2,9 +2,6 @@
 use Rattle.report.proofs.Spelling.{spelling, Spelling}
 use Rattle.report.proofs.decimal.put_decimal.Statement.{statement}
 use Rattle.report.proofs.decimal.put_decimal.Tie as tie
-use Rattle.report.proofs.decimal.put_decimal.Reads as reads
-use Rattle.report.proofs.decimal.put_decimal.Lts as lts
-use Rattle.descriptor.proofs.put_text.Reads as put-text-reads
 
 abbrev Inv-loop : tie.InvT-loop
 Inv-loop out at n digits₀ first₀ rest₀ digits first rest = Spelling n digits first rest

@@ -2,9 +2,6 @@
 use Rattle.report.proofs.Adding.{adding}
 use Rattle.report.proofs.printing.add_decimal.Statement.{statement}
 use Rattle.report.proofs.printing.add_decimal.Tie as tie
-use Rattle.report.proofs.printing.add_decimal.Reads as reads
-use Rattle.report.proofs.printing.add_decimal.Lts as lts
-use Rattle.report.proofs.decimal.put_decimal.Reads as put-decimal-reads
 
 enum-known-before : tie.Need-enum-known-before
 enum-known-before c = search adding

@@ -2,10 +2,6 @@
 use Rattle.report.proofs.Adding.{adding}
 use Rattle.report.proofs.printing.add_item.Statement.{statement}
 use Rattle.report.proofs.printing.add_item.Tie as tie
-use Rattle.report.proofs.printing.add_item.Reads as reads
-use Rattle.report.proofs.printing.add_item.Lts as lts
-use Rattle.report.proofs.printing.add_decimal.Reads as add-decimal-reads
-use Rattle.report.proofs.printing.add_text.Reads as add-text-reads
 
 add-text-requires : tie.Need-add-text-requires
 add-text-requires c κs = search adding

@@ -4,9 +4,6 @@ use Rattle.ground.specs.Ascii.{ascii}
 use Rattle.report.proofs.Adding.{adding}
 use Rattle.report.proofs.printing.add_lines.Statement.{statement}
 use Rattle.report.proofs.printing.add_lines.Tie as tie
-use Rattle.report.proofs.printing.add_lines.Reads as reads
-use Rattle.report.proofs.printing.add_lines.Lts as lts
-use Rattle.report.proofs.printing.add_item.Reads as add-item-reads
 
 slice-aggregate-add-item : tie.Need-slice-aggregate-add-item
 slice-aggregate-add-item c = search adding

@@ -2,9 +2,6 @@
 use Rattle.report.proofs.Adding.{adding}
 use Rattle.report.proofs.printing.add_text.Statement.{statement}
 use Rattle.report.proofs.printing.add_text.Tie as tie
-use Rattle.report.proofs.printing.add_text.Reads as reads
-use Rattle.report.proofs.printing.add_text.Lts as lts
-use Rattle.descriptor.proofs.put_text.Reads as put-text-reads
 
 enum-known-before : tie.Need-enum-known-before
 enum-known-before c = search adding

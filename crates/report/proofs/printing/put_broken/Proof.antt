@@ -4,10 +4,6 @@ use Rattle.ground.specs.Ascii.{ascii}
 use Rattle.report.proofs.Adding.{adding}
 use Rattle.report.proofs.printing.put_broken.Statement.{statement}
 use Rattle.report.proofs.printing.put_broken.Tie as tie
-use Rattle.report.proofs.printing.put_broken.Reads as reads
-use Rattle.report.proofs.printing.put_broken.Lts as lts
-use Rattle.report.proofs.printing.add_item.Reads as add-item-reads
-use Rattle.report.proofs.printing.add_text.Reads as add-text-reads
 
 slice-aggregate-add-item : tie.Need-slice-aggregate-add-item
 slice-aggregate-add-item c = search adding

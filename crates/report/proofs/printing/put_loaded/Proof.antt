@@ -4,12 +4,6 @@ use Rattle.ground.specs.Ascii.{ascii}
 use Rattle.report.proofs.Adding.{adding}
 use Rattle.report.proofs.printing.put_loaded.Statement.{statement}
 use Rattle.report.proofs.printing.put_loaded.Tie as tie
-use Rattle.report.proofs.printing.put_loaded.Reads as reads
-use Rattle.report.proofs.printing.put_loaded.Lts as lts
-use Rattle.report.proofs.printing.add_item.Reads as add-item-reads
-use Rattle.report.proofs.printing.add_lines.Reads as add-lines-reads
-use Rattle.report.proofs.printing.add_rows.Reads as add-rows-reads
-use Rattle.report.proofs.printing.add_text.Reads as add-text-reads
 
 add-lines-requires : tie.Need-add-lines-requires
 add-lines-requires c κs = search adding

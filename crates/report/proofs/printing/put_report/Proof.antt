@@ -2,11 +2,6 @@
 use Rattle.report.proofs.Telling.{telling}
 use Rattle.report.proofs.printing.put_report.Statement.{statement}
 use Rattle.report.proofs.printing.put_report.Tie as tie
-use Rattle.report.proofs.printing.put_report.Reads as reads
-use Rattle.report.proofs.printing.put_report.Lts as lts
-use Rattle.report.proofs.printing.put_broken.Reads as put-broken-reads
-use Rattle.report.proofs.printing.put_loaded.Reads as put-loaded-reads
-use Rattle.report.proofs.printing.put_refused.Reads as put-refused-reads
 
 enum-known-load : tie.Need-enum-known-load
 enum-known-load c = search telling

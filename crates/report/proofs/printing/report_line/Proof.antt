@@ -2,9 +2,6 @@
 use Rattle.report.proofs.Bounds.{lining}
 use Rattle.report.proofs.printing.report_line.Statement.{statement}
 use Rattle.report.proofs.printing.report_line.Tie as tie
-use Rattle.report.proofs.printing.report_line.Reads as reads
-use Rattle.report.proofs.printing.report_line.Lts as lts
-use Rattle.report.proofs.printing.put_report.Reads as put-report-reads
 
 put-report-requires : tie.Need-put-report-requires
 put-report-requires c κs = search lining

@@ -2,9 +2,6 @@
 use Rattle.scan.proofs.Giving.{given-ones}
 use Rattle.scan.proofs.residual.gives_signature.Statement.{statement}
 use Rattle.scan.proofs.residual.gives_signature.Tie as tie
-use Rattle.scan.proofs.residual.gives_signature.Reads as reads
-use Rattle.scan.proofs.residual.gives_signature.Lts as lts
-use Rattle.scan.proofs.residual.signature_at.Reads as signature-at-reads
 
 signature-at-requires : tie.Need-signature-at-requires
 signature-at-requires c κs = search given-ones

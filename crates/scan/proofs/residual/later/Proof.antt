@@ -2,8 +2,6 @@
 use Rattle.scan.proofs.Giving.{later-ones}
 use Rattle.scan.proofs.residual.later.Statement.{statement}
 use Rattle.scan.proofs.residual.later.Tie as tie
-use Rattle.scan.proofs.residual.later.Reads as reads
-use Rattle.scan.proofs.residual.later.Lts as lts
 
 enum-known-line : tie.Need-enum-known-line
 enum-known-line c = search later-ones

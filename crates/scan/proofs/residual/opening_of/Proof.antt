@@ -2,10 +2,6 @@
 use Rattle.scan.proofs.Opened.{opened}
 use Rattle.scan.proofs.residual.opening_of.Statement.{statement}
 use Rattle.scan.proofs.residual.opening_of.Tie as tie
-use Rattle.scan.proofs.residual.opening_of.Reads as reads
-use Rattle.scan.proofs.residual.opening_of.Lts as lts
-use Rattle.line.proofs.read_line.Reads as read-line-reads
-use Rattle.text.proofs.trim_both.Reads as trim-both-reads
 
 trim-both-requires : tie.Need-trim-both-requires
 trim-both-requires c κs = search opened

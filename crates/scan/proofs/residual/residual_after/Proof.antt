@@ -4,12 +4,6 @@ use Prim.Native.Nat.{_-_}
 use lib.ListN.{length}
 use Rattle.scan.proofs.residual.residual_after.Statement.{statement}
 use Rattle.scan.proofs.residual.residual_after.Tie as tie
-use Rattle.scan.proofs.residual.residual_after.Reads as reads
-use Rattle.scan.proofs.residual.residual_after.Lts as lts
-use Rattle.places.proofs.next_line.Reads as next-line-reads
-use Rattle.scan.proofs.residual.later.Reads as later-reads
-use Rattle.scan.proofs.residual.opening_of.Reads as opening-of-reads
-use Rattle.scan.proofs.residual.signature_at.Reads as signature-at-reads
 
 abbrev Inv-loop : tie.InvT-loop
 Inv-loop text from found₀ at₀ found at = Following text from at found

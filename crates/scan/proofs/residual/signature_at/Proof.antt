@@ -2,10 +2,6 @@
 use Rattle.scan.proofs.Giving.{giving}
 use Rattle.scan.proofs.residual.signature_at.Statement.{statement}
 use Rattle.scan.proofs.residual.signature_at.Tie as tie
-use Rattle.scan.proofs.residual.signature_at.Reads as reads
-use Rattle.scan.proofs.residual.signature_at.Lts as lts
-use Rattle.scan.proofs.residual.string_of.Reads as string-of-reads
-use Rattle.text.proofs.trim_both.Reads as trim-both-reads
 
 enum-known-brace : tie.Need-enum-known-brace
 enum-known-brace c = search giving

@@ -2,10 +2,6 @@
 use Rattle.scan.proofs.Giving.{stringing}
 use Rattle.scan.proofs.residual.string_of.Statement.{statement}
 use Rattle.scan.proofs.residual.string_of.Tie as tie
-use Rattle.scan.proofs.residual.string_of.Reads as reads
-use Rattle.scan.proofs.residual.string_of.Lts as lts
-use Rattle.comment.proofs.is_residual.Reads as is-residual-reads
-use Rattle.comment.proofs.read_comment.Reads as read-comment-reads
 
 read-comment-requires : tie.Need-read-comment-requires
 read-comment-requires c κs = search stringing

@@ -4,13 +4,6 @@ use Prim.Native.Nat.{_-_}
 use lib.ListN.{length}
 use Rattle.scan.proofs.scan.scan_from.Statement.{statement}
 use Rattle.scan.proofs.scan.scan_from.Tie as tie
-use Rattle.scan.proofs.scan.scan_from.Reads as reads
-use Rattle.scan.proofs.scan.scan_from.Lts as lts
-use Rattle.line.proofs.read_line.Reads as read-line-reads
-use Rattle.places.proofs.next_line.Reads as next-line-reads
-use Rattle.scan.proofs.fates.counted.Reads as counted-reads
-use Rattle.scan.proofs.fates.fault.Reads as fault-reads
-use Rattle.scan.proofs.fates.member_after.Reads as member-after-reads
 
 abbrev Inv-loop : tie.InvT-loop
 Inv-loop text from has-member at₀ fates₀ member₀ at fates member = Scanning text from fates₀ has-member at fates member

@@ -1,0 +1,2 @@
+-- Laws of arguments.
+pub mod Listed

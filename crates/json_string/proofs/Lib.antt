@@ -1,0 +1,5 @@
+-- Laws of reading by places, one file a subject.
+pub mod Hex
+pub mod PieceLaws
+pub mod Strings
+pub mod Once

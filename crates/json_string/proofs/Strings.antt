@@ -1,0 +1,94 @@
+-- Strings, char by char: the rest decides, after the bytes that were passed. Assumes nothing.
+use mathlib.Core.Path.{_≡_, refl, sym, _∙_, ap}
+use mathlib.Core.List.{List, [], _++_}
+use Prim.Native.Nat.{ℕ, suc, _-_, _≤_, _<_}
+use native.Mathlib.Omega.{arith}
+use lib.ListN.{length, drop, drop-of-length-le}
+use lib.Seq.{drop-drop}
+use borrow.Author.Needs.{needs}
+use Rattle.rfc8259.specs.Reader as Reader
+use Rattle.rfc8259.specs.Reader.{bad, andThen, pieceOf, charsFrom}
+use Rattle.rfc8259.specs.Encode.{utf8}
+use Rattle.rfc8259.proofs.Items.{before, before-nothing, before-both}
+use Rattle.rfc8259.proofs.StringsAll.{chars-none, chars-stands, chars-close, chars-wrong}
+use Rattle.json_string.specs.declared.string.Piece.{Piece}
+use Rattle.json_string.specs.declared.string.Piece.the-variants.{Byte, Code, Closes, Wrong}
+use Rattle.json_string.specs.Means.{Reached}
+use Rattle.json_string.specs.Pieces.{Stood, Coded, Closed, PieceMeans}
+
+-- the answer is a code point
+pub coded-told : {s : List ℕ} {at : ℕ} {t : Piece} {p : Reader.Piece} {c n : ℕ} → t ≡ Code c n → PieceMeans s at t p → Coded s at n c p
+coded-told e m = rw e at m
+
+coded-stood : {s : List ℕ} {at : ℕ} {t : Piece} {p : Reader.Piece} {c n : ℕ} → t ≡ Code c n → PieceMeans s at t p → Stood s at n (utf8 c) p
+coded-stood e m = coded-told e m .stood
+
+pub record Stringing (s : List ℕ) (start at : ℕ) : Type 0 where
+  pub goes : start ≤ at
+  pub passed : List ℕ
+  pub decides : charsFrom 0 (drop start s) ≡ before passed (charsFrom 0 (drop at s))
+
+pub string-starts : (s : List ℕ) (start : ℕ) → Stringing s start start
+string-starts s start = record { goes = omega arith; passed = []; decides = before-nothing (charsFrom 0 (drop start s)) }
+
+pub starts-passed : (s : List ℕ) (start : ℕ) → string-starts s start .passed ≡ []
+unfolding string-starts
+starts-passed s start = refl
+
+module _ {s : List ℕ} {start at : ℕ} (k : Stringing s start at) where
+  pub string-cut : length s ≤ at → charsFrom 0 (drop start s) ≡ bad
+  unfolding andThen
+  string-cut h = k .decides ∙ rw (drop-of-length-le s h, chars-none)
+
+  pub stood-on : {n : ℕ} {v : List ℕ} → Stood s at n v (pieceOf (drop at s)) → Stringing s start n
+  stood-on {n} {v} m = record {
+    goes = omega (arith, k .goes, m .next);
+    passed = k .passed ++ v;
+    decides =
+        k .decides
+        ∙ ap (before (k .passed)) (chars-stands (drop at s) (m .is) ∙ ap (λ l. before v (charsFrom 0 l)) (drop-drop (suc (m .size)) at s ∙ ap (λ i. drop i s) (sym (m .next))))
+        ∙ before-both (k .passed) v (charsFrom 0 (drop n s));
+  }
+
+  pub stood-passed : {n : ℕ} {v : List ℕ} (m : Stood s at n v (pieceOf (drop at s))) → stood-on m .passed ≡ k .passed ++ v
+  unfolding stood-on
+  stood-passed m = refl
+
+  stood-falls : {n : ℕ} {v : List ℕ} → at < length s → Stood s at n v (pieceOf (drop at s)) → length s - n < length s - at
+  stood-falls h m = omega (arith, m .next, m .inside)
+
+  module _ {t : Piece} (m : PieceMeans s at t (pieceOf (drop at s))) where
+    pub byte-on : {b n : ℕ} → t ≡ Byte b n → Stringing s start n
+    byte-on e = stood-on (rw e at m)
+
+    pub code-on : {c n : ℕ} → t ≡ Code c n → Stringing s start n
+    code-on e = stood-on (coded-stood e m)
+
+    pub byte-falls : {b n : ℕ} → at < length s → t ≡ Byte b n → length s - n < length s - at
+    byte-falls h e = stood-falls h (rw e at m)
+
+    pub code-falls : {c n : ℕ} → at < length s → t ≡ Code c n → length s - n < length s - at
+    code-falls h e = stood-falls h (coded-stood e m)
+
+    pub string-closed : {n : ℕ} → t ≡ Closes n → Reached s n (charsFrom 0 (drop start s))
+    unfolding andThen
+    string-closed {n} e =
+        let c = closed e in
+        record {
+          inside = c .inside;
+          value = k .passed ++ [];
+          reads = k .decides ∙ rw (chars-close (drop at s) (c .is), drop-drop 1 at s, ← c .next);
+        }
+      where
+        closed : t ≡ Closes n → Closed s at n (pieceOf (drop at s))
+        closed f = rw f at m
+
+    pub closed-value : {n : ℕ} (e : t ≡ Closes n) → string-closed e .value ≡ k .passed ++ []
+    unfolding string-closed
+    closed-value e = refl
+
+    pub string-wrong : t ≡ Wrong → charsFrom 0 (drop start s) ≡ bad
+    unfolding andThen
+    string-wrong e = k .decides ∙ rw (chars-wrong (drop at s) (rw e at m))
+
+pub ruleset stringing = (string-starts, string-cut, byte-on, code-on, byte-falls, code-falls, string-closed, string-wrong, needs)

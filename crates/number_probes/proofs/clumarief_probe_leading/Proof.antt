@@ -1,0 +1,45 @@
+-- `number_probes::clumarief_probe_leading` meets its contract, by the laws of Said.
+use Rattle.number_probes.proofs.Said.{said}
+use Rattle.number_probes.proofs.clumarief_probe_leading.Statement.{statement}
+use Rattle.number_probes.proofs.clumarief_probe_leading.Tie as tie
+
+leading-range-requires : tie.Need-leading-range-requires
+leading-range-requires c κs = search said
+
+enum-known-start : tie.Need-enum-known-start
+enum-known-start c = search said
+
+cast-t8 : tie.Need-cast-t8
+cast-t8 c = search said
+
+cast-t9 : tie.Need-cast-t9
+cast-t9 c = search said
+
+enum-known-second-unread : tie.Need-enum-known-second-unread
+enum-known-second-unread c = search said
+
+bit-number-requires : tie.Need-bit-number-requires
+bit-number-requires c κs = search said
+
+cast-t12 : tie.Need-cast-t12
+cast-t12 c = search said
+
+returns : tie.Need-returns
+returns c = search said
+
+returns-2 : tie.Need-returns-2
+returns-2 c = search said
+
+pub clumarief-probe-leading-spec : {M : Type 1} → statement M
+clumarief-probe-leading-spec =
+    tie.close
+    (tie.spec
+    leading-range-requires
+    enum-known-start
+    cast-t8
+    cast-t9
+    enum-known-second-unread
+    bit-number-requires
+    cast-t12
+    returns
+    returns-2)

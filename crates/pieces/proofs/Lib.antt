@@ -1,0 +1,3 @@
+-- Laws of class pieces.
+pub mod Parted
+pub mod Turning

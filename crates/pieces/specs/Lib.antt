@@ -1,0 +1,2 @@
+-- Class pieces: the written rules, from document 01 "Descriptors".
+pub mod Pieces

@@ -1,0 +1,3 @@
+-- Laws of rows.
+pub mod Packing
+pub mod Zeroing

@@ -1,0 +1,2 @@
+-- Rows: the written rules, from document 01 "Rows and names".
+pub mod Rows
