@@ -30,11 +30,16 @@ fn block_holds(s: &[u8], at: usize, b: u8) -> bool
     holds
 }
 
-// A place up to which no byte from `from` on is `b`, by whole blocks.
+// A place up to which no byte from `from` on is `b`, by whole blocks. No block is asked where the byte stands first, as in a text of blank lines.
 pub fn after_blocks(s: &[u8], from: usize, b: u8) -> usize
     requires { ⌜ from ≤ length (now s) ⌝ }
     ensures { λ r. ⌜ Without b (now (s .entry)) from r ⌝ }
 {
+    if from < s.len() {
+        if s[from] == b {
+            return from;
+        }
+    }
     let mut at = from;
     while 16 <= s.len() - at {
         if block_holds(s, at, b) {

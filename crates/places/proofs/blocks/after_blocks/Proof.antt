@@ -12,6 +12,12 @@ Inv-loop s from b at₀ at = Without b s «from» at
 abbrev μ-loop : tie.MeasureT-loop
 μ-loop s from b at₀ at = length s - at
 
+shared-slice-read-if2 : tie.Need-shared-slice-read-if2 Inv-loop μ-loop
+shared-slice-read-if2 c = search blocks
+
+returns : tie.Need-returns Inv-loop μ-loop
+returns c = search blocks
+
 loop-holds : tie.Need-loop-holds Inv-loop μ-loop
 loop-holds c = search blocks
 
@@ -21,8 +27,8 @@ sub-loop c = search blocks
 block-holds-requires : tie.Need-block-holds-requires Inv-loop μ-loop
 block-holds-requires c κs = search blocks
 
-returns : tie.Need-returns Inv-loop μ-loop
-returns c = search blocks
+returns-2 : tie.Need-returns-2 Inv-loop μ-loop
+returns-2 c = search blocks
 
 add-at : tie.Need-add-at Inv-loop μ-loop
 add-at c = search blocks
@@ -33,8 +39,8 @@ loop-less c = search blocks
 loop-again : tie.Need-loop-again Inv-loop μ-loop
 loop-again c = search blocks
 
-returns-2 : tie.Need-returns-2 Inv-loop μ-loop
-returns-2 c = search blocks
+returns-3 : tie.Need-returns-3 Inv-loop μ-loop
+returns-3 c = search blocks
 
 pub after-blocks-spec : {M : Type 1} → statement M
 after-blocks-spec =
@@ -42,11 +48,13 @@ after-blocks-spec =
     (tie.spec
     Inv-loop
     μ-loop
+    shared-slice-read-if2
+    returns
     loop-holds
     sub-loop
     block-holds-requires
-    returns
+    returns-2
     add-at
     loop-less
     loop-again
-    returns-2)
+    returns-3)
