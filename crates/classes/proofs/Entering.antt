@@ -5,7 +5,6 @@ use Prim.Native.Nat.{ℕ, _+_, _-_, _≤_, _<_}
 use native.Mathlib.Omega.{arith}
 use lib.ListN.{length, set, take, drop}
 use borrow.Author.Needs.{needs}
-use Rattle.text.specs.declared.trim.Span.{Span}
 use Rattle.pool.specs.declared.write.Wrote.{Wrote}
 use Rattle.pool.specs.declared.write.Wrote.the-variants as wrote
 use Rattle.pool.specs.Names.{classDescriptor}
@@ -15,6 +14,7 @@ use Rattle.pool.proofs.Writes.{wrote-told, wrote-none, wrote-then, none-then}
 use Rattle.rows.specs.Rows.{text, packClass}
 use Rattle.raw_types.specs.Marks.{markOf, chained}
 use Rattle.mapping.specs.Classes.{classText, classRow}
+use Rattle.classes.specs.declared.names.ClassNames.{ClassNames}
 use Rattle.classes.specs.declared.entry.PairPlaces.{PairPlaces}
 use Rattle.classes.specs.declared.entry.PairPlaces.the-variants.{At, NoRoom}
 use Rattle.classes.specs.Names.{classNamed}
@@ -54,14 +54,14 @@ row-same at m q k e f =
     let b : q - m ≡ length (k .display) = omega arith in
     rw (a, b, e)
 
-module _ (d : List ℕ) (at : ℕ) (l : List ℕ) (display raw : Span) (r : PairPlaces) (d₁ : List ℕ)
-    (w : PairBy r d at (classDescriptor (take (raw .«end» - raw .start) (drop (raw .start) l))) (classDescriptor (take (display .«end» - display .start) (drop (display .start) l))) d₁) where
-  pub enter-none : r ≡ NoRoom → length d < at + length (classText (classNamed l display raw))
-  enter-none e = pair-none r d at (classNamed l display raw .raw) (classNamed l display raw .display) d₁ w e
+module _ (d : List ℕ) (at : ℕ) (l : List ℕ) (ns : ClassNames) (r : PairPlaces) (d₁ : List ℕ)
+    (w : PairBy r d at (classDescriptor (take (ns .raw .«end» - ns .raw .start) (drop (ns .raw .start) l))) (classDescriptor (take (ns .display .«end» - ns .display .start) (drop (ns .display .start) l))) d₁) where
+  pub enter-none : r ≡ NoRoom → length d < at + length (classText (classNamed l ns))
+  enter-none e = pair-none r d at (classNamed l ns .raw) (classNamed l ns .display) d₁ w e
 
   module _ {m q : ℕ} (e : r ≡ At m q) where
-    there : PairAt m q d at (classNamed l display raw .raw) (classNamed l display raw .display) d₁
-    there = pair-told r d at (classNamed l display raw .raw) (classNamed l display raw .display) d₁ w e
+    there : PairAt m q d at (classNamed l ns .raw) (classNamed l ns .display) d₁
+    there = pair-told r d at (classNamed l ns .raw) (classNamed l ns .display) d₁ w e
 
     pub enter-first : at ≤ m
     enter-first = let s = there .second in omega arith
@@ -73,11 +73,11 @@ module _ (d : List ℕ) (at : ℕ) (l : List ℕ) (display raw : Span) (r : Pair
     enter-inside h = let p = there .written .past in let o = there .written .room in omega arith
 
     pub enter-done : {row : List ℕ} → row ≡ packClass (record { raw = text at (m - at); display = text m (q - m) }) →
-        (c : List (List ℕ)) (i : List ℕ) (count : ℕ) {i₁ : List ℕ} → i₁ ≡ chained i (markOf (classDescriptor (take (display .«end» - display .start) (drop (display .start) l)))) count →
-        EnteredAt q (classNamed l display raw) count at c i d (set c count row) i₁ d₁
+        (c : List (List ℕ)) (i : List ℕ) (count : ℕ) {i₁ : List ℕ} → i₁ ≡ chained i (markOf (classDescriptor (take (ns .display .«end» - ns .display .start) (drop (ns .display .start) l)))) count →
+        EnteredAt q (classNamed l ns) count at c i d (set c count row) i₁ d₁
     enter-done f c i count g = record {
       written = there .written;
-      row = ap (set c count) (f ∙ row-same at m q (classNamed l display raw) (there .second) (there .after));
+      row = ap (set c count) (f ∙ row-same at m q (classNamed l ns) (there .second) (there .after));
       marked = g;
     }
 

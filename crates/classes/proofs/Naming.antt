@@ -33,7 +33,7 @@ module _ (l : List ℕ) {t : Line} (e : t ≡ lineOf l) where
   pub read-refused : {k : ℕ} → t ≡ kinds.Refused k → classIn l (lineOf l) ≡ []
   read-refused f = ap (classIn l) (sym e ∙ f)
 
-  pub read-class : {d r : Span} → t ≡ kinds.Class d r → NamedAt l d r
+  pub read-class : {d r : Span} → t ≡ kinds.Class d r → NamedAt l (record { display = d; raw = r })
   read-class {d} {r} f =
       let lies : LineIn (kinds.Class d r) (trimBoth l .«end») = rw (sym e ∙ f) at (line-lies l) in
       record {

@@ -13,7 +13,6 @@ use Rattle.places.specs.declared.lines.NextLine.{NextLine}
 use Rattle.places.specs.declared.lines.NextLine.the-variants.{Line, NoLine}
 use Rattle.places.specs.Lines.{lines, nextLine}
 use Rattle.places.proofs.Taking.{Taken, line-taken, none-taken, end-taken}
-use Rattle.text.specs.declared.trim.Span.{Span}
 use Rattle.parts.specs.Spans.{Lies}
 use Rattle.line.specs.Kinds.{lineOf}
 use Rattle.pool.specs.declared.write.Wrote.{Wrote}
@@ -27,6 +26,7 @@ use Rattle.raw_types.proofs.Indexing.{indexed-none, indexed-class, read-back-cl
 use Rattle.raw_types.proofs.Writing.{wrote-as}
 use Rattle.mapping.specs.Classes.{classIn, classesOf, classText, classPool, classRow, classRows}
 use Rattle.mapping.proofs.Appended.{join-more, join-append, class-rows-length, class-rows-more}
+use Rattle.classes.specs.declared.names.ClassNames.{ClassNames}
 use Rattle.classes.specs.declared.names.ClassLine.{ClassLine}
 use Rattle.classes.specs.declared.names.ClassLine.the-variants.{Names, Other}
 use Rattle.classes.specs.Names.{classNamed, NamedAt, NamedBy}
@@ -111,14 +111,14 @@ finish {done} {ls} {c} {p} {count} {q} {c₁} {i₁} {p₁} e w =
     let o = v .room in
     record { counted = n; room = omega arith; rows = v .rows; texts = v .texts; indexed = v .indexed; back = v .back }
 
-named-told : (t : ClassLine) (l : List ℕ) {display raw : Span} → NamedBy t l → t ≡ Names display raw → NamedAt l display raw
+named-told : (t : ClassLine) (l : List ℕ) {ns : ClassNames} → NamedBy t l → t ≡ Names ns → NamedAt l ns
 named-told t l w e = rw e at w
 
-module _ (t : ClassLine) (l : List ℕ) {display raw : Span} (w : NamedBy t l) (e : t ≡ Names display raw) where
-  pub display-there : Lies display (length l)
+module _ (t : ClassLine) (l : List ℕ) {ns : ClassNames} (w : NamedBy t l) (e : t ≡ Names ns) where
+  pub display-there : Lies (ns .display) (length l)
   display-there = named-told t l w e .display-lies
 
-  pub raw-there : Lies raw (length l)
+  pub raw-there : Lies (ns .raw) (length l)
   raw-there = named-told t l w e .raw-lies
 
 other-told : (t : ClassLine) (l : List ℕ) → NamedBy t l → t ≡ Other → classIn l (lineOf l) ≡ []
@@ -177,12 +177,12 @@ module _ {s : List ℕ} {c : List (List ℕ)} {i p : List ℕ} {at count q : ℕ
           written = w .written;
         }
 
-        module _ {display raw : Span} (f : k ≡ Names display raw) where
-          there : NamedAt (take (e - a) (drop a s)) display raw
+        module _ {ns : ClassNames} (f : k ≡ Names ns) where
+          there : NamedAt (take (e - a) (drop a s)) ns
           there = named-told k (take (e - a) (drop a s)) z f
 
           abbrev class : Pair
-          class = classNamed (take (e - a) (drop a s)) display raw
+          class = classNamed (take (e - a) (drop a s)) ns
 
           split-class : classesOf (lines s) ≡ (w .done ++ (class ∷ [])) ++ classesOf (lines (drop n s))
           split-class = split-here ∙ ap (λ cs. w .done ++ (cs ++ classesOf (lines (drop n s)))) (there .is) ∙ sym (append-assoc (w .done) (class ∷ []) (classesOf (lines (drop n s))))
@@ -227,6 +227,3 @@ module _ {s : List ℕ} {c : List (List ℕ)} {i p : List ℕ} {at count q : ℕ
 
 pub ruleset writing =
     (writing-starts, writing-ends, writing-size, writing-pool, writing-count, writing-fits, writing-none, writing-order, writing-inside, writing-falls, writing-other, display-there, raw-there, writing-few, writing-short, writing-more, needs)
-
--- For the needs of the call that enters a class.
-pub ruleset calling = (writing-order, writing-inside, writing-fits, writing-size, writing-pool, writing-count, display-there, raw-there, needs)

@@ -1,4 +1,5 @@
 // One class: its descriptors in the pool, its row, and its mark in the index.
+use crate::names::ClassNames;
 use pool::Wrote;
 use pool::put_class;
 use raw_types::mark_class;
@@ -6,7 +7,6 @@ use rows::Class;
 use rows::ClassRow;
 use rows::Text;
 use rows::pack_class;
-use text::Span;
 ghost use mathlib.Core.Path.{_≡_};
 ghost use Prim.Native.Nat.{_≤_, _<_, _-_};
 ghost use lib.ListN.{length};
@@ -62,16 +62,15 @@ pub fn enter_class(
     count: usize,
     at: usize,
     line: &[u8],
-    display: Span,
-    raw: Span,
+    names: ClassNames,
 ) -> Wrote
-    requires { ⌜ (count < length (now classes)) × (count < 4096) × (length (now index) ≡ 12288) × (length (now pool) ≤ 4194304) × Lies display (length (now line)) × Lies raw (length (now line)) ⌝ }
-    ensures { λ r. ⌜ EnteredBy r (classNamed (now (line .entry)) display raw) count at (now (classes .entry)) (now (index .entry)) (now (pool .entry)) (now (classes .exit)) (now (index .exit)) (now (pool .exit)) ⌝ }
+    requires { ⌜ (count < length (now classes)) × (count < 4096) × (length (now index) ≡ 12288) × (length (now pool) ≤ 4194304) × Lies (names .display) (length (now line)) × Lies (names .raw) (length (now line)) ⌝ }
+    ensures { λ r. ⌜ EnteredBy r (classNamed (now (line .entry)) names) count at (now (classes .entry)) (now (index .entry)) (now (pool .entry)) (now (classes .exit)) (now (index .exit)) (now (pool .exit)) ⌝ }
 {
-    let start = raw.start;
-    let end = raw.end;
-    let first = display.start;
-    let last = display.end;
+    let start = names.raw.start;
+    let end = names.raw.end;
+    let first = names.display.start;
+    let last = names.display.end;
     let PairPlaces::At { middle, next } = put_pair(pool, at, &line[start..end], &line[first..last])
     else {
         return Wrote::NoRoom;

@@ -4,8 +4,13 @@ use line::read_line;
 use text::Span;
 ghost use Rattle.classes.specs.Names.{NamedBy};
 
+pub struct ClassNames {
+    pub display: Span,
+    pub raw: Span,
+}
+
 pub enum ClassLine {
-    Names { display: Span, raw: Span },
+    Names(ClassNames),
     Other,
 }
 
@@ -28,7 +33,7 @@ pub fn class_line(line: &[u8]) -> ClassLine
     match read_line(line) {
         Line::Blank => ClassLine::Other,
         Line::Comment(_) => ClassLine::Other,
-        Line::Class { display, raw } => ClassLine::Names { display, raw },
+        Line::Class { display, raw } => ClassLine::Names(ClassNames { display, raw }),
         Line::Field {
             declared: _,
             name: _,

@@ -41,23 +41,15 @@ pub fn write_classes(
         else {
             return Classes::Written { count, end };
         };
-        let ClassLine::Names { display, raw } = class_line(&text[start..stop]) else {
+        let line = &text[start..stop];
+        let ClassLine::Names(names) = class_line(line) else {
             at = next;
             continue;
         };
         if classes.len() <= count {
             return Classes::FewRows;
         }
-        let Wrote::Done(after) = enter_class(
-            classes,
-            index,
-            pool,
-            count,
-            end,
-            &text[start..stop],
-            display,
-            raw,
-        ) else {
+        let Wrote::Done(after) = enter_class(classes, index, pool, count, end, line, names) else {
             return Classes::ShortPool;
         };
         at = next;

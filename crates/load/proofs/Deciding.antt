@@ -82,11 +82,13 @@ module _ (f : Fates) (names : ℕ) where
 pub ruleset accepting = (accepted-none, accepted-all, needs)
 
 -- All lines.
-pub none-within : (n : ℕ) → Within noFates n
-none-within n = record { lines = omega arith; blank = omega arith; applied = omega arith; idle = omega arith; class = omega arith; field = omega arith; method = omega arith; short = omega arith }
+module _ {f : Fates} (e : f ≡ noFates) where
+  pub none-within : (n : ℕ) → Within f n
+  none-within n =
+      rw e (record { lines = omega arith; blank = omega arith; applied = omega arith; idle = omega arith; class = omega arith; field = omega arith; method = omega arith; short = omega arith })
 
-pub scan-whole : (s : List ℕ) {r : Scan} → r ≡ scanOn noFates false (lines (drop 0 s)) → r ≡ scanOf (lines s)
-scan-whole s e = e ∙ from-nothing (lines s)
+  pub scan-whole : (s : List ℕ) {r : Scan} → r ≡ scanOn f false (lines (drop 0 s)) → r ≡ scanOf (lines s)
+  scan-whole s g = g ∙ ap (λ x. scanOn x false (lines s)) e ∙ from-nothing (lines s)
 
 pub ruleset scanning-all = (none-within, scan-whole, needs)
 

@@ -8,6 +8,7 @@ use members::Filled;
 use members::write_members;
 use rows::ClassRow;
 use rows::MemberRow;
+use scan::no_fates;
 use scan::scan_from;
 ghost use mathlib.Core.Path.{_≡_};
 ghost use Prim.Native.Nat.{_≤_};
@@ -43,17 +44,7 @@ fn scan_all(text: &[u8]) -> Scan
     requires { ⌜ length (now text) ≤ 1048576 ⌝ }
     ensures { λ r. ⌜ r ≡ scanOf (lines (now (text .entry))) ⌝ }
 {
-    let none = Fates {
-        lines: 0,
-        blank: 0,
-        applied: 0,
-        idle: 0,
-        class: 0,
-        field: 0,
-        method: 0,
-        short: 0,
-    };
-    scan_from(text, 0, none, false)
+    scan_from(text, 0, no_fates(), false)
 }
 
 // The answer once all is written.

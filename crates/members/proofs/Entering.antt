@@ -110,6 +110,15 @@ module _ (u : Under) (l : List ℕ) where
   under-member (kinds.Method m r) e = ap (λ n. under n (u .own)) (sym (add-zero (u .count)))
   under-member (kinds.Refused n) e = ap (λ n. under n (u .own)) (sym (add-zero (u .count)))
 
+-- A member line is no class line.
+pub member-counts : (k : Line) {p : MemberLine} → roleOf k ≡ Member p → classLine k ≡ 0
+member-counts kinds.Blank e = refl
+member-counts (kinds.Comment b) e = refl
+member-counts (kinds.Class d r) e = absurd (let z : _≡_ {A = ℕ} 0 1 = cc in omega arith)
+member-counts (kinds.Field d n r) e = refl
+member-counts (kinds.Method m r) e = refl
+member-counts (kinds.Refused n) e = refl
+
 -- A member line without a fault stands under a class line.
 some-class : (c : ℕ) → ownerless c 0 ≡ 0 → 1 ≤ c
 some-class c e = go (eqb c 0) refl e

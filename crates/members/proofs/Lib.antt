@@ -2,4 +2,5 @@
 pub mod Rowed
 pub mod Entering
 pub mod Stepping
+pub mod Slots
 pub mod Filling

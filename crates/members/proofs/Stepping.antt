@@ -19,6 +19,7 @@ use Rattle.mapping.specs.declared.Scan.the-variants as scan
 use Rattle.mapping.specs.Fates.{plus, fateOf, memberAfter, faultOf}
 use Rattle.scan.specs.Bounds.{Within}
 use Rattle.scan.proofs.Scanning.{scanOn, within-more, scan-fault}
+use Rattle.members.specs.declared.step.LineStep.{LineStep}
 use Rattle.members.specs.declared.step.Step.{Step}
 use Rattle.members.specs.declared.step.Step.the-variants as steps
 use Rattle.members.specs.declared.role.Role.{Role}
@@ -58,7 +59,7 @@ module _ (s : List ℕ) (at : ℕ) (f : Fates) (member : Bool) where
               ∙ ap (λ y. scan.Faulty y (f .lines + 1)) (sym told)
 
           pub step-line : number ≡ 0 → {g : Fates} → g ≡ plus f (fateOf member (take (e - a) (drop a s)) kind) → {has : Bool} → has ≡ memberAfter member kind →
-              {role : Role} → role ≡ roleOf kind → StepLine s at f member a e n g has role
+              {role : Role} → role ≡ roleOf kind → StepLine s at f member (record { start = a; «end» = e; next = n; sum = g; «has_member» = has; role = role })
           step-line z u v y = record {
             taken = line-taken s at b q;
             clean = sym told ∙ z;
@@ -71,7 +72,7 @@ pub ruleset stepping = (step-fits, step-bounds, step-end, step-order, step-insid
 
 -- What it said.
 module _ (s : List ℕ) (at : ℕ) (f : Fates) (member : Bool) where
-  pub step-told : (r : Step) → StepBy r s at f member → {a e n : ℕ} {g : Fates} {has : Bool} {role : Role} → r ≡ steps.Line a e n g has role → StepLine s at f member a e n g has role
+  pub step-told : (r : Step) → StepBy r s at f member → {x : LineStep} → r ≡ steps.Line x → StepLine s at f member x
   step-told r w q = rw q at w
 
   pub step-ended : (r : Step) → StepBy r s at f member → r ≡ steps.End → lines (drop at s) ≡ []

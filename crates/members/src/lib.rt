@@ -1,4 +1,5 @@
 // Member rows, written with their texts while the lines of a text are read.
+mod enter;
 mod fill;
 mod role;
 mod row;

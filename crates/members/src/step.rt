@@ -14,21 +14,20 @@ ghost use lib.ListN.{length};
 ghost use Rattle.scan.specs.Bounds.{Within};
 ghost use Rattle.members.specs.Steps.{StepBy};
 
+// Where a line stands and where the next one starts; what is counted with it; what it is.
+pub struct LineStep {
+    pub start: usize,
+    pub end: usize,
+    pub next: usize,
+    pub sum: Fates,
+    pub has_member: bool,
+    pub role: Role,
+}
+
 pub enum Step {
     End,
-    Faulty {
-        number: u32,
-        line: u32,
-    },
-    // Where the line stands and where the next one starts; what is counted with it; what it is.
-    Line {
-        start: usize,
-        end: usize,
-        next: usize,
-        sum: Fates,
-        has_member: bool,
-        role: Role,
-    },
+    Faulty { number: u32, line: u32 },
+    Line(LineStep),
 }
 
 // The line at the place `at`, where `fates` is what became of those before it.
@@ -47,12 +46,12 @@ pub fn next_step(text: &[u8], at: usize, fates: Fates, member: bool) -> Step
             line: fates.lines + 1,
         };
     }
-    Step::Line {
+    Step::Line(LineStep {
         start,
         end,
         next,
         sum: counted(fates, &text[start..end], kind, member),
         has_member: member_after(member, kind),
         role: role_of(kind),
-    }
+    })
 }

@@ -4,8 +4,24 @@ use line::Line;
 use mapping::Fates;
 ghost use mathlib.Core.Path.{_≡_};
 ghost use Rattle.line.specs.Kinds.{lineOf};
-ghost use Rattle.mapping.specs.Fates.{plus, commentFate, methodFate, fateOf, memberAfter, ownerless, faultOf};
+ghost use Rattle.mapping.specs.Fates.{noFates, plus, commentFate, methodFate, fateOf, memberAfter, ownerless, faultOf};
 ghost use Rattle.scan.specs.Bounds.{Within};
+
+// No line is counted yet.
+pub fn no_fates() -> Fates
+    ensures { λ r. ⌜ r ≡ noFates ⌝ }
+{
+    Fates {
+        lines: 0,
+        blank: 0,
+        applied: 0,
+        idle: 0,
+        class: 0,
+        field: 0,
+        method: 0,
+        short: 0,
+    }
+}
 
 // A comment that is applied, or one that is idle, is counted.
 fn comment_counted(fates: Fates, applies: bool) -> Fates

@@ -6,6 +6,7 @@ mod scan;
 pub use fates::counted;
 pub use fates::fault;
 pub use fates::member_after;
+pub use fates::no_fates;
 pub use residual::Residual;
 pub use residual::residual_after;
 pub use scan::scan_from;

@@ -39,8 +39,8 @@ returns c = search entering
 class-row-requires : tie.Need-class-row-requires
 class-row-requires c κs = search entering
 
-mul-t19 : tie.Need-mul-t19
-mul-t19 c = search entering
+mul-t18 : tie.Need-mul-t18
+mul-t18 c = search entering
 
 slice-set-from-classes : tie.Need-slice-set-from-classes
 slice-set-from-classes c = search entering
@@ -85,7 +85,7 @@ enter-class-spec =
     same-length
     returns
     class-row-requires
-    mul-t19
+    mul-t18
     slice-set-from-classes
     sub-mark-class
     part-mark-class-start

@@ -1,6 +1,5 @@
 -- `classes::write::write_classes` meets its contract, by the laws of Writing and an invariant that says what is done and what is left.
-use borrow.Author.Needs.{needs}
-use Rattle.classes.proofs.Writing.{writing, calling, writing-inside, writing-fits, Writing}
+use Rattle.classes.proofs.Writing.{writing, Writing}
 use Prim.Native.Nat.{_-_}
 use lib.ListN.{length}
 use Rattle.classes.proofs.write.write_classes.Statement.{statement}
@@ -36,20 +35,20 @@ same-length-3 c = search writing
 returns : tie.Need-returns Inv-loop μ-loop
 returns c = search writing
 
-sub-class-line : tie.Need-sub-class-line Inv-loop μ-loop
-sub-class-line c = search writing
+sub-line : tie.Need-sub-line Inv-loop μ-loop
+sub-line c = search writing
 
-part-class-line-start : tie.Need-part-class-line-start Inv-loop μ-loop
-part-class-line-start c = search writing
+part-line-start : tie.Need-part-line-start Inv-loop μ-loop
+part-line-start c = search writing
 
-part-class-line-end : tie.Need-part-class-line-end Inv-loop μ-loop
-part-class-line-end c = search writing
+part-line-end : tie.Need-part-line-end Inv-loop μ-loop
+part-line-end c = search writing
 
 class-line-requires : tie.Need-class-line-requires Inv-loop μ-loop
 class-line-requires c κs = search writing
 
-enum-known-display : tie.Need-enum-known-display Inv-loop μ-loop
-enum-known-display c = search writing
+enum-known-names : tie.Need-enum-known-names Inv-loop μ-loop
+enum-known-names c = search writing
 
 enum-told-2 : tie.Need-enum-told-2 Inv-loop μ-loop
 enum-told-2 c = search writing
@@ -72,17 +71,8 @@ same-length-6 c = search writing
 returns-2 : tie.Need-returns-2 Inv-loop μ-loop
 returns-2 c = search writing
 
-sub-enter-class : tie.Need-sub-enter-class Inv-loop μ-loop
-sub-enter-class c = search writing
-
-part-enter-class-start : tie.Need-part-enter-class-start Inv-loop μ-loop
-part-enter-class-start c = search calling
-
-part-enter-class-end : tie.Need-part-enter-class-end Inv-loop μ-loop
-part-enter-class-end c = writing-inside (c .before .before .before .before .before .before .before .before .before .before .before .before .before .before .loop .inv) (c .before .before .before .before .before .before .before .before .before .before .before .before .next-line .ensures) (c .before .before .before .before .before .before .before .before .before .before .start .given .1)
-
 enter-class-requires : tie.Need-enter-class-requires Inv-loop μ-loop
-enter-class-requires c κs = (search calling, search calling, search calling, search calling, search calling, search calling)
+enter-class-requires c κs = search writing
 
 enum-known-after : tie.Need-enum-known-after Inv-loop μ-loop
 enum-known-after c = search writing
@@ -103,7 +93,7 @@ returns-3 : tie.Need-returns-3 Inv-loop μ-loop
 returns-3 c = search writing
 
 add-count : tie.Need-add-count Inv-loop μ-loop
-add-count c = let f = writing-fits (c .before .before .before .before .before .before .before .before .before .before .before .before .before .before .before .before .before .before .before .before .before .before .before .before .loop .inv) (c .before .before .before .before .before .before .before .before .before .before .before .before .before .before .before .before .before .before .before .before .before .before .before .before .before .before .before .before .pre .1) in search (f, needs)
+add-count c = search writing
 
 loop-less-2 : tie.Need-loop-less-2 Inv-loop μ-loop
 loop-less-2 c = search writing
@@ -137,11 +127,11 @@ write-classes-spec =
     same-length-2
     same-length-3
     returns
-    sub-class-line
-    part-class-line-start
-    part-class-line-end
+    sub-line
+    part-line-start
+    part-line-end
     class-line-requires
-    enum-known-display
+    enum-known-names
     enum-told-2
     loop-less
     loop-again
@@ -149,9 +139,6 @@ write-classes-spec =
     same-length-5
     same-length-6
     returns-2
-    sub-enter-class
-    part-enter-class-start
-    part-enter-class-end
     enter-class-requires
     enum-known-after
     enum-told-3
