@@ -29,9 +29,9 @@ use Rattle.raw_types.proofs.Indexing.{read-back-put}
 use Rattle.raw_types.proofs.Writing.{wrote-as}
 use Rattle.mapping.specs.Comments.{residualIn}
 use Rattle.mapping.specs.Members.{ownerOf, typesDescriptor}
-use Rattle.scan.specs.declared.residual.Residual.{Residual}
-use Rattle.scan.specs.declared.residual.Residual.the-variants.{Text, Nothing}
-use Rattle.scan.specs.Residuals.{jsonPart, residualLook, Gives}
+use Rattle.residual.specs.declared.residual.Residual.{Residual}
+use Rattle.residual.specs.declared.residual.Residual.the-variants.{Text, Nothing}
+use Rattle.residual.specs.Residuals.{jsonPart, residualLook, Gives}
 use Rattle.member_texts.specs.declared.texts.Body.{Body}
 use Rattle.member_texts.specs.declared.texts.Body.the-variants.{Field, Method}
 use Rattle.member_texts.specs.declared.texts.MemberLine.{MemberLine}

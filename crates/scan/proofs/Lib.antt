@@ -1,7 +1,4 @@
 -- Laws, one file a subject.
-pub mod Giving
-pub mod Opened
-pub mod Following
 pub mod Counting
 pub mod Faults
 pub mod Scanning

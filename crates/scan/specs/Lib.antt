@@ -1,3 +1,2 @@
 -- What the functions over lines say, in terms of the rules of loading.
-pub mod Residuals
 pub mod Bounds

@@ -1,7 +1,7 @@
--- `scan::residual::gives_signature` meets its contract, by the laws of Giving.
-use Rattle.scan.proofs.Giving.{given-ones}
-use Rattle.scan.proofs.residual.gives_signature.Statement.{statement}
-use Rattle.scan.proofs.residual.gives_signature.Tie as tie
+-- `residual::residual::gives_signature` meets its contract, by the laws of Giving.
+use Rattle.residual.proofs.Giving.{given-ones}
+use Rattle.residual.proofs.residual.gives_signature.Statement.{statement}
+use Rattle.residual.proofs.residual.gives_signature.Tie as tie
 
 signature-at-requires : tie.Need-signature-at-requires
 signature-at-requires c κs = search given-ones

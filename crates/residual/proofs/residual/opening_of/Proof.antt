@@ -1,7 +1,7 @@
--- `scan::residual::opening_of` meets its contract, by the laws of Opened.
-use Rattle.scan.proofs.Opened.{opened}
-use Rattle.scan.proofs.residual.opening_of.Statement.{statement}
-use Rattle.scan.proofs.residual.opening_of.Tie as tie
+-- `residual::residual::opening_of` meets its contract, by the laws of Opened.
+use Rattle.residual.proofs.Opened.{opened}
+use Rattle.residual.proofs.residual.opening_of.Statement.{statement}
+use Rattle.residual.proofs.residual.opening_of.Tie as tie
 
 trim-both-requires : tie.Need-trim-both-requires
 trim-both-requires c κs = search opened

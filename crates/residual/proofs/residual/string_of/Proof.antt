@@ -1,7 +1,7 @@
--- `scan::residual::string_of` meets its contract, by the laws of Giving.
-use Rattle.scan.proofs.Giving.{stringing}
-use Rattle.scan.proofs.residual.string_of.Statement.{statement}
-use Rattle.scan.proofs.residual.string_of.Tie as tie
+-- `residual::residual::string_of` meets its contract, by the laws of Giving.
+use Rattle.residual.proofs.Giving.{stringing}
+use Rattle.residual.proofs.residual.string_of.Statement.{statement}
+use Rattle.residual.proofs.residual.string_of.Tie as tie
 
 read-comment-requires : tie.Need-read-comment-requires
 read-comment-requires c κs = search stringing

@@ -1,9 +1,9 @@
--- `scan::residual::residual_after` meets its contract, by the laws of Following and an invariant that says what is done and what is left.
-use Rattle.scan.proofs.Following.{following, Following}
+-- `residual::residual::residual_after` meets its contract, by the laws of Following and an invariant that says what is done and what is left.
+use Rattle.residual.proofs.Following.{following, Following}
 use Prim.Native.Nat.{_-_}
 use lib.ListN.{length}
-use Rattle.scan.proofs.residual.residual_after.Statement.{statement}
-use Rattle.scan.proofs.residual.residual_after.Tie as tie
+use Rattle.residual.proofs.residual.residual_after.Statement.{statement}
+use Rattle.residual.proofs.residual.residual_after.Tie as tie
 
 abbrev Inv-loop : tie.InvT-loop
 Inv-loop text from found₀ at₀ found at = Following text from at found

@@ -1,7 +1,7 @@
--- `scan::residual::signature_at` meets its contract, by the laws of Giving.
-use Rattle.scan.proofs.Giving.{giving}
-use Rattle.scan.proofs.residual.signature_at.Statement.{statement}
-use Rattle.scan.proofs.residual.signature_at.Tie as tie
+-- `residual::residual::signature_at` meets its contract, by the laws of Giving.
+use Rattle.residual.proofs.Giving.{giving}
+use Rattle.residual.proofs.residual.signature_at.Statement.{statement}
+use Rattle.residual.proofs.residual.signature_at.Tie as tie
 
 enum-known-brace : tie.Need-enum-known-brace
 enum-known-brace c = search giving

@@ -19,11 +19,11 @@ use Rattle.line.specs.Kinds.{lineOf}
 use Rattle.parts.proofs.Lying.{shift-lies, lies-more}
 use Rattle.pieces.specs.Pieces.{Look, known, unknown, orLook}
 use Rattle.mapping.specs.Comments.{signatureAt, residualBy, residualIn}
-use Rattle.scan.specs.declared.residual.Residual.{Residual}
-use Rattle.scan.specs.declared.residual.Residual.the-variants.{Text, Nothing}
-use Rattle.scan.specs.declared.residual.Opening.{Opening}
-use Rattle.scan.specs.declared.residual.Opening.the-variants.{Blank, Comment, Other}
-use Rattle.scan.specs.Residuals.{placeLook, jsonPart, residualLook, Gives, openingOf, laterOf}
+use Rattle.residual.specs.declared.residual.Residual.{Residual}
+use Rattle.residual.specs.declared.residual.Residual.the-variants.{Text, Nothing}
+use Rattle.residual.specs.declared.residual.Opening.{Opening}
+use Rattle.residual.specs.declared.residual.Opening.the-variants.{Blank, Comment, Other}
+use Rattle.residual.specs.Residuals.{placeLook, jsonPart, residualLook, Gives, openingOf, laterOf}
 
 or-unknown : (o : Look) → orLook o unknown ≡ o
 or-unknown (known s) = refl

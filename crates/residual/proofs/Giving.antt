@@ -27,9 +27,9 @@ use Rattle.line.proofs.Whole.{brace-inside}
 use Rattle.pieces.specs.Pieces.{unknown}
 use Rattle.mapping.specs.Comments.{saysResidual, stringAt, signatureBy, signatureOf, signatureAt}
 use Rattle.mapping.specs.Fates.{isKnown}
-use Rattle.scan.specs.declared.residual.Residual.{Residual}
-use Rattle.scan.specs.declared.residual.Residual.the-variants.{Text, Nothing}
-use Rattle.scan.specs.Residuals.{placeLook, jsonPart, residualLook, Gives, laterOf}
+use Rattle.residual.specs.declared.residual.Residual.{Residual}
+use Rattle.residual.specs.declared.residual.Residual.the-variants.{Text, Nothing}
+use Rattle.residual.specs.Residuals.{placeLook, jsonPart, residualLook, Gives, laterOf}
 
 -- The string of a JSON text.
 module _ (s : List ℕ) {c : comment.Comment} (e : c ≡ commentOf s) where

@@ -18,7 +18,7 @@ ghost use Rattle.line.specs.Kinds.{lineOf};
 ghost use Rattle.mapping.specs.Comments.{signatureOf, signatureAt, residualIn};
 ghost use Rattle.parts.specs.Spans.{shift, Lies, largest};
 ghost use Rattle.mapping.specs.Fates.{isKnown};
-ghost use Rattle.scan.specs.Residuals.{placeLook, jsonPart, openingOf, laterOf, Gives};
+ghost use Rattle.residual.specs.Residuals.{placeLook, jsonPart, openingOf, laterOf, Gives};
 
 // A string in a text: its JSON runs from `start` to `end`, and its first char stands at the place `string` of the JSON.
 pub enum Residual {

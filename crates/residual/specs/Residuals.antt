@@ -12,10 +12,10 @@ use Rattle.line.specs.declared.line.Line.{Line}
 use Rattle.line.specs.declared.line.Line.the-variants as kinds
 use Rattle.parts.specs.Spans.{span, partOf, Lies}
 use Rattle.pieces.specs.Pieces.{Look, known, unknown}
-use Rattle.scan.specs.declared.residual.Residual.{Residual}
-use Rattle.scan.specs.declared.residual.Residual.the-variants.{Text, Nothing}
-use Rattle.scan.specs.declared.residual.Opening.{Opening}
-use Rattle.scan.specs.declared.residual.Opening.the-variants.{Blank, Comment, Other}
+use Rattle.residual.specs.declared.residual.Residual.{Residual}
+use Rattle.residual.specs.declared.residual.Residual.the-variants.{Text, Nothing}
+use Rattle.residual.specs.declared.residual.Opening.{Opening}
+use Rattle.residual.specs.declared.residual.Opening.the-variants.{Blank, Comment, Other}
 
 -- the bytes of the string whose first char stands at a place
 abbrev pub placeLook : List ℕ → Place → Look

@@ -1,7 +1,7 @@
--- `scan::residual::later` meets its contract, by the laws of Giving.
-use Rattle.scan.proofs.Giving.{later-ones}
-use Rattle.scan.proofs.residual.later.Statement.{statement}
-use Rattle.scan.proofs.residual.later.Tie as tie
+-- `residual::residual::later` meets its contract, by the laws of Giving.
+use Rattle.residual.proofs.Giving.{later-ones}
+use Rattle.residual.proofs.residual.later.Statement.{statement}
+use Rattle.residual.proofs.residual.later.Tie as tie
 
 enum-known-line : tie.Need-enum-known-line
 enum-known-line c = search later-ones

@@ -25,8 +25,8 @@ use Rattle.parts.specs.Fields.{fieldOf}
 use Rattle.parts.specs.Methods.{methodOf}
 use Rattle.line.specs.Kinds.{classBy, classAt, methodBy, fieldBy, bySide, memberBy, memberAt, lineOf}
 use Rattle.line.proofs.Kinding.{line-blank, line-first, line-member, line-class}
-use Rattle.scan.specs.declared.residual.Opening.the-variants.{Blank, Comment, Other}
-use Rattle.scan.specs.Residuals.{openingOf}
+use Rattle.residual.specs.declared.residual.Opening.the-variants.{Blank, Comment, Other}
+use Rattle.residual.specs.Residuals.{openingOf}
 
 -- Class lines and member lines, faulty ones too, are neither blank nor comments.
 class-other : (by : ℕ) (s : List ℕ) → openingOf (classAt by s) ≡ Other

@@ -1,0 +1,4 @@
+-- Laws, one file a subject.
+pub mod Giving
+pub mod Opened
+pub mod Following

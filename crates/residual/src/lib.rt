@@ -1,0 +1,6 @@
+// The signatures that comments give.
+mod residual;
+
+pub use residual::Residual;
+pub use residual::gives_signature;
+pub use residual::residual_after;
