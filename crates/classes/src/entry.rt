@@ -10,7 +10,7 @@ use rows::pack_class;
 ghost use mathlib.Core.Path.{_≡_};
 ghost use Prim.Native.Nat.{_≤_, _<_, _-_};
 ghost use lib.ListN.{length};
-ghost use Rattle.parts.specs.Spans.{Lies, partOf};
+ghost use Rattle.parts.specs.Spans.{Lies};
 ghost use Rattle.pool.specs.Names.{classDescriptor};
 ghost use Rattle.rows.specs.Rows.{text, packClass};
 ghost use Rattle.classes.specs.Entries.{PairBy, EnteredBy};

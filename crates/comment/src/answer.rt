@@ -6,7 +6,7 @@ use json::skip_space;
 use json::structural_at;
 use json_string::After;
 ghost use mathlib.Core.Path.{_≡_};
-ghost use Prim.Native.Nat.{_+_, _≤_, _<_};
+ghost use Prim.Native.Nat.{_+_, _<_};
 ghost use lib.ListN.{length, drop};
 ghost use Rattle.ground.specs.Choice.{pick};
 ghost use Rattle.rfc8259.specs.Reader.{charsFrom};

@@ -2,7 +2,6 @@
 use json_string::Piece;
 use json_string::piece_at;
 ghost use mathlib.Core.Path.{_≡_};
-ghost use Prim.Native.Nat.{_≤_};
 ghost use lib.ListN.{length, drop};
 ghost use Rattle.rfc8259.specs.Encode.{utf8};
 ghost use Rattle.rfc8259.specs.Reader.{charsFrom};

@@ -1,8 +1,8 @@
 -- Raw signatures, where they stand in the pool. Assumes nothing.
 use mathlib.Core.Path.{_≡_, refl, sym, _∙_, ap}
 use mathlib.Core.Bool.{Bool, true, false}
-use mathlib.Core.List.{List, [], _∷_, _++_}
-use Prim.Native.Nat.{ℕ, zero, suc, _+_, _-_, _^_, _≤_, _<_}
+use mathlib.Core.List.{List, [], _∷_}
+use Prim.Native.Nat.{ℕ, suc, _+_, _-_, _^_, _≤_, _<_}
 use native.Mathlib.Numerals.{add-one}
 use native.Mathlib.Omega.{arith}
 use lib.Dec.{eqb}
@@ -12,7 +12,7 @@ use mir.Val.{Fits}
 use mir.Syntax.{w64}
 use borrow.Author.Tests.{eq-eqb, ne-eqb, eqb-true}
 use borrow.Author.Needs.{needs}
-use Rattle.ground.specs.Choice.{pick, both, either}
+use Rattle.ground.specs.Choice.{both, either}
 use Rattle.ground.specs.Put.{put}
 use Rattle.ground.proofs.Cases.{cases}
 use Rattle.ground.proofs.Parts.{drop-take}
@@ -22,10 +22,9 @@ use Rattle.places.specs.declared.find.Place.the-variants.{At, Nowhere}
 use Rattle.places.specs.Places.{lastWhere, starts}
 use Rattle.places.proofs.PlaceLaws.{last-inside}
 use Rattle.pool.specs.declared.write.Wrote.{Wrote}
-use Rattle.pool.specs.declared.write.Wrote.the-variants.{Done, NoRoom}
 use Rattle.pool.specs.Names.{slash, slashed, classDescriptor}
 use Rattle.descriptor.specs.Types.{partOf, keptText}
-use Rattle.descriptor.specs.Signatures.{isLetter, oneLetter, rawKept, rawType, afterClose, rawSignature}
+use Rattle.descriptor.specs.Signatures.{isLetter, rawKept, rawType, afterClose, rawSignature}
 use Rattle.pool.specs.Wrote.{Written, WroteBy}
 use Rattle.pool.proofs.Writes.{slashed-length, wrote-then}
 

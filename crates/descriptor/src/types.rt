@@ -6,8 +6,6 @@ use pool::put_class;
 use pool::put_text;
 use text::trim_both;
 ghost use mathlib.Core.Path.{_≡_};
-ghost use Prim.Native.Nat.{_≤_};
-ghost use lib.ListN.{length};
 ghost use Rattle.descriptor.specs.Types.{strippedOf, wordLetter, keptText, baseOf, baseBytes, shapeOf, typeDescriptor};
 ghost use Rattle.pool.specs.Wrote.{WroteBy};
 

@@ -1,13 +1,12 @@
 -- Answers as numbers. Assumes nothing.
 use mathlib.Core.Path.{_≡_, refl, sym, _∙_, ap}
-use mathlib.Core.Bool.{Bool, true, false, not}
+use mathlib.Core.Bool.{not}
 use mathlib.Core.List.{List, [], _∷_}
 use Prim.Native.Nat.{ℕ, _≤_, _<_}
-use lib.Dec.{eqb, ltb}
+use lib.Dec.{eqb}
 use lib.ListN.{length}
 use borrow.Author.Tests.{lt-ltb, le-ltb}
 use borrow.Author.Needs.{needs}
-use Rattle.ground.specs.Choice.{either}
 use Rattle.pool.specs.declared.write.Wrote.{Wrote}
 use Rattle.pool.specs.declared.write.Wrote.the-variants.{Done, NoRoom}
 use Rattle.pieces.specs.declared.pieces.Part as parts
@@ -15,7 +14,7 @@ use Rattle.pieces.specs.declared.pieces.Part.the-variants.{Piece, Plain, End}
 use Rattle.descriptor.specs.Types.{partOf}
 use Rattle.descriptor.specs.Signatures.{rawSignature}
 use Rattle.pool.specs.Wrote.{WroteBy}
-use Rattle.descriptor_probes.specs.Answers.{wroteNumbers, partNumbers, Said, SaidIf, SaidWithin}
+use Rattle.descriptor_probes.specs.Answers.{wroteNumbers, partNumbers, Said, SaidWithin}
 
 pub done-numbers : (w : Wrote) {q : ℕ} → w ≡ Done q → 1 ∷ q ∷ [] ≡ wroteNumbers w
 done-numbers w e = sym (ap wroteNumbers e)

@@ -4,8 +4,7 @@ use pieces::Part;
 use pool::Wrote;
 ghost use mathlib.Core.Path.{_≡_};
 ghost use Rattle.pool.specs.Names.{classDescriptor};
-ghost use Rattle.descriptor.specs.Types.{partOf, typeDescriptor};
-ghost use Rattle.descriptor.specs.Signatures.{rawSignature};
+ghost use Rattle.descriptor.specs.Types.{typeDescriptor};
 ghost use Rattle.pieces.specs.Pieces.{partAt};
 ghost use Rattle.descriptor_probes.specs.Answers.{wroteNumbers, partNumbers, Said, SaidWithin};
 

@@ -14,9 +14,8 @@ use utf8::Check;
 use utf8::check_text;
 ghost use mathlib.Core.Path.{_≡_};
 ghost use Prim.Native.Nat.{_≤_, min};
-ghost use lib.ListN.{length, drop, replicate};
+ghost use lib.ListN.{length, drop};
 ghost use Rattle.places.specs.Lines.{lines};
-ghost use Rattle.rows.specs.Rows.{zeroClass, zeroMember};
 ghost use Rattle.mapping.specs.Loading.{isLoaded, linesParse, linesStr};
 ghost use Rattle.load.specs.Loads.{Cleared, Left, Loads};
 

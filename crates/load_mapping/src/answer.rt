@@ -2,7 +2,6 @@
 use load::parse;
 use mapping::Load;
 use report::report_line;
-ghost use mathlib.Core.Path.{_≡_};
 ghost use Prim.Native.Nat.{_≤_};
 ghost use lib.ListN.{length};
 ghost use Rattle.pool.specs.Wrote.{Written};

@@ -8,7 +8,6 @@ use pool::Wrote;
 use pool::put_text;
 use raw_types::put_raw_type;
 use rows::ClassRow;
-ghost use mathlib.Core.Path.{_≡_};
 ghost use mathlib.Core.List.{_∷_};
 ghost use Prim.Native.Nat.{_≤_};
 ghost use lib.ListN.{length, drop};

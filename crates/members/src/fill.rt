@@ -10,7 +10,6 @@ use rows::ClassRow;
 use rows::MemberRow;
 use scan::no_fates;
 use scan::scan_from;
-ghost use mathlib.Core.Path.{_≡_};
 ghost use Prim.Native.Nat.{_≤_};
 ghost use lib.ListN.{length};
 ghost use Rattle.places.specs.Lines.{lines};

@@ -8,7 +8,6 @@ use places::next_line;
 use scan::counted;
 use scan::fault;
 use scan::member_after;
-ghost use mathlib.Core.Path.{_≡_};
 ghost use Prim.Native.Nat.{_≤_};
 ghost use lib.ListN.{length};
 ghost use Rattle.scan.specs.Bounds.{Within};

@@ -14,7 +14,7 @@ use Rattle.places.specs.declared.find.Place.the-variants.{At, Nowhere}
 use Rattle.places.specs.Places.{firstWhere, startsPair}
 use Rattle.places.proofs.Holds.{pair-inside}
 use Rattle.text.specs.declared.trim.Span.{Span}
-use Rattle.text.specs.Trim.{trimStart, trimBoth}
+use Rattle.text.specs.Trim.{trimBoth}
 use Rattle.text.proofs.TrimLaws.{trim-inside, trim-order}
 use Rattle.parts.specs.declared.arrow.Arrow.{Arrow}
 use Rattle.parts.specs.declared.arrow.Arrow.the-variants.{Sides, NoArrow}

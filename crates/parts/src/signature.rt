@@ -9,7 +9,6 @@ use text::Span;
 use text::trim_both;
 ghost use mathlib.Core.Path.{_≡_};
 ghost use Prim.Native.Nat.{_+_, _<_};
-ghost use lib.ListN.{length, take, drop};
 ghost use Rattle.parts.specs.Signatures.{nameOf, linesAfter, signatureOf};
 
 // A method's name, with its owner where it has one.

@@ -1,13 +1,11 @@
 -- The parts of a descriptor, by places, and what turning makes of them. Assumes nothing.
-use mathlib.Core.Path.{_≡_, refl, sym, _∙_, ap}
-use mathlib.Core.Bool.{Bool, true, false}
-use mathlib.Core.List.{List, [], _∷_, _++_, map, append-assoc}
-use Prim.Native.Nat.{ℕ, zero, suc, _+_, _-_, _^_, _≤_, _<_}
-use native.Mathlib.Numerals.{add-one}
+use mathlib.Core.Path.{_≡_, sym, _∙_, ap}
+use mathlib.Core.List.{List, _∷_}
+use Prim.Native.Nat.{ℕ, suc, _+_, _-_, _^_, _≤_, _<_}
 use native.Mathlib.Omega.{arith}
 use lib.Dec.{eqb}
 use lib.ListN.{length, getD, take, drop, length-drop, drop-of-length-le}
-use lib.Seq.{drop-cons, drop-drop}
+use lib.Seq.{drop-cons}
 use mir.Val.{Fits}
 use mir.Syntax.{w64}
 use borrow.Author.Tests.{eq-eqb, ne-eqb}
@@ -16,11 +14,11 @@ use Rattle.ground.specs.Choice.{pick}
 use Rattle.ground.proofs.Parts.{take-rest}
 use Rattle.places.specs.declared.find.Place.{Place}
 use Rattle.places.specs.declared.find.Place.the-variants.{At, Nowhere}
-use Rattle.places.specs.Places.{firstFrom, firstWhere, starts}
+use Rattle.places.specs.Places.{firstWhere, starts}
 use Rattle.places.proofs.PlaceLaws.{first-inside}
 use Rattle.pieces.specs.declared.pieces.Part as places
 use Rattle.pieces.specs.declared.pieces.Part.the-variants.{Piece, Plain, End}
-use Rattle.pieces.specs.Pieces.{Part, byte, piece, partsFrom, Look, lookOr, turned, join, turn, pieceAt, plainAt, partIn, partAt}
+use Rattle.pieces.specs.Pieces.{pieceAt, plainAt, partAt}
 
 -- The part at a place.
 pub part-end : (d : List ℕ) (at : ℕ) → length d ≤ at → End ≡ partAt d at

@@ -1,8 +1,7 @@
 // Bytes written into a lent pool at a place. Where there is no room for all of them, the pool is the caller's to clear.
 ghost use mathlib.Core.Path.{_≡_};
-ghost use Prim.Native.Nat.{_+_, _≤_};
-ghost use lib.ListN.{length, replicate};
-ghost use Rattle.ground.specs.Put.{put};
+ghost use Prim.Native.Nat.{_+_};
+ghost use lib.ListN.{replicate};
 ghost use Rattle.pool.specs.Names.{slash, slashed, classDescriptor};
 ghost use Rattle.pool.specs.Wrote.{WroteBy};
 

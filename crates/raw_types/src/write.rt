@@ -4,7 +4,7 @@ use pool::put_bytes;
 ghost use mathlib.Core.Path.{_≡_};
 ghost use mathlib.Core.List.{[], _∷_, _++_};
 ghost use Prim.Native.Nat.{_+_, _≤_};
-ghost use lib.ListN.{length, take, drop};
+ghost use lib.ListN.{take, drop};
 ghost use Rattle.pool.specs.Wrote.{WroteBy};
 ghost use Rattle.raw_types.specs.Raw.{slashIf, nameBytes, pieceOf};
 

@@ -8,7 +8,7 @@ use lib.ListN.{length, getD, drop}
 use borrow.Author.Needs.{needs}
 use Rattle.ground.specs.Choice.{within}
 use Rattle.ground.proofs.Cases.{within-both, within-yes, within-low, within-high}
-use Rattle.utf8.specs.declared.sequence.Sequence.the-variants.{End, Good}
+use Rattle.utf8.specs.declared.sequence.Sequence.the-variants.{Good}
 use Rattle.utf8.specs.Utf8.{sequenceOf, pieces}
 use Rattle.utf8.proofs.Sequences.{sequence-ascii, sequence-end}
 use Rattle.text.specs.White.{whiteRanges, inRanges, isWhite}
