@@ -1,4 +1,4 @@
-// Descriptors of types and of raw signatures. Every public function takes any bytes, but one that settles a signature in place.
+// Descriptors of types and of raw signatures. Every public function takes any bytes; `settle_signature` asks for places inside the pool.
 mod settle;
 mod types;
 

@@ -24,7 +24,7 @@ pub enum NextSlot {
     NoRoom,
 }
 
-// That of the first member, where the pool is used up to the place `used`.
+// Where the first member goes, if the pool is used up to the place `used`.
 pub fn first_slot(used: usize) -> Slot
     ensures { λ r. ⌜ r ≡ slotAt 0 used 0 0 ⌝ }
 {

@@ -7,6 +7,7 @@ ghost use lib.ListN.{length, getD};
 ghost use Rattle.ground.specs.Choice.{pick};
 ghost use Rattle.places.specs.Blocks.{Without};
 
+// One byte more: whether it or one before it is `b`.
 fn marked(holds: bool, x: u8, b: u8) -> bool
     ensures { λ r. ⌜ r ≡ pick (eqb x b) true holds ⌝ }
 {
@@ -16,7 +17,8 @@ fn marked(holds: bool, x: u8, b: u8) -> bool
     holds
 }
 
-// Whether one of the 16 bytes from a place on is `b`. The compiler makes a few vector instructions of it.
+// Whether one of the 16 bytes from a place on is `b`; promised is only what passing the block needs, that none is where the answer is no. The compiler makes
+// a few vector instructions of the loop.
 fn block_holds(s: &[u8], at: usize, b: u8) -> bool
     requires { ⌜ at + 16 ≤ length (now s) ⌝ }
     ensures { λ r. ⌜ (r ≡ false → (k : ℕ) → k < 16 → getD (now (s .entry)) (at + k) 0 ≡ b → ⊥) ⌝ }
