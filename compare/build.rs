@@ -7,7 +7,7 @@ use std::{env, fs};
 const LIBRARIES: [&str; 6] = [
     "text_probes",
     "number_probes",
-    "comment_probes",
+    "json_probes",
     "line_probes",
     "descriptor_probes",
     "capi",

@@ -3,10 +3,10 @@ use mathlib.Core.Path.{_≡_, sym, _∙_, ap}
 use mathlib.Core.List.{List, _∷_}
 use Prim.Native.Nat.{ℕ}
 use lib.ListN.{replicate}
-use Rattle.mapping.specs.declared.Fates.{Fates}
+use Rattle.load_rule.specs.declared.Fates.{Fates}
 use borrow.Author.Needs.{needs}
-use Rattle.mapping.specs.declared.Load.{Load}
-use Rattle.mapping.specs.declared.Load.the-variants.{Loaded, TooLong, NotUtf8, Faulty, NoClasses, FewClassRows, FewMemberRows, ShortPool}
+use Rattle.load_rule.specs.declared.Load.{Load}
+use Rattle.load_rule.specs.declared.Load.the-variants.{Loaded, TooLong, NotUtf8, Faulty, NoClasses, FewClassRows, FewMemberRows, ShortPool}
 use Rattle.load.specs.Loads.{Loads}
 use Rattle.capi.specs.Answers.{refusalNumbers, answerNumbers, Answers}
 

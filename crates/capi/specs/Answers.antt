@@ -3,8 +3,8 @@ use mathlib.Core.Path.{_≡_}
 use mathlib.Core.List.{List, _++_}
 use Prim.Native.Nat.{ℕ}
 use lib.ListN.{replicate}
-use Rattle.mapping.specs.declared.Load.{Load}
-use Rattle.mapping.specs.Loading.{refusal, loadNumbers, answerOf, classesLeft, membersLeft, poolLeft}
+use Rattle.load_rule.specs.declared.Load.{Load}
+use Rattle.load_rule.specs.Loading.{refusal, loadNumbers, answerOf, classesLeft, membersLeft, poolLeft}
 use Rattle.load.specs.Into.{lent}
 
 -- "number, place, length, lines, blank, applied, idle, class, field, method, short, names, then zeros"

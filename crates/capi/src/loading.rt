@@ -1,12 +1,12 @@
 // Loading.
 use load::parse;
 use load::parse_str;
-use mapping::Load;
-use rows::ClassRow;
-use rows::MemberRow;
+use load_rule::Load;
+use table_rows::ClassRow;
+use table_rows::MemberRow;
 ghost use mathlib.Core.Path.{_≡_};
 ghost use lib.ListN.{length};
-ghost use Rattle.mapping.specs.Loading.{linesParse, linesStr};
+ghost use Rattle.load_rule.specs.Loading.{linesParse, linesStr};
 ghost use Rattle.capi.specs.Answers.{refusalNumbers, answerNumbers, Answers};
 
 // The answer of a refusal: its number, its place and a length.

@@ -12,21 +12,21 @@ use Rattle.ground.specs.Abnf.{none}
 use Rattle.ground.specs.Ascii.{ascii}
 use Rattle.ground.specs.Choice.{pick}
 use Rattle.ground.proofs.Cases.{both-left}
-use Rattle.places.specs.declared.find.Place.{Place}
-use Rattle.places.specs.declared.find.Place.the-variants.{At, Nowhere}
-use Rattle.places.specs.Places.{lastWhere, starts, same}
-use Rattle.places.proofs.PlaceLaws.{last-inside}
-use Rattle.places.proofs.Holds.{last-is}
-use Rattle.utf8.specs.Grammar.{UTF8-octets}
-use Rattle.utf8.proofs.Boundaries.{octets-as, append-octets, ascii-octets, cons-octets, snoc-octets, replicate-octets, Texts, no-text, text, Fresh, at-low, fresh-end, fresh-ascii, fresh-after, after-octets, take-octets, tail-octets, cut-octets, map-octets}
-use Rattle.text.specs.declared.trim.Span.{Span}
-use Rattle.text.specs.Trim.{trimBoth}
-use Rattle.text.proofs.Cuts.{trim-octets}
+use Rattle.text_places.specs.declared.find.Place.{Place}
+use Rattle.text_places.specs.declared.find.Place.the-variants.{At, Nowhere}
+use Rattle.text_places.specs.Places.{lastWhere, starts, same}
+use Rattle.text_places.proofs.PlaceLaws.{last-inside}
+use Rattle.text_places.proofs.Holds.{last-is}
+use Rattle.text_utf8.specs.Grammar.{UTF8-octets}
+use Rattle.text_utf8.proofs.Boundaries.{octets-as, append-octets, ascii-octets, cons-octets, snoc-octets, replicate-octets, Texts, no-text, text, Fresh, at-low, fresh-end, fresh-ascii, fresh-after, after-octets, take-octets, tail-octets, cut-octets, map-octets}
+use Rattle.text_white.specs.declared.trim.Span.{Span}
+use Rattle.text_white.specs.Trim.{trimBoth}
+use Rattle.text_white.proofs.Cuts.{trim-octets}
 use Rattle.descriptor.specs.declared.types.Base.the-variants.{Letter, Kept, Named}
-use Rattle.pool.specs.Names.{slash, slashed, classDescriptor}
+use Rattle.table_pool.specs.Names.{slash, slashed, classDescriptor}
 use Rattle.descriptor.specs.Types.{partOf, bracketsAt, baseEnd, bracketCount, wordLetter, keptText, baseOf, baseBytes, typeDescriptor}
 use Rattle.descriptor.specs.Signatures.{rawKept, rawType, afterClose, rawSignature}
-use Rattle.pieces.specs.Pieces.{byte, piece, partsFrom, Look, known, unknown, lookOr, turned, join, turn, Pair, orLook, shown, swapped, back}
+use Rattle.descriptor_pieces.specs.Pieces.{byte, piece, partsFrom, Look, known, unknown, lookOr, turned, join, turn, Pair, orLook, shown, swapped, back}
 
 -- Names.
 slash-low : (x : ℕ) → x < 0x80 → slash x < 0x80

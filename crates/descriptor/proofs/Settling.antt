@@ -17,16 +17,16 @@ use Rattle.ground.specs.Put.{put}
 use Rattle.ground.proofs.Cases.{cases}
 use Rattle.ground.proofs.Parts.{drop-take}
 use Rattle.ground.proofs.PutLaws.{put-nothing, put-one, put-put, put-same, put-before, getD-put, length-put}
-use Rattle.places.specs.declared.find.Place.{Place}
-use Rattle.places.specs.declared.find.Place.the-variants.{At, Nowhere}
-use Rattle.places.specs.Places.{lastWhere, starts}
-use Rattle.places.proofs.PlaceLaws.{last-inside}
-use Rattle.pool.specs.declared.write.Wrote.{Wrote}
-use Rattle.pool.specs.Names.{slash, slashed, classDescriptor}
+use Rattle.text_places.specs.declared.find.Place.{Place}
+use Rattle.text_places.specs.declared.find.Place.the-variants.{At, Nowhere}
+use Rattle.text_places.specs.Places.{lastWhere, starts}
+use Rattle.text_places.proofs.PlaceLaws.{last-inside}
+use Rattle.table_pool.specs.declared.write.Wrote.{Wrote}
+use Rattle.table_pool.specs.Names.{slash, slashed, classDescriptor}
 use Rattle.descriptor.specs.Types.{partOf, keptText}
 use Rattle.descriptor.specs.Signatures.{isLetter, rawKept, rawType, afterClose, rawSignature}
-use Rattle.pool.specs.Wrote.{Written, WroteBy}
-use Rattle.pool.proofs.Writes.{slashed-length, wrote-then}
+use Rattle.table_pool.specs.Wrote.{Written, WroteBy}
+use Rattle.table_pool.proofs.Writes.{slashed-length, wrote-then}
 
 pub ruleset letters = (cases, needs)
 

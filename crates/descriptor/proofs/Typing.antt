@@ -12,20 +12,20 @@ use borrow.Author.Tests.{eq-eqb, ne-eqb}
 use borrow.Author.Needs.{needs}
 use Rattle.ground.specs.Ascii.{ascii}
 use Rattle.ground.specs.Choice.{pick, both}
-use Rattle.places.specs.Places.{same}
-use Rattle.text.specs.declared.trim.Span.{Span}
-use Rattle.text.specs.Trim.{trimBoth}
-use Rattle.text.proofs.TrimLaws.{trim-inside, trim-order}
+use Rattle.text_places.specs.Places.{same}
+use Rattle.text_white.specs.declared.trim.Span.{Span}
+use Rattle.text_white.specs.Trim.{trimBoth}
+use Rattle.text_white.proofs.TrimLaws.{trim-inside, trim-order}
 use Rattle.descriptor.specs.declared.types.Stripped.{Stripped}
 use Rattle.descriptor.specs.declared.types.Base.{Base}
 use Rattle.descriptor.specs.declared.types.Base.the-variants.{Letter, Kept, Named}
 use Rattle.descriptor.specs.declared.types.TypeShape.{TypeShape}
-use Rattle.pool.specs.declared.write.Wrote.{Wrote}
-use Rattle.pool.specs.declared.write.Wrote.the-variants.{Done, NoRoom}
-use Rattle.pool.specs.Names.{classDescriptor}
+use Rattle.table_pool.specs.declared.write.Wrote.{Wrote}
+use Rattle.table_pool.specs.declared.write.Wrote.the-variants.{Done, NoRoom}
+use Rattle.table_pool.specs.Names.{classDescriptor}
 use Rattle.descriptor.specs.Types.{partOf, bracketsAt, baseEnd, bracketCount, strippedOf, wordLetter, keptText, baseOf, baseBytes, shapeIn, shapeOf, shapeBytes, typeDescriptor}
-use Rattle.pool.specs.Wrote.{WroteBy}
-use Rattle.pool.proofs.Writes.{wrote-told, wrote-none, wrote-then, none-then}
+use Rattle.table_pool.specs.Wrote.{WroteBy}
+use Rattle.table_pool.proofs.Writes.{wrote-told, wrote-none, wrote-then, none-then}
 
 -- The nine words.
 module _ (s : List ℕ) where

@@ -2,11 +2,11 @@
 use mathlib.Core.Path.{_≡_, refl}
 use mathlib.Core.Bool.{true, false}
 use Rattle.ground.specs.Ascii.{ascii}
-use Rattle.places.specs.Places.{firstFrom, lastFrom, same}
-use Rattle.utf8.specs.Utf8.{leadOf, tails, afterLead, sequenceOf, piecesFrom}
-use Rattle.text.specs.White.{whiteRanges, inRanges, isWhite}
-use Rattle.text.specs.Trim.{runOf, allWhite, trimEnd}
-use Rattle.pool.specs.Names.{classDescriptor}
+use Rattle.text_places.specs.Places.{firstFrom, lastFrom, same}
+use Rattle.text_utf8.specs.Utf8.{leadOf, tails, afterLead, sequenceOf, piecesFrom}
+use Rattle.text_white.specs.White.{whiteRanges, inRanges, isWhite}
+use Rattle.text_white.specs.Trim.{runOf, allWhite, trimEnd}
+use Rattle.table_pool.specs.Names.{classDescriptor}
 use Rattle.descriptor.specs.Types.{baseEnd, bracketCount, typeDescriptor}
 use Rattle.descriptor.specs.Signatures.{rawSignature}
 

@@ -5,10 +5,10 @@ use Prim.Native.Nat.{ℕ, _+_}
 use lib.Dec.{eqb}
 use lib.ListN.{take, drop}
 use Rattle.ground.specs.Choice.{pick, either}
-use Rattle.places.specs.declared.find.Place.{Place}
-use Rattle.places.specs.declared.find.Place.the-variants.{At, Nowhere}
-use Rattle.places.specs.Places.{lastWhere, starts}
-use Rattle.pool.specs.Names.{classDescriptor}
+use Rattle.text_places.specs.declared.find.Place.{Place}
+use Rattle.text_places.specs.declared.find.Place.the-variants.{At, Nowhere}
+use Rattle.text_places.specs.Places.{lastWhere, starts}
+use Rattle.table_pool.specs.Names.{classDescriptor}
 use Rattle.descriptor.specs.Types.{keptText}
 
 -- "one of the nine letters"

@@ -6,14 +6,14 @@ use lib.Dec.{eqb}
 use lib.ListN.{length, getD, take, drop, replicate}
 use Rattle.ground.specs.Ascii.{ascii}
 use Rattle.ground.specs.Choice.{pick, both}
-use Rattle.places.specs.Places.{same}
-use Rattle.text.specs.declared.trim.Span.{Span}
-use Rattle.text.specs.Trim.{trimBoth}
+use Rattle.text_places.specs.Places.{same}
+use Rattle.text_white.specs.declared.trim.Span.{Span}
+use Rattle.text_white.specs.Trim.{trimBoth}
 use Rattle.descriptor.specs.declared.types.Stripped.{Stripped}
 use Rattle.descriptor.specs.declared.types.Base.{Base}
 use Rattle.descriptor.specs.declared.types.Base.the-variants.{Letter, Kept, Named}
 use Rattle.descriptor.specs.declared.types.TypeShape.{TypeShape}
-use Rattle.pool.specs.Names.{classDescriptor}
+use Rattle.table_pool.specs.Names.{classDescriptor}
 
 -- the bytes of a part
 abbrev pub partOf : List ℕ → ℕ → ℕ → List ℕ

@@ -1,16 +1,16 @@
 // Raw signatures, turned into descriptors where they stand in the pool.
 use crate::types::is_kept;
-use places::Place;
-use places::last_byte;
-use pool::Wrote;
-use pool::slash_for_dot;
+use table_pool::Wrote;
+use table_pool::slash_for_dot;
+use text_places::Place;
+use text_places::last_byte;
 ghost use mathlib.Core.Path.{_≡_};
 ghost use Prim.Native.Nat.{_≤_};
 ghost use lib.ListN.{length};
-ghost use Rattle.pool.specs.Names.{classDescriptor};
+ghost use Rattle.table_pool.specs.Names.{classDescriptor};
 ghost use Rattle.descriptor.specs.Types.{partOf};
 ghost use Rattle.descriptor.specs.Signatures.{isLetter, rawKept, rawType, rawSignature};
-ghost use Rattle.pool.specs.Wrote.{WroteBy};
+ghost use Rattle.table_pool.specs.Wrote.{WroteBy};
 
 // Whether a byte is one of the nine letters.
 fn is_letter(b: u8) -> bool

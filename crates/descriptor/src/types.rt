@@ -1,13 +1,13 @@
 // Types and their descriptors.
-use places::same_bytes;
-use pool::Wrote;
-use pool::put_bytes;
-use pool::put_class;
-use pool::put_text;
-use text::trim_both;
+use table_pool::Wrote;
+use table_pool::put_bytes;
+use table_pool::put_class;
+use table_pool::put_text;
+use text_places::same_bytes;
+use text_white::trim_both;
 ghost use mathlib.Core.Path.{_≡_};
 ghost use Rattle.descriptor.specs.Types.{strippedOf, wordLetter, keptText, baseOf, baseBytes, shapeOf, typeDescriptor};
-ghost use Rattle.pool.specs.Wrote.{WroteBy};
+ghost use Rattle.table_pool.specs.Wrote.{WroteBy};
 
 // Where a type ends without the `[]`s at its end, and how many they are.
 pub struct Stripped {

@@ -7,13 +7,13 @@ use lib.Dec.{eqb}
 use lib.ListN.{length}
 use borrow.Author.Tests.{lt-ltb, le-ltb}
 use borrow.Author.Needs.{needs}
-use Rattle.pool.specs.declared.write.Wrote.{Wrote}
-use Rattle.pool.specs.declared.write.Wrote.the-variants.{Done, NoRoom}
-use Rattle.pieces.specs.declared.pieces.Part as parts
-use Rattle.pieces.specs.declared.pieces.Part.the-variants.{Piece, Plain, End}
+use Rattle.table_pool.specs.declared.write.Wrote.{Wrote}
+use Rattle.table_pool.specs.declared.write.Wrote.the-variants.{Done, NoRoom}
+use Rattle.descriptor_pieces.specs.declared.pieces.Part as parts
+use Rattle.descriptor_pieces.specs.declared.pieces.Part.the-variants.{Piece, Plain, End}
 use Rattle.descriptor.specs.Types.{partOf}
 use Rattle.descriptor.specs.Signatures.{rawSignature}
-use Rattle.pool.specs.Wrote.{WroteBy}
+use Rattle.table_pool.specs.Wrote.{WroteBy}
 use Rattle.descriptor_probes.specs.Answers.{wroteNumbers, partNumbers, Said, SaidWithin}
 
 pub done-numbers : (w : Wrote) {q : ℕ} → w ≡ Done q → 1 ∷ q ∷ [] ≡ wroteNumbers w

@@ -6,13 +6,13 @@ use Prim.Native.Nat.{ℕ}
 use lib.Dec.{eqb, ltb}
 use lib.ListN.{length}
 use Rattle.ground.specs.Choice.{either}
-use Rattle.pool.specs.declared.write.Wrote.{Wrote}
-use Rattle.pool.specs.declared.write.Wrote.the-variants.{Done, NoRoom}
-use Rattle.pieces.specs.declared.pieces.Part as parts
-use Rattle.pieces.specs.declared.pieces.Part.the-variants.{Piece, Plain, End}
+use Rattle.table_pool.specs.declared.write.Wrote.{Wrote}
+use Rattle.table_pool.specs.declared.write.Wrote.the-variants.{Done, NoRoom}
+use Rattle.descriptor_pieces.specs.declared.pieces.Part as parts
+use Rattle.descriptor_pieces.specs.declared.pieces.Part.the-variants.{Piece, Plain, End}
 use Rattle.descriptor.specs.Types.{partOf}
 use Rattle.descriptor.specs.Signatures.{rawSignature}
-use Rattle.pool.specs.Wrote.{WroteBy}
+use Rattle.table_pool.specs.Wrote.{WroteBy}
 
 abbrev pub wroteNumbers : Wrote → List ℕ
 wroteNumbers (Done q) = 1 ∷ q ∷ []

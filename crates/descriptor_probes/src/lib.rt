@@ -1,11 +1,11 @@
 // C functions over descriptors, for differential runs. Each writes its answer as numbers: 1 and the place after the last byte written, or zeros
 // where there is no room. What a room holds then is the caller's to clear.
-use pieces::Part;
-use pool::Wrote;
+use descriptor_pieces::Part;
+use table_pool::Wrote;
 ghost use mathlib.Core.Path.{_≡_};
-ghost use Rattle.pool.specs.Names.{classDescriptor};
+ghost use Rattle.table_pool.specs.Names.{classDescriptor};
 ghost use Rattle.descriptor.specs.Types.{typeDescriptor};
-ghost use Rattle.pieces.specs.Pieces.{partAt};
+ghost use Rattle.descriptor_pieces.specs.Pieces.{partAt};
 ghost use Rattle.descriptor_probes.specs.Answers.{wroteNumbers, partNumbers, Said, SaidWithin};
 
 fn wrote_numbers(w: Wrote) -> [u64; 2]
@@ -26,7 +26,7 @@ pub extern "C" fn clumarief_probe_class(
 )
     ensures { λ _. ⌜ Said (now (answer .exit)) (now (room .entry)) at (classDescriptor (now (name .entry))) (now (room .exit)) ⌝ }
 {
-    let wrote = pool::put_class(room, at, name);
+    let wrote = table_pool::put_class(room, at, name);
     *answer = wrote_numbers(wrote);
 }
 
@@ -71,7 +71,7 @@ pub extern "C" fn clumarief_probe_signature(
 pub extern "C" fn clumarief_probe_part(d: &[u8], at: usize, answer: &mut [u64; 2])
     ensures { λ _. ⌜ now (answer .exit) ≡ partNumbers (partAt (now (d .entry)) at) ⌝ }
 {
-    match pieces::part_at(d, at) {
+    match descriptor_pieces::part_at(d, at) {
         Part::Piece(end) => {
             *answer = [1, end as u64];
         }

@@ -10,8 +10,8 @@ use lib.Seq.{drop-cons}
 use borrow.Author.Tests.{eq-eqb, ne-eqb}
 use borrow.Author.Needs.{needs}
 use Rattle.ground.specs.Ascii.{ascii}
-use Rattle.rfc8259.specs.Grammar.{text, other}
-use Rattle.rfc8259.specs.Reader.{Out, got, bad, andThen, charsFrom, stringOf, pastWord, asText, asOther, flatOf, numberOf}
+use Rattle.json_grammar.specs.Grammar.{text, other}
+use Rattle.json_grammar.specs.Reader.{Out, got, bad, andThen, charsFrom, stringOf, pastWord, asText, asOther, flatOf, jsonNumber}
 use Rattle.json_string.specs.declared.after.After.{After}
 use Rattle.json_string.specs.declared.after.After.the-variants.{Next, Unread}
 use Rattle.json_string.specs.Means.{Reached, Means}
@@ -100,11 +100,11 @@ module _ (s : List ℕ) (at : ℕ) (h : at < length s) where
             means-as s (pastWord (0x74 ∷ 0x72 ∷ 0x75 ∷ 0x65 ∷ []) (drop at s)) (flatOf (drop at s)) r
             (rw (first, ne-eqb (getD s at 0) 0x22 n1, ne-eqb (getD s at 0) 0x66 n2, ne-eqb (getD s at 0) 0x6E n3, eq-eqb (getD s at 0) 0x74 e)) m
 
-        pub flat-number : (getD s at 0 ≡ 0x74 → ⊥) → (r : After) → Means s r (numberOf (drop at s)) → Means s r (flatOf (drop at s))
+        pub flat-number : (getD s at 0 ≡ 0x74 → ⊥) → (r : After) → Means s r (jsonNumber (drop at s)) → Means s r (flatOf (drop at s))
         unfolding flatOf
         flat-number n4 r m =
-            means-as s (asOther (numberOf (drop at s))) (flatOf (drop at s)) r
+            means-as s (asOther (jsonNumber (drop at s))) (flatOf (drop at s)) r
             (rw (first, ne-eqb (getD s at 0) 0x22 n1, ne-eqb (getD s at 0) 0x66 n2, ne-eqb (getD s at 0) 0x6E n3, ne-eqb (getD s at 0) 0x74 n4))
-            (means-map s (numberOf (drop at s)) (λ v. other) r m)
+            (means-map s (jsonNumber (drop at s)) (λ v. other) r m)
 
 pub ruleset flats = (flat-end, flat-string, flat-false, flat-null, flat-true, flat-number, needs)

@@ -9,7 +9,7 @@ use lib.ListN.{length, getD, drop, drop-of-length-le}
 use lib.Seq.{drop-cons}
 use borrow.Author.Needs.{needs}
 use Rattle.ground.proofs.Cases.{within-yes, within-low, within-high}
-use Rattle.rfc8259.specs.Reader.{Out, bad, andThen, isDigit, isSign, isMinus, isE, past, optional, digits, int, frac, exp, numberOf}
+use Rattle.json_grammar.specs.Reader.{Out, bad, andThen, isDigit, isSign, isMinus, isE, past, optional, digits, int, frac, exp, jsonNumber}
 use Rattle.json_string.specs.declared.after.After.{After}
 use Rattle.json_string.specs.declared.after.After.the-variants.{Next, Unread}
 use Rattle.json_string.specs.Means.{Reached, Means}
@@ -165,8 +165,8 @@ pub ruleset options =
 
 -- A number.
 module _ (s : List ℕ) (at p : ℕ) (q : PastOne isMinus s at p) (t : After) (i : Means s t (int (drop p s))) where
-  pub number-no-int : t ≡ Unread → numberOf (drop at s) ≡ bad
-  unfolding numberOf andThen
+  pub number-no-int : t ≡ Unread → jsonNumber (drop at s) ≡ bad
+  unfolding jsonNumber andThen
   number-no-int e = rw (q .rest, means-unread s (int (drop p s)) t i e)
 
   module _ {whole : ℕ} (e : t ≡ Next whole) where
@@ -174,11 +174,11 @@ module _ (s : List ℕ) (at p : ℕ) (q : PastOne isMinus s at p) (t : After) (i
     whole-inside = means-next s (int (drop p s)) t i e .inside
 
     module _ (u : After) (f : Means s u (frac (drop whole s))) where
-      first : numberOf (drop at s) ≡ andThen (frac (drop whole s)) (λ y r. exp r)
-      unfolding numberOf andThen
+      first : jsonNumber (drop at s) ≡ andThen (frac (drop whole s)) (λ y r. exp r)
+      unfolding jsonNumber andThen
       first = rw (q .rest, means-next s (int (drop p s)) t i e .reads)
 
-      pub number-no-frac : u ≡ Unread → numberOf (drop at s) ≡ bad
+      pub number-no-frac : u ≡ Unread → jsonNumber (drop at s) ≡ bad
       unfolding andThen
       number-no-frac g = first ∙ rw (means-unread s (frac (drop whole s)) u f g)
 
@@ -186,8 +186,8 @@ module _ (s : List ℕ) (at p : ℕ) (q : PastOne isMinus s at p) (t : After) (i
         pub fraction-inside : fraction ≤ length s
         fraction-inside = means-next s (frac (drop whole s)) u f g .inside
 
-        pub number-means : (r : After) → Means s r (exp (drop fraction s)) → Means s r (numberOf (drop at s))
+        pub number-means : (r : After) → Means s r (exp (drop fraction s)) → Means s r (jsonNumber (drop at s))
         unfolding andThen
-        number-means r m = means-as s (exp (drop fraction s)) (numberOf (drop at s)) r (first ∙ rw (means-next s (frac (drop whole s)) u f g .reads)) m
+        number-means r m = means-as s (exp (drop fraction s)) (jsonNumber (drop at s)) r (first ∙ rw (means-next s (frac (drop whole s)) u f g .reads)) m
 
 pub ruleset numbering = (number-no-int, whole-inside, number-no-frac, fraction-inside, number-means, one-inside, needs)

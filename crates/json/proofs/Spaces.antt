@@ -12,7 +12,7 @@ use borrow.Author.Tests.{eqb-true, eqb-false}
 use borrow.Author.Needs.{needs}
 use Rattle.ground.specs.Choice.{within}
 use Rattle.ground.proofs.Cases.{within-yes, within-both}
-use Rattle.rfc8259.specs.Reader.{got, bad, andThen, pastAll, isWs, skip, oneOf, structural}
+use Rattle.json_grammar.specs.Reader.{got, bad, andThen, pastAll, isWs, skip, oneOf, structural}
 use Rattle.json_string.specs.Means.{Reached}
 use Rattle.json.specs.Runs.{Past}
 

@@ -4,7 +4,7 @@ use mathlib.Core.Bool.{Bool}
 use mathlib.Core.List.{List}
 use Prim.Native.Nat.{ℕ, _≤_}
 use lib.ListN.{length, drop}
-use Rattle.rfc8259.specs.Reader.{pastAll, past}
+use Rattle.json_grammar.specs.Reader.{pastAll, past}
 
 -- `r` is the place after all octets from `start` on for which `p` holds
 pub record Past (p : ℕ → Bool) (s : List ℕ) (start r : ℕ) : Type 0 where

@@ -4,7 +4,7 @@ use json_string::After;
 use json_string::string_end;
 ghost use Prim.Native.Nat.{_≤_};
 ghost use lib.ListN.{length, drop};
-ghost use Rattle.rfc8259.specs.Reader.{pastWord, flatOf};
+ghost use Rattle.json_grammar.specs.Reader.{pastWord, flatOf};
 ghost use Rattle.json_string.specs.Means.{Means};
 
 // A literal name.

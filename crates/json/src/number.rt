@@ -2,7 +2,7 @@
 use json_string::After;
 ghost use Prim.Native.Nat.{_≤_};
 ghost use lib.ListN.{length, drop};
-ghost use Rattle.rfc8259.specs.Reader.{isDigit, isSign, isMinus, digits, int, frac, exp, numberOf};
+ghost use Rattle.json_grammar.specs.Reader.{isDigit, isSign, isMinus, digits, int, frac, exp, jsonNumber};
 ghost use Rattle.json_string.specs.Means.{Means};
 ghost use Rattle.json.specs.Runs.{Past, PastOne};
 
@@ -126,7 +126,7 @@ fn past_minus(s: &[u8], at: usize) -> usize
 // A number.
 pub fn number_at(s: &[u8], at: usize) -> After
     requires { ⌜ at ≤ length (now s) ⌝ }
-    ensures { λ r. ⌜ Means (now (s .entry)) r (numberOf (drop at (now (s .entry)))) ⌝ }
+    ensures { λ r. ⌜ Means (now (s .entry)) r (jsonNumber (drop at (now (s .entry)))) ⌝ }
 {
     let After::Next(whole) = int_at(s, past_minus(s, at)) else {
         return After::Unread;

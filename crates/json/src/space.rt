@@ -3,7 +3,7 @@ use json_string::After;
 ghost use mathlib.Core.Path.{_≡_};
 ghost use Prim.Native.Nat.{_≤_};
 ghost use lib.ListN.{length, drop};
-ghost use Rattle.rfc8259.specs.Reader.{isWs, structural};
+ghost use Rattle.json_grammar.specs.Reader.{isWs, structural};
 ghost use Rattle.json_string.specs.Means.{Means};
 ghost use Rattle.json.specs.Runs.{Past};
 

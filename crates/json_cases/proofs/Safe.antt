@@ -12,14 +12,14 @@ use Rattle.ground.specs.Choice.{pick}
 use Rattle.ground.specs.Put.{put}
 use Rattle.ground.proofs.Parts.{prefix-whole}
 use Rattle.ground.proofs.PutLaws.{length-put}
-use Rattle.places.specs.declared.lines.NextLine.{NextLine}
-use Rattle.places.specs.declared.lines.NextLine.the-variants.{Line}
-use Rattle.places.specs.Lines.{nextLine}
-use Rattle.places.proofs.Taking.{Taking, line-past, line-inside, line-falls, line-starts, line-ends}
-use Rattle.rfc8259.specs.Reader.{Out, got, bad}
-use Rattle.decode.specs.Decoded.{writtenOf, roomOf}
-use Rattle.decode.specs.declared.write.Written.{Written}
-use Rattle.decode.specs.declared.write.Written.the-variants.{Done, NoRoom}
+use Rattle.text_places.specs.declared.lines.NextLine.{NextLine}
+use Rattle.text_places.specs.declared.lines.NextLine.the-variants.{Line}
+use Rattle.text_places.specs.Lines.{nextLine}
+use Rattle.text_places.proofs.Taking.{Taking, line-past, line-inside, line-falls, line-starts, line-ends}
+use Rattle.json_grammar.specs.Reader.{Out, got, bad}
+use Rattle.json_decode.specs.Decoded.{writtenOf, roomOf}
+use Rattle.json_decode.specs.declared.write.Written.{Written}
+use Rattle.json_decode.specs.declared.write.Written.the-variants.{Done, NoRoom}
 
 -- the first case from a line on is looked for line by line
 pub record Seeking (s : List ℕ) («from» at : ℕ) : Type 0 where

@@ -1,13 +1,13 @@
 // What is written for a case.
 use crate::say;
-use comment::Comment;
-use comment::Stands;
-use decode::Written;
+use json_comment::Comment;
+use json_comment::Stands;
+use json_decode::Written;
 
 // A string: the length of what it stands for, and that itself.
 fn text(document: &[u8], start: usize) {
     let mut room = io::buffer();
-    match decode::decode_at(&mut room, 0, document, start) {
+    match json_decode::decode_at(&mut room, 0, document, start) {
         Written::Done(n) => {
             say::words(b"text ");
             say::decimal(n);
@@ -30,14 +30,14 @@ fn member(document: &[u8], stands: Stands) {
 // Says so where the id is that of a residual signature.
 fn residual(document: &[u8], id: Stands) {
     if let Stands::Text(start) = id {
-        if comment::is_residual(document, start) {
+        if json_comment::is_residual(document, start) {
             say::words(b" (residual)");
         }
     }
 }
 
 pub fn answer(document: &[u8]) {
-    match comment::read_comment(document) {
+    match json_comment::read_comment(document) {
         Comment::Unreadable => say::words(b"unreadable"),
         Comment::Readable { id, signature } => {
             say::words(b"id ");

@@ -1,5 +1,5 @@
 // Where the cases of a text stand.
-use places::NextLine;
+use text_places::NextLine;
 ghost use Prim.Native.Nat.{_≤_};
 ghost use lib.ListN.{length};
 
@@ -31,7 +31,7 @@ pub fn case_from(s: &[u8], from: usize) -> usize
             start: _,
             end: _,
             next,
-        } = places::next_line(s, at)
+        } = text_places::next_line(s, at)
         else {
             return at;
         };

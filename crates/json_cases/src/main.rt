@@ -7,7 +7,7 @@
 //
 // After an id that is the one of a residual signature stands ` (residual)`.
 use libc::STDIN_FILENO;
-use places::NextLine;
+use text_places::NextLine;
 
 mod answers;
 mod documents;
@@ -34,7 +34,7 @@ fn each_case(s: &[u8]) {
             start: _,
             end,
             next: start,
-        } = places::next_line(s, at)
+        } = text_places::next_line(s, at)
         else {
             return;
         };

@@ -12,7 +12,7 @@ use borrow.Author.Tests.{eq-eqb, ne-eqb, eqb-false}
 use borrow.Author.Needs.{needs}
 use Rattle.ground.specs.Choice.{pick, either, within}
 use Rattle.ground.proofs.Cases.{within-yes, within-low, within-high, within-both}
-use Rattle.rfc8259.specs.Reader.{hexdig, hexValue, hex4}
+use Rattle.json_grammar.specs.Reader.{hexdig, hexValue, hex4}
 
 module _ (x : ℕ) where
   pub hex-below : x < 0x30 → 16 ≡ hexdig x

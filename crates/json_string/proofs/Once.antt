@@ -4,11 +4,11 @@ use mathlib.Core.List.{List, [], _∷_}
 use Prim.Native.Nat.{ℕ, suc, _+_, _≤_}
 use native.Mathlib.Omega.{arith}
 use lib.ListN.{length, getD, drop, length-drop}
-use Rattle.rfc8259.specs.Encode.{utf8}
-use Rattle.rfc8259.specs.Reader as Reader
-use Rattle.rfc8259.specs.Reader.{Out}
-use Rattle.rfc8259.proofs.Took.{same-rest, never-bad}
-use Rattle.rfc8259.proofs.EncodeLaws.{by-form, utf8-once}
+use Rattle.json_grammar.specs.Encode.{utf8}
+use Rattle.json_grammar.specs.Reader as Reader
+use Rattle.json_grammar.specs.Reader.{Out}
+use Rattle.json_grammar.proofs.Took.{same-rest, never-bad}
+use Rattle.json_grammar.proofs.EncodeLaws.{by-form, utf8-once}
 use Rattle.json_string.specs.declared.after.After.{After}
 use Rattle.json_string.specs.declared.after.After.the-variants.{Next, Unread}
 use Rattle.json_string.specs.declared.string.Piece.{Piece}

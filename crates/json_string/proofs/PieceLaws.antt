@@ -14,10 +14,10 @@ use borrow.Author.Tests.{eq-eqb, ne-eqb}
 use borrow.Author.Needs.{needs}
 use Rattle.ground.specs.Choice.{pick, within}
 use Rattle.ground.proofs.Cases.{cases, within-yes, within-low, within-high}
-use Rattle.rfc8259.specs.Encode.{utf8}
-use Rattle.rfc8259.specs.Reader as Reader
-use Rattle.rfc8259.specs.Reader.{hex4, second, unicode, shortEscape, escape, pieceOf}
-use Rattle.rfc8259.proofs.EncodeLaws.{utf8-one, utf8-short}
+use Rattle.json_grammar.specs.Encode.{utf8}
+use Rattle.json_grammar.specs.Reader as Reader
+use Rattle.json_grammar.specs.Reader.{hex4, second, unicode, shortEscape, escape, pieceOf}
+use Rattle.json_grammar.proofs.EncodeLaws.{utf8-one, utf8-short}
 use Rattle.json_string.proofs.Hex.{hex4-most}
 use Rattle.json_string.specs.declared.string.Piece.{Piece}
 use Rattle.json_string.specs.Pieces.{Stood, Coded, Closed, PieceMeans, shortByte}

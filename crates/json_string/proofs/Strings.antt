@@ -6,11 +6,11 @@ use native.Mathlib.Omega.{arith}
 use lib.ListN.{length, drop, drop-of-length-le}
 use lib.Seq.{drop-drop}
 use borrow.Author.Needs.{needs}
-use Rattle.rfc8259.specs.Reader as Reader
-use Rattle.rfc8259.specs.Reader.{bad, andThen, pieceOf, charsFrom}
-use Rattle.rfc8259.specs.Encode.{utf8}
-use Rattle.rfc8259.proofs.Items.{before, before-nothing, before-both}
-use Rattle.rfc8259.proofs.StringsAll.{chars-none, chars-stands, chars-close, chars-wrong}
+use Rattle.json_grammar.specs.Reader as Reader
+use Rattle.json_grammar.specs.Reader.{bad, andThen, pieceOf, charsFrom}
+use Rattle.json_grammar.specs.Encode.{utf8}
+use Rattle.json_grammar.proofs.Items.{before, before-nothing, before-both}
+use Rattle.json_grammar.proofs.StringsAll.{chars-none, chars-stands, chars-close, chars-wrong}
 use Rattle.json_string.specs.declared.string.Piece.{Piece}
 use Rattle.json_string.specs.declared.string.Piece.the-variants.{Byte, Code, Closes, Wrong}
 use Rattle.json_string.specs.Means.{Reached}

@@ -5,8 +5,8 @@ use Prim.Native.Nat.{ℕ, suc, _+_, _≤_, _<_}
 use lib.Dec.{eqb}
 use lib.ListN.{length}
 use Rattle.ground.specs.Choice.{pick}
-use Rattle.rfc8259.specs.Encode.{utf8}
-use Rattle.rfc8259.specs.Reader as Reader
+use Rattle.json_grammar.specs.Encode.{utf8}
+use Rattle.json_grammar.specs.Reader as Reader
 use Rattle.json_string.specs.declared.string.Piece.{Piece}
 use Rattle.json_string.specs.declared.string.Piece.the-variants.{Byte, Code, Closes, Wrong}
 

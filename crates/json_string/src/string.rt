@@ -3,7 +3,7 @@ use crate::after::After;
 ghost use mathlib.Core.Path.{_≡_};
 ghost use Prim.Native.Nat.{_+_, _≤_, _<_};
 ghost use lib.ListN.{length, drop};
-ghost use Rattle.rfc8259.specs.Reader.{hexdig, hexValue, hex4, second, unicode, escape, pieceOf, charsFrom};
+ghost use Rattle.json_grammar.specs.Reader.{hexdig, hexValue, hex4, second, unicode, escape, pieceOf, charsFrom};
 ghost use Rattle.json_string.specs.Means.{Means};
 ghost use Rattle.json_string.specs.Pieces.{PieceMeans, shortByte};
 

@@ -11,29 +11,29 @@ use mir.Val.{Fits}
 use mir.Syntax.{w64}
 use borrow.Author.Tests.{eq-eqb, ne-eqb}
 use borrow.Author.Needs.{needs}
-use Rattle.places.specs.declared.find.Place.{Place}
-use Rattle.places.specs.declared.find.Place.the-variants.{At, Nowhere}
-use Rattle.places.specs.Places.{firstWhere, starts}
-use Rattle.places.proofs.PlaceLaws.{first-inside}
-use Rattle.text.specs.declared.trim.Span.{Span}
-use Rattle.text.specs.Trim.{trimBoth, startsWhite}
-use Rattle.parts.specs.declared.arrow.Arrow.{Arrow}
-use Rattle.parts.specs.declared.arrow.Arrow.the-variants.{Sides, NoArrow}
-use Rattle.parts.specs.declared.field.Field as field
-use Rattle.parts.specs.declared.field.Field.the-variants as fields
-use Rattle.parts.specs.declared.method.Method.{Method}
-use Rattle.parts.specs.declared.method.MethodParts.{MethodParts}
-use Rattle.parts.specs.declared.method.MethodParts.the-variants as methods
+use Rattle.text_places.specs.declared.find.Place.{Place}
+use Rattle.text_places.specs.declared.find.Place.the-variants.{At, Nowhere}
+use Rattle.text_places.specs.Places.{firstWhere, starts}
+use Rattle.text_places.proofs.PlaceLaws.{first-inside}
+use Rattle.text_white.specs.declared.trim.Span.{Span}
+use Rattle.text_white.specs.Trim.{trimBoth, startsWhite}
+use Rattle.line_parts.specs.declared.arrow.Arrow.{Arrow}
+use Rattle.line_parts.specs.declared.arrow.Arrow.the-variants.{Sides, NoArrow}
+use Rattle.line_parts.specs.declared.field.Field as field
+use Rattle.line_parts.specs.declared.field.Field.the-variants as fields
+use Rattle.line_parts.specs.declared.method.Method.{Method}
+use Rattle.line_parts.specs.declared.method.MethodParts.{MethodParts}
+use Rattle.line_parts.specs.declared.method.MethodParts.the-variants as methods
 use Rattle.line.specs.declared.line.Line.{Line}
 use Rattle.line.specs.declared.line.Line.the-variants as lines
-use Rattle.parts.specs.Spans.{shift, partOf, Lies, largest}
-use Rattle.parts.specs.Arrows.{arrowOf, classOf}
-use Rattle.parts.specs.Fields.{fieldOf}
-use Rattle.parts.specs.Methods.{shiftMethod, MethodIn, methodOf}
+use Rattle.line_parts.specs.Spans.{shift, partOf, Lies, largest}
+use Rattle.line_parts.specs.Arrows.{arrowOf, classSides}
+use Rattle.line_parts.specs.Fields.{fieldOf}
+use Rattle.line_parts.specs.Methods.{shiftMethod, MethodIn, methodOf}
 use Rattle.line.specs.Kinds.{placeFrom, commentAt, classBy, classAt, methodBy, methodAt, fieldBy, fieldAt, bySide, memberBy, memberAt, lineIn, lineOf}
-use Rattle.text.proofs.TrimLaws.{trim-inside, trim-order}
-use Rattle.parts.proofs.Lying.{arrow-lies, class-lies, field-lies, shift-lies, part-length}
-use Rattle.parts.proofs.Methods.{method-lies, shift-method-lies}
+use Rattle.text_white.proofs.TrimLaws.{trim-inside, trim-order}
+use Rattle.line_parts.proofs.Lying.{arrow-lies, class-lies, field-lies, shift-lies, part-length}
+use Rattle.line_parts.proofs.Methods.{method-lies, shift-method-lies}
 
 -- Comments.
 module _ (s : List ℕ) (by : ℕ) {p : Place} (e : p ≡ firstWhere (starts 0x7B) s) where
@@ -50,7 +50,7 @@ module _ (s : List ℕ) (by : ℕ) {p : Place} (e : p ≡ firstWhere (starts 0x7
 pub ruleset commenting = (comment-none, comment-fits, comment-at, needs)
 
 -- Classes.
-module _ (s : List ℕ) (by : ℕ) (h : by + length s ≤ largest) {t : Arrow} (e : t ≡ classOf s) where
+module _ (s : List ℕ) (by : ℕ) (h : by + length s ≤ largest) {t : Arrow} (e : t ≡ classSides s) where
   pub class-none : t ≡ NoArrow → lines.Refused 3 ≡ classAt by s
   class-none g = sym (ap (classBy by) (sym e ∙ g))
 

@@ -12,17 +12,17 @@ use lib.Seq.{drop-drop, getD-drop, take-take, take-length, length-take-le}
 use borrow.Author.Tests.{eqb-true, ne-eqb}
 use Rattle.ground.specs.Choice.{pick}
 use Rattle.ground.proofs.Parts.{drop-take, take-rest}
-use Rattle.places.specs.declared.find.Place.{Place}
-use Rattle.places.specs.declared.find.Place.the-variants.{At, Nowhere}
-use Rattle.places.specs.Places.{firstWhere, lastWhere, starts, startsPair}
-use Rattle.places.proofs.PlaceLaws.{first-inside, last-inside}
-use Rattle.places.proofs.Holds.{first-is, last-is, pair-inside}
-use Rattle.places.proofs.Found.{pair-stands}
-use Rattle.utf8.specs.Grammar.{UTF8-octets}
-use Rattle.utf8.proofs.Boundaries.{octets-as, Texts, no-text, text, Fresh, fresh-as, octets-fresh, fresh-ascii, fresh-after, after-octets, take-octets, drop-octets, part-octets}
-use Rattle.text.specs.declared.trim.Span.{Span}
-use Rattle.text.specs.Trim.{trimBoth, startsWhite, firstWhite, lastWhite}
-use Rattle.text.proofs.Cuts.{trim-octets, first-white-fresh, last-white-fresh, Splitting, split-texts}
+use Rattle.text_places.specs.declared.find.Place.{Place}
+use Rattle.text_places.specs.declared.find.Place.the-variants.{At, Nowhere}
+use Rattle.text_places.specs.Places.{firstWhere, lastWhere, starts, startsPair}
+use Rattle.text_places.proofs.PlaceLaws.{first-inside, last-inside}
+use Rattle.text_places.proofs.Holds.{first-is, last-is, pair-inside}
+use Rattle.text_places.proofs.Found.{pair-stands}
+use Rattle.text_utf8.specs.Grammar.{UTF8-octets}
+use Rattle.text_utf8.proofs.Boundaries.{octets-as, Texts, no-text, text, Fresh, fresh-as, octets-fresh, fresh-ascii, fresh-after, after-octets, take-octets, drop-octets, part-octets}
+use Rattle.text_white.specs.declared.trim.Span.{Span}
+use Rattle.text_white.specs.Trim.{trimBoth, startsWhite, firstWhite, lastWhite}
+use Rattle.text_white.proofs.Cuts.{trim-octets, first-white-fresh, last-white-fresh, Splitting, split-texts}
 use Rattle.number.specs.declared.read.Number.{Number}
 use Rattle.number.specs.declared.read.Number.the-variants.{Value, Unread}
 use Rattle.number.specs.declared.range.LeadingRange.{LeadingRange}
@@ -31,23 +31,23 @@ use Rattle.number.specs.declared.range.TrailingRange.{TrailingRange}
 use Rattle.number.specs.declared.range.TrailingRange.the-variants as trailing
 use Rattle.number.specs.Numbers.{numberOf}
 use Rattle.number.specs.Ranges.{firstColon, bothRead, cutTwice, cutOnce, leadingRange}
-use Rattle.parts.specs.declared.arrow.Arrow.the-variants.{Sides, NoArrow}
-use Rattle.parts.specs.declared.field.Field.the-variants as field
-use Rattle.parts.specs.declared.signature.Qualified.{Qualified}
-use Rattle.parts.specs.declared.signature.Qualified.the-variants.{Owned, Plain}
-use Rattle.parts.specs.declared.signature.Signature.{Signature}
-use Rattle.parts.specs.declared.signature.Signature.the-variants as signature
-use Rattle.parts.specs.declared.method.LineRange.{LineRange}
-use Rattle.parts.specs.declared.method.LineRange.the-variants.{Lines, NoLines}
-use Rattle.parts.specs.declared.method.Method.{Method}
-use Rattle.parts.specs.declared.method.MethodParts.the-variants.{Parts}
-use Rattle.parts.specs.Spans.{span, shift, isEmpty, partOf, Lies, NameIn}
-use Rattle.arguments.specs.Arguments.{commaParts, filled, argumentsOf}
-use Rattle.parts.specs.Arrows.{sidesOf, splitAt, arrowOf, classOf}
-use Rattle.parts.specs.Fields.{fieldAt, fieldOf}
-use Rattle.parts.specs.Signatures.{nameAt, nameOf, linesAfter, signatureAt, signatureOf}
-use Rattle.parts.specs.Methods.{shiftName, shiftMethod, MethodIn, settledOf, withSignature, typeAt, methodFrom, methodAfter, methodOf}
-use Rattle.parts.proofs.Lying.{trim-lies, part-length, arrow-lies, signature-lies, shift-lies}
+use Rattle.line_parts.specs.declared.arrow.Arrow.the-variants.{Sides, NoArrow}
+use Rattle.line_parts.specs.declared.field.Field.the-variants as field
+use Rattle.line_parts.specs.declared.signature.Qualified.{Qualified}
+use Rattle.line_parts.specs.declared.signature.Qualified.the-variants.{Owned, Plain}
+use Rattle.line_parts.specs.declared.signature.Signature.{Signature}
+use Rattle.line_parts.specs.declared.signature.Signature.the-variants as signature
+use Rattle.line_parts.specs.declared.method.LineRange.{LineRange}
+use Rattle.line_parts.specs.declared.method.LineRange.the-variants.{Lines, NoLines}
+use Rattle.line_parts.specs.declared.method.Method.{Method}
+use Rattle.line_parts.specs.declared.method.MethodParts.the-variants.{Parts}
+use Rattle.line_parts.specs.Spans.{span, shift, isEmpty, partOf, Lies, NameIn}
+use Rattle.line_arguments.specs.Arguments.{commaParts, filled, argumentsOf}
+use Rattle.line_parts.specs.Arrows.{sidesOf, splitAt, arrowOf, classSides}
+use Rattle.line_parts.specs.Fields.{fieldSplit, fieldOf}
+use Rattle.line_parts.specs.Signatures.{qualifiedAt, qualifiedOf, linesAfter, methodSignatureAt, methodSignature}
+use Rattle.line_parts.specs.Methods.{shiftName, shiftMethod, MethodIn, settledOf, withSignature, typeAt, methodFrom, methodAfter, methodOf}
+use Rattle.line_parts.proofs.Lying.{trim-lies, part-length, arrow-lies, signature-lies, shift-lies}
 
 -- A text that stands in another from the place `by` on: its parts are parts of that one.
 pub record Stands (s : List ℕ) (by : ℕ) (t : List ℕ) : Type 0 where
@@ -102,7 +102,7 @@ arrow-octets {s} o {l} {r} e = go (firstWhere (startsPair 0x2D 0x3E) s) refl e
           octets-as (stands-part (drop-stands s (i + 2)) (trimBoth (drop (i + 2) s)) (trim-lies (drop (i + 2) s)) ∙ ap (partOf s) b) (trim-octets right),
         )
 
-pub class-octets : {s : List ℕ} → UTF8-octets s → {l r : Span} → classOf s ≡ Sides l r → UTF8-octets (partOf s l) × UTF8-octets (partOf s r)
+pub class-octets : {s : List ℕ} → UTF8-octets s → {l r : Span} → classSides s ≡ Sides l r → UTF8-octets (partOf s l) × UTF8-octets (partOf s r)
 class-octets {s} o {l} {r} e = go (eqb (getD s (length s - 1) 0) 0x3A) refl e
   where
     go : (b : Bool) → eqb (getD s (length s - 1) 0) 0x3A ≡ b → pick b (arrowOf (take (length s - 1) s)) NoArrow ≡ Sides l r →
@@ -119,7 +119,7 @@ class-octets {s} o {l} {r} e = go (eqb (getD s (length s - 1) 0) 0x3A) refl e
 pub field-octets : {s : List ℕ} → UTF8-octets s → {d n : Span} → fieldOf s ≡ field.Parts d n → UTF8-octets (partOf s d) × UTF8-octets (partOf s n)
 field-octets {s} o {d} {n} e = go (lastWhite s) refl e
   where
-    go : (p : Place) → lastWhite s ≡ p → fieldAt s p ≡ field.Parts d n → UTF8-octets (partOf s d) × UTF8-octets (partOf s n)
+    go : (p : Place) → lastWhite s ≡ p → fieldSplit s p ≡ field.Parts d n → UTF8-octets (partOf s d) × UTF8-octets (partOf s n)
     go Nowhere q f = absurd (let z : _≡_ {A = ℕ} 0 1 = cc in omega arith)
     go (At i) q f =
         let here = last-inside startsWhite s q in
@@ -145,10 +145,10 @@ start-part s i = let z : i - 0 ≡ i = omega arith in ap (λ n. take n s) z
 end-part : (s : List ℕ) (i : ℕ) → partOf s (span i (length s)) ≡ drop i s
 end-part s i = take-rest s i
 
-name-octets : {s : List ℕ} → UTF8-octets s → NameOctets s (nameOf s)
+name-octets : {s : List ℕ} → UTF8-octets s → NameOctets s (qualifiedOf s)
 name-octets {s} o = go (lastWhere (starts 0x2E) s) refl
   where
-    go : (p : Place) → lastWhere (starts 0x2E) s ≡ p → NameOctets s (nameAt s p)
+    go : (p : Place) → lastWhere (starts 0x2E) s ≡ p → NameOctets s (qualifiedAt s p)
     go Nowhere q = octets-as (sym (whole-part s)) o
     go (At i) q =
         let here = last-inside (starts 0x2E) s q in
@@ -161,10 +161,10 @@ name-stands : {s : List ℕ} {by : ℕ} {t : List ℕ} → Stands s by t → (q 
 name-stands k (Owned owner name) (l, m) (a, b) = (octets-as (stands-part k owner l) a, octets-as (stands-part k name m) b)
 name-stands k (Plain name) l a = octets-as (stands-part k name l) a
 
-name-in : (s : List ℕ) → NameIn (nameOf s) (length s)
+name-in : (s : List ℕ) → NameIn (qualifiedOf s) (length s)
 name-in s = go (lastWhere (starts 0x2E) s) refl
   where
-    go : (p : Place) → lastWhere (starts 0x2E) s ≡ p → NameIn (nameAt s p) (length s)
+    go : (p : Place) → lastWhere (starts 0x2E) s ≡ p → NameIn (qualifiedAt s p) (length s)
     go Nowhere q = record { order = omega arith; within = omega arith }
     go (At i) q =
         let here = last-inside (starts 0x2E) s q in
@@ -181,27 +181,27 @@ lies-as : {p q : Span} {n : ℕ} → p ≡ q → Lies p n → Lies q n
 lies-as e l = rw e at l
 
 -- A method's name and arguments.
-pub signature-octets : {s : List ℕ} → UTF8-octets s → {n : Qualified} {a : Span} {t : TrailingRange} → signatureOf s ≡ signature.Parts n a t →
+pub signature-octets : {s : List ℕ} → UTF8-octets s → {n : Qualified} {a : Span} {t : TrailingRange} → methodSignature s ≡ signature.Parts n a t →
     NameOctets s n × UTF8-octets (partOf s a)
 signature-octets {s} o {n} {a} {t} e = go (firstWhere (starts 0x28) s) refl (lastWhere (starts 0x29) s) refl e
   where
     in-order : (i j : ℕ) → firstWhere (starts 0x28) s ≡ At i → lastWhere (starts 0x29) s ≡ At j → (b : Bool) →
-        pick b signature.NoSignature (signature.Parts (nameOf (take i s)) (span (i + 1) j) (linesAfter (drop (j + 1) s))) ≡ signature.Parts n a t →
+        pick b signature.NoSignature (signature.Parts (qualifiedOf (take i s)) (span (i + 1) j) (linesAfter (drop (j + 1) s))) ≡ signature.Parts n a t →
         NameOctets s n × UTF8-octets (partOf s a)
     in-order i j p q true f = absurd (let z : _≡_ {A = ℕ} 0 1 = cc in omega arith)
     in-order i j p q false f =
         let before = first-inside (starts 0x28) s p in
         let opens = first-is 0x28 s p in
         let closes = last-is 0x29 s q in
-        let named : nameOf (take i s) ≡ n = cc in
+        let named : qualifiedOf (take i s) ≡ n = cc in
         let between : span (i + 1) j ≡ a = cc in
         let lies : Lies (span (i + 1) j) (length s) = lies-as (sym between) (signature-lies s e .1) in
         let front = take-octets o i (fresh-ascii s i (omega arith)) in (
-          name-as s named (name-take s i (omega arith) (nameOf (take i s)) (name-in (take i s)) (name-octets front)),
+          name-as s named (name-take s i (omega arith) (qualifiedOf (take i s)) (name-in (take i s)) (name-octets front)),
           octets-as (ap (partOf s) between) (part-octets o (i + 1) j (lies .order) (fresh-after o i before (omega arith)) (fresh-ascii s j (omega arith))),
         )
 
-    go : (p : Place) → firstWhere (starts 0x28) s ≡ p → (q : Place) → lastWhere (starts 0x29) s ≡ q → signatureAt s p q ≡ signature.Parts n a t →
+    go : (p : Place) → firstWhere (starts 0x28) s ≡ p → (q : Place) → lastWhere (starts 0x29) s ≡ q → methodSignatureAt s p q ≡ signature.Parts n a t →
         NameOctets s n × UTF8-octets (partOf s a)
     go Nowhere p q r f = absurd (let z : _≡_ {A = ℕ} 0 1 = cc in omega arith)
     go (At i) p Nowhere r f = absurd (let z : _≡_ {A = ℕ} 0 1 = cc in omega arith)
@@ -230,7 +230,7 @@ module _ {left : List ℕ} (o : UTF8-octets left) where
       type-on = drop-octets o rest f
 
       by-signature : (white : ℕ) → firstWhite (drop rest left) ≡ At white → (t : Signature) →
-          signatureOf (partOf (drop (rest + white) left) (trimBoth (drop (rest + white) left))) ≡ t →
+          methodSignature (partOf (drop (rest + white) left) (trimBoth (drop (rest + white) left))) ≡ t →
           withSignature (span rest (rest + white)) (rest + white + trimBoth (drop (rest + white) left) .start) raw t ≡ Parts m → MethodOctets left m
       by-signature white p signature.NoSignature q g = absurd (let z : _≡_ {A = ℕ} 0 1 = cc in omega arith)
       by-signature white p (signature.Parts named arguments lines) q g =
@@ -255,7 +255,7 @@ module _ {left : List ℕ} (o : UTF8-octets left) where
 
       by-white : (p : Place) → firstWhite (drop rest left) ≡ p → typeAt left rest raw p ≡ Parts m → MethodOctets left m
       by-white Nowhere q g = absurd (let z : _≡_ {A = ℕ} 0 1 = cc in omega arith)
-      by-white (At white) q g = by-signature white q (signatureOf (partOf (drop (rest + white) left) (trimBoth (drop (rest + white) left)))) refl g
+      by-white (At white) q g = by-signature white q (methodSignature (partOf (drop (rest + white) left) (trimBoth (drop (rest + white) left)))) refl g
 
   -- what is left behind a raw range starts behind a colon
   leading-fresh : {a b rest : ℕ} → leadingRange left ≡ leading.Taken a b rest → Fresh (drop rest left)

@@ -7,31 +7,31 @@ use native.Mathlib.Omega.{arith}
 use lib.ListN.{length}
 use Rattle.ground.specs.Choice.{pick}
 use Rattle.ground.proofs.Parts.{take-rest}
-use Rattle.places.specs.declared.find.Place.{Place}
-use Rattle.places.specs.declared.find.Place.the-variants.{At, Nowhere}
-use Rattle.places.specs.Places.{firstWhere, starts}
-use Rattle.places.proofs.PlaceLaws.{first-inside}
-use Rattle.places.proofs.Holds.{first-is}
-use Rattle.utf8.specs.Grammar.{UTF8-octets}
-use Rattle.utf8.proofs.Boundaries.{octets-as, fresh-ascii, drop-octets}
-use Rattle.text.specs.declared.trim.Span.{Span}
-use Rattle.text.specs.Trim.{trimBoth, startsWhite}
-use Rattle.text.proofs.Cuts.{trim-octets}
-use Rattle.parts.specs.declared.arrow.Arrow.{Arrow}
-use Rattle.parts.specs.declared.arrow.Arrow.the-variants.{Sides, NoArrow}
-use Rattle.parts.specs.declared.field.Field as field
-use Rattle.parts.specs.declared.field.Field.the-variants as fields
-use Rattle.parts.specs.declared.method.MethodParts as method
-use Rattle.parts.specs.declared.method.MethodParts.the-variants as methods
+use Rattle.text_places.specs.declared.find.Place.{Place}
+use Rattle.text_places.specs.declared.find.Place.the-variants.{At, Nowhere}
+use Rattle.text_places.specs.Places.{firstWhere, starts}
+use Rattle.text_places.proofs.PlaceLaws.{first-inside}
+use Rattle.text_places.proofs.Holds.{first-is}
+use Rattle.text_utf8.specs.Grammar.{UTF8-octets}
+use Rattle.text_utf8.proofs.Boundaries.{octets-as, fresh-ascii, drop-octets}
+use Rattle.text_white.specs.declared.trim.Span.{Span}
+use Rattle.text_white.specs.Trim.{trimBoth, startsWhite}
+use Rattle.text_white.proofs.Cuts.{trim-octets}
+use Rattle.line_parts.specs.declared.arrow.Arrow.{Arrow}
+use Rattle.line_parts.specs.declared.arrow.Arrow.the-variants.{Sides, NoArrow}
+use Rattle.line_parts.specs.declared.field.Field as field
+use Rattle.line_parts.specs.declared.field.Field.the-variants as fields
+use Rattle.line_parts.specs.declared.method.MethodParts as method
+use Rattle.line_parts.specs.declared.method.MethodParts.the-variants as methods
 use Rattle.line.specs.declared.line.Line.{Line}
 use Rattle.line.specs.declared.line.Line.the-variants.{Blank, Comment, Class, Field, Method, Refused}
-use Rattle.parts.specs.Spans.{span, shift, isEmpty, partOf, Lies}
-use Rattle.parts.specs.Arrows.{arrowOf, classOf}
-use Rattle.parts.specs.Fields.{fieldOf}
-use Rattle.parts.specs.Methods.{methodOf}
+use Rattle.line_parts.specs.Spans.{span, shift, isEmpty, partOf, Lies}
+use Rattle.line_parts.specs.Arrows.{arrowOf, classSides}
+use Rattle.line_parts.specs.Fields.{fieldOf}
+use Rattle.line_parts.specs.Methods.{methodOf}
 use Rattle.line.specs.Kinds.{placeFrom, commentAt, classBy, classAt, methodBy, methodAt, fieldBy, fieldAt, bySide, memberBy, memberAt, lineOf}
-use Rattle.parts.proofs.Lying.{trim-lies, part-length, arrow-lies, class-lies, field-lies, shift-lies}
-use Rattle.parts.proofs.Methods.{method-lies}
+use Rattle.line_parts.proofs.Lying.{trim-lies, part-length, arrow-lies, class-lies, field-lies, shift-lies}
+use Rattle.line_parts.proofs.Methods.{method-lies}
 use Rattle.line.proofs.Octets.{Stands, stands-part, part-stands, arrow-octets, class-octets, field-octets, MethodOctets, method-octets, method-stands}
 
 -- each part of the line `s`, which ends at the place `e` without the white space at its end
@@ -58,9 +58,9 @@ module _ (s : List ℕ) (by e : ℕ) (t : List ℕ) (k : Stands s by t) (o : UTF
           octets-as (stands-part k (span i (length t)) (record { order = omega arith; within = omega arith }) ∙ ap (λ n. partOf s (span (by + i) n)) (sym q)) rest
 
   class-line-octets : LineOctets s e (classAt by t)
-  class-line-octets = go (classOf t) refl
+  class-line-octets = go (classSides t) refl
     where
-      go : (a : Arrow) → classOf t ≡ a → LineOctets s e (classBy by a)
+      go : (a : Arrow) → classSides t ≡ a → LineOctets s e (classBy by a)
       go NoArrow f = tt
       go (Sides l r) f =
           let (a, b) = class-octets o f in

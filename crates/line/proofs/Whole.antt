@@ -6,27 +6,27 @@ use Prim.Native.Nat.{ℕ, _+_, _-_, _≤_, _<_}
 use native.Mathlib.Omega.{arith}
 use lib.ListN.{length}
 use Rattle.ground.specs.Choice.{pick}
-use Rattle.places.specs.declared.find.Place.{Place}
-use Rattle.places.specs.declared.find.Place.the-variants.{At, Nowhere}
-use Rattle.places.specs.Places.{firstWhere, starts}
-use Rattle.places.proofs.PlaceLaws.{first-inside}
-use Rattle.text.specs.declared.trim.Span.{Span}
-use Rattle.text.specs.Trim.{trimBoth, startsWhite}
-use Rattle.parts.specs.declared.arrow.Arrow.{Arrow}
-use Rattle.parts.specs.declared.arrow.Arrow.the-variants.{Sides, NoArrow}
-use Rattle.parts.specs.declared.field.Field as field
-use Rattle.parts.specs.declared.field.Field.the-variants as fields
-use Rattle.parts.specs.declared.method.MethodParts as method
-use Rattle.parts.specs.declared.method.MethodParts.the-variants as methods
+use Rattle.text_places.specs.declared.find.Place.{Place}
+use Rattle.text_places.specs.declared.find.Place.the-variants.{At, Nowhere}
+use Rattle.text_places.specs.Places.{firstWhere, starts}
+use Rattle.text_places.proofs.PlaceLaws.{first-inside}
+use Rattle.text_white.specs.declared.trim.Span.{Span}
+use Rattle.text_white.specs.Trim.{trimBoth, startsWhite}
+use Rattle.line_parts.specs.declared.arrow.Arrow.{Arrow}
+use Rattle.line_parts.specs.declared.arrow.Arrow.the-variants.{Sides, NoArrow}
+use Rattle.line_parts.specs.declared.field.Field as field
+use Rattle.line_parts.specs.declared.field.Field.the-variants as fields
+use Rattle.line_parts.specs.declared.method.MethodParts as method
+use Rattle.line_parts.specs.declared.method.MethodParts.the-variants as methods
 use Rattle.line.specs.declared.line.Line.{Line}
 use Rattle.line.specs.declared.line.Line.the-variants.{Blank, Comment, Class, Field, Method, Refused}
-use Rattle.parts.specs.Spans.{shift, isEmpty, partOf, Lies}
-use Rattle.parts.specs.Arrows.{arrowOf, classOf}
-use Rattle.parts.specs.Fields.{fieldOf}
-use Rattle.parts.specs.Methods.{MethodIn, methodOf}
+use Rattle.line_parts.specs.Spans.{shift, isEmpty, partOf, Lies}
+use Rattle.line_parts.specs.Arrows.{arrowOf, classSides}
+use Rattle.line_parts.specs.Fields.{fieldOf}
+use Rattle.line_parts.specs.Methods.{MethodIn, methodOf}
 use Rattle.line.specs.Kinds.{placeFrom, commentAt, classBy, classAt, methodBy, methodAt, fieldBy, fieldAt, bySide, memberBy, memberAt, lineIn, lineOf}
-use Rattle.parts.proofs.Lying.{trim-lies, arrow-lies, class-lies, field-lies, shift-lies, part-length}
-use Rattle.parts.proofs.Methods.{method-lies, shift-method-lies}
+use Rattle.line_parts.proofs.Lying.{trim-lies, arrow-lies, class-lies, field-lies, shift-lies, part-length}
+use Rattle.line_parts.proofs.Methods.{method-lies, shift-method-lies}
 
 -- all parts lie in the first `n` bytes
 abbrev pub LineIn : Line → ℕ → Type 0
@@ -47,9 +47,9 @@ module _ (by n : ℕ) (s : List ℕ) (h : by + length s ≤ n) where
       go (At i) e = let j = first-inside (starts 0x7B) s e in omega arith
 
   class-in : LineIn (classAt by s) n
-  class-in = go (classOf s) refl
+  class-in = go (classSides s) refl
     where
-      go : (a : Arrow) → classOf s ≡ a → LineIn (classBy by a) n
+      go : (a : Arrow) → classSides s ≡ a → LineIn (classBy by a) n
       go NoArrow e = tt
       go (Sides l r) e = (shift-lies by l (length s) n h (class-lies s e .0), shift-lies by r (length s) n h (class-lies s e .1))
 

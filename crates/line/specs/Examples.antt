@@ -3,18 +3,18 @@ use mathlib.Core.Path.{_≡_, refl}
 use mathlib.Core.Bool.{true, false}
 use mathlib.Core.List.{[], _∷_}
 use Rattle.ground.specs.Ascii.{ascii}
-use Rattle.places.specs.declared.find.Place.the-variants.{At, Nowhere}
-use Rattle.places.specs.Places.{firstFrom, lastFrom}
-use Rattle.utf8.specs.Utf8.{leadOf, tails, afterLead, sequenceOf, piecesFrom}
-use Rattle.text.specs.White.{whiteRanges, inRanges, isWhite}
-use Rattle.text.specs.Trim.{runOf, allWhite, trimEnd}
-use Rattle.number.specs.Numbers.{digits, plain, numberOf}
-use Rattle.parts.specs.declared.signature.Qualified.the-variants.{Owned, Plain}
-use Rattle.parts.specs.declared.method.LineRange.the-variants.{Lines, NoLines}
+use Rattle.text_places.specs.declared.find.Place.the-variants.{At, Nowhere}
+use Rattle.text_places.specs.Places.{firstFrom, lastFrom}
+use Rattle.text_utf8.specs.Utf8.{leadOf, tails, afterLead, sequenceOf, piecesFrom}
+use Rattle.text_white.specs.White.{whiteRanges, inRanges, isWhite}
+use Rattle.text_white.specs.Trim.{runOf, allWhite, trimEnd}
+use Rattle.number.specs.Numbers.{digitsFrom, plain, numberOf}
+use Rattle.line_parts.specs.declared.signature.Qualified.the-variants.{Owned, Plain}
+use Rattle.line_parts.specs.declared.method.LineRange.the-variants.{Lines, NoLines}
 use Rattle.line.specs.declared.line.Line.the-variants.{Blank, Comment, Class, Field, Method, Refused}
-use Rattle.arguments.specs.Arguments.{commaParts, filled, argumentsOf}
+use Rattle.line_arguments.specs.Arguments.{commaParts, filled, argumentsOf}
 use Rattle.line.specs.Kinds.{lineOf}
-use Rattle.parts.specs.Spans.{span}
+use Rattle.line_parts.specs.Spans.{span}
 
 examples :
     -- the five lines of document 01's example
@@ -41,5 +41,5 @@ examples :
     × (lineOf (0xC2 ∷ 0xA0 ∷ ascii "n -> b") ≡ Refused 7)
     -- blank arguments go
     × (argumentsOf (ascii " int, ,a.B ,") ≡ ascii "int" ∷ ascii "a.B" ∷ [])
-unfolding ascii firstFrom lastFrom digits plain numberOf runOf trimEnd allWhite piecesFrom sequenceOf afterLead leadOf tails isWhite inRanges whiteRanges commaParts filled
+unfolding ascii firstFrom lastFrom digitsFrom plain numberOf runOf trimEnd allWhite piecesFrom sequenceOf afterLead leadOf tails isWhite inRanges whiteRanges commaParts filled
 examples = (refl, refl, refl, refl, refl, refl, refl, refl, refl, refl, refl, refl, refl, refl, refl)

@@ -2,23 +2,23 @@
 use mathlib.Core.List.{List}
 use Prim.Native.Nat.{ℕ, _+_}
 use Rattle.ground.specs.Choice.{pick}
-use Rattle.places.specs.declared.find.Place.{Place}
-use Rattle.places.specs.declared.find.Place.the-variants.{At, Nowhere}
-use Rattle.places.specs.Places.{firstWhere, starts}
-use Rattle.text.specs.declared.trim.Span.{Span}
-use Rattle.text.specs.Trim.{trimBoth, startsWhite}
-use Rattle.parts.specs.declared.arrow.Arrow.{Arrow}
-use Rattle.parts.specs.declared.arrow.Arrow.the-variants.{Sides, NoArrow}
-use Rattle.parts.specs.declared.field.Field as field
-use Rattle.parts.specs.declared.field.Field.the-variants as fields
-use Rattle.parts.specs.declared.method.MethodParts as method
-use Rattle.parts.specs.declared.method.MethodParts.the-variants as methods
+use Rattle.text_places.specs.declared.find.Place.{Place}
+use Rattle.text_places.specs.declared.find.Place.the-variants.{At, Nowhere}
+use Rattle.text_places.specs.Places.{firstWhere, starts}
+use Rattle.text_white.specs.declared.trim.Span.{Span}
+use Rattle.text_white.specs.Trim.{trimBoth, startsWhite}
+use Rattle.line_parts.specs.declared.arrow.Arrow.{Arrow}
+use Rattle.line_parts.specs.declared.arrow.Arrow.the-variants.{Sides, NoArrow}
+use Rattle.line_parts.specs.declared.field.Field as field
+use Rattle.line_parts.specs.declared.field.Field.the-variants as fields
+use Rattle.line_parts.specs.declared.method.MethodParts as method
+use Rattle.line_parts.specs.declared.method.MethodParts.the-variants as methods
 use Rattle.line.specs.declared.line.Line.{Line}
 use Rattle.line.specs.declared.line.Line.the-variants.{Blank, Comment, Class, Field, Method, Refused}
-use Rattle.parts.specs.Spans.{shift, isEmpty, partOf}
-use Rattle.parts.specs.Arrows.{arrowOf, classOf}
-use Rattle.parts.specs.Fields.{fieldOf}
-use Rattle.parts.specs.Methods.{shiftMethod, methodOf}
+use Rattle.line_parts.specs.Spans.{shift, isEmpty, partOf}
+use Rattle.line_parts.specs.Arrows.{arrowOf, classSides}
+use Rattle.line_parts.specs.Fields.{fieldOf}
+use Rattle.line_parts.specs.Methods.{shiftMethod, methodOf}
 
 -- a place in what starts at the place `by`
 abbrev pub placeFrom : ℕ → Place → Place
@@ -35,7 +35,7 @@ classBy by NoArrow = Refused 3
 classBy by (Sides display raw) = Class (shift by display) (shift by raw)
 
 abbrev pub classAt : ℕ → List ℕ → Line
-classAt by s = classBy by (classOf s)
+classAt by s = classBy by (classSides s)
 
 -- a method, else 6
 abbrev pub methodBy : ℕ → Span → method.MethodParts → Line

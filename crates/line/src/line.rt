@@ -1,23 +1,23 @@
 // What a line is, with the places of its parts in it.
-use parts::Arrow;
-use parts::Field;
-use parts::Method;
-use parts::MethodParts;
-use parts::class_sides;
-use parts::field_parts;
-use parts::method_parts;
-use parts::shifted;
-use parts::shifted_method;
-use parts::split_arrow;
-use places::Place;
-use places::first_byte;
-use text::Span;
-use text::starts_white;
-use text::trim_both;
+use line_parts::Arrow;
+use line_parts::Field;
+use line_parts::Method;
+use line_parts::MethodParts;
+use line_parts::class_sides;
+use line_parts::field_parts;
+use line_parts::method_parts;
+use line_parts::shifted;
+use line_parts::shifted_method;
+use line_parts::split_arrow;
+use text_places::Place;
+use text_places::first_byte;
+use text_white::Span;
+use text_white::starts_white;
+use text_white::trim_both;
 ghost use mathlib.Core.Path.{_≡_};
 ghost use Prim.Native.Nat.{_+_, _≤_};
 ghost use lib.ListN.{length};
-ghost use Rattle.parts.specs.Spans.{largest};
+ghost use Rattle.line_parts.specs.Spans.{largest};
 ghost use Rattle.line.specs.Kinds.{lineOf, commentAt, classAt, memberAt, methodAt, fieldAt};
 
 pub enum Line {

@@ -6,26 +6,26 @@ use Prim.Native.Nat.{ℕ, _+_, _^_, _<_}
 use native.Mathlib.Omega.{arith}
 use lib.ListN.{length}
 use Rattle.ground.specs.Choice.{pick}
-use Rattle.places.specs.declared.find.Place.{Place}
-use Rattle.places.specs.declared.find.Place.the-variants.{At, Nowhere}
-use Rattle.places.specs.Places.{firstWhere, starts, placeNumber}
-use Rattle.places.proofs.PlaceLaws.{first-inside}
-use Rattle.text.specs.declared.trim.Span.{Span}
-use Rattle.text.specs.Trim.{trimBoth, startsWhite}
-use Rattle.parts.specs.declared.arrow.Arrow.{Arrow}
-use Rattle.parts.specs.declared.arrow.Arrow.the-variants.{Sides, NoArrow}
-use Rattle.parts.specs.declared.field.Field as field
-use Rattle.parts.specs.declared.field.Field.the-variants as fields
-use Rattle.parts.specs.declared.method.MethodParts.{MethodParts}
-use Rattle.parts.specs.declared.method.MethodParts.the-variants as methods
+use Rattle.text_places.specs.declared.find.Place.{Place}
+use Rattle.text_places.specs.declared.find.Place.the-variants.{At, Nowhere}
+use Rattle.text_places.specs.Places.{firstWhere, starts, placeNumber}
+use Rattle.text_places.proofs.PlaceLaws.{first-inside}
+use Rattle.text_white.specs.declared.trim.Span.{Span}
+use Rattle.text_white.specs.Trim.{trimBoth, startsWhite}
+use Rattle.line_parts.specs.declared.arrow.Arrow.{Arrow}
+use Rattle.line_parts.specs.declared.arrow.Arrow.the-variants.{Sides, NoArrow}
+use Rattle.line_parts.specs.declared.field.Field as field
+use Rattle.line_parts.specs.declared.field.Field.the-variants as fields
+use Rattle.line_parts.specs.declared.method.MethodParts.{MethodParts}
+use Rattle.line_parts.specs.declared.method.MethodParts.the-variants as methods
 use Rattle.line.specs.declared.line.Line.{Line}
 use Rattle.line.specs.declared.line.Line.the-variants as lines
-use Rattle.parts.specs.Spans.{isEmpty, partOf}
-use Rattle.parts.specs.Arrows.{arrowOf, classOf}
-use Rattle.parts.specs.Fields.{fieldOf}
-use Rattle.parts.specs.Methods.{methodOf}
+use Rattle.line_parts.specs.Spans.{isEmpty, partOf}
+use Rattle.line_parts.specs.Arrows.{arrowOf, classSides}
+use Rattle.line_parts.specs.Fields.{fieldOf}
+use Rattle.line_parts.specs.Methods.{methodOf}
 use Rattle.line.specs.Kinds.{placeFrom, commentAt, classBy, classAt, methodBy, fieldBy, bySide, memberBy, memberAt, lineOf}
-use Rattle.parts.proofs.Lying.{trim-lies, part-length}
+use Rattle.line_parts.proofs.Lying.{trim-lies, part-length}
 
 -- No other line is a comment.
 class-other : (by : ℕ) (a : Arrow) {p : Place} → classBy by a ≡ lines.Comment p → ⊥
@@ -74,7 +74,7 @@ brace-inside s {i} e = go (isEmpty (trimBoth s)) (starts 0x23 (partOf s (trimBot
         let within = trim-lies s .within in
         omega arith
     go false false true f = absurd (member-other by part (arrowOf part) f)
-    go false false false f = absurd (class-other by (classOf part) f)
+    go false false false f = absurd (class-other by (classSides part) f)
 
 pub brace-counts : (s : List ℕ) {t : Line} {p : Place} → t ≡ lineOf s → t ≡ lines.Comment p → length s < 2 ^ 64 → placeNumber p < 2 ^ 64
 brace-counts s {t} {p} e g h = go p refl

@@ -7,40 +7,40 @@ use mir.Val.{Fits}
 use mir.Syntax.{w64}
 use borrow.Author.Needs.{needs}
 use Rattle.ground.specs.Choice.{bit}
-use Rattle.places.specs.Places.{placeNumber}
-use Rattle.places.specs.declared.find.Place.{Place}
-use Rattle.places.specs.declared.find.Place.the-variants.{At, Nowhere}
-use Rattle.text.specs.declared.trim.Span.{Span}
-use Rattle.arguments.specs.declared.arguments.NextArgument.{NextArgument}
-use Rattle.arguments.specs.declared.arguments.NextArgument.the-variants.{Argument, NoArgument}
-use Rattle.parts.specs.declared.signature.Qualified.{Qualified}
-use Rattle.parts.specs.declared.signature.Qualified.the-variants.{Owned, Plain}
-use Rattle.parts.specs.declared.method.Method.{Method}
+use Rattle.text_places.specs.Places.{placeNumber}
+use Rattle.text_places.specs.declared.find.Place.{Place}
+use Rattle.text_places.specs.declared.find.Place.the-variants.{At, Nowhere}
+use Rattle.text_white.specs.declared.trim.Span.{Span}
+use Rattle.line_arguments.specs.declared.arguments.NextArgument.{NextArgument}
+use Rattle.line_arguments.specs.declared.arguments.NextArgument.the-variants.{Argument, NoArgument}
+use Rattle.line_parts.specs.declared.signature.Qualified.{Qualified}
+use Rattle.line_parts.specs.declared.signature.Qualified.the-variants.{Owned, Plain}
+use Rattle.line_parts.specs.declared.method.Method.{Method}
 use Rattle.line.specs.declared.line.Line.{Line}
 use Rattle.line.specs.declared.line.Line.the-variants as lines
-use Rattle.parts.specs.Spans.{span}
-use Rattle.line_probes.specs.LineAnswers.{owned, ownerOf, nameOf, lined, firstLine, lastLine}
-use Rattle.line_probes.specs.LineAnswers.{sevenNumbers, commentNumbers, classNumbers, fieldNumbers, methodNumbers, lineNumbers, argumentNumbers}
+use Rattle.line_parts.specs.Spans.{span}
+use Rattle.line_probes.specs.LineAnswers.{owned, ownerSpan, nameSpan, lined, firstLine, lastLine}
+use Rattle.line_probes.specs.LineAnswers.{sevenNumbers, commentLineNumbers, classNumbers, fieldNumbers, methodNumbers, lineKindNumbers, argumentNumbers}
 use Rattle.line_probes.proofs.Braces.{brace-counts}
 
 module _ {t x : Line} (e : t ≡ x) where
-  pub said-blank : {n : List ℕ} → t ≡ lines.Blank → n ≡ sevenNumbers 0 0 0 0 0 0 0 → n ≡ lineNumbers x
-  said-blank g f = f ∙ sym (ap lineNumbers (sym e ∙ g))
+  pub said-blank : {n : List ℕ} → t ≡ lines.Blank → n ≡ sevenNumbers 0 0 0 0 0 0 0 → n ≡ lineKindNumbers x
+  said-blank g f = f ∙ sym (ap lineKindNumbers (sym e ∙ g))
 
-  pub said-comment : {p : Place} {n : List ℕ} → t ≡ lines.Comment p → n ≡ commentNumbers p → n ≡ lineNumbers x
-  said-comment g f = f ∙ sym (ap lineNumbers (sym e ∙ g))
+  pub said-comment : {p : Place} {n : List ℕ} → t ≡ lines.Comment p → n ≡ commentLineNumbers p → n ≡ lineKindNumbers x
+  said-comment g f = f ∙ sym (ap lineKindNumbers (sym e ∙ g))
 
-  pub said-class : {d r : Span} {n : List ℕ} → t ≡ lines.Class d r → n ≡ classNumbers d r → n ≡ lineNumbers x
-  said-class g f = f ∙ sym (ap lineNumbers (sym e ∙ g))
+  pub said-class : {d r : Span} {n : List ℕ} → t ≡ lines.Class d r → n ≡ classNumbers d r → n ≡ lineKindNumbers x
+  said-class g f = f ∙ sym (ap lineKindNumbers (sym e ∙ g))
 
-  pub said-field : {d a r : Span} {n : List ℕ} → t ≡ lines.Field d a r → n ≡ fieldNumbers d a r → n ≡ lineNumbers x
-  said-field g f = f ∙ sym (ap lineNumbers (sym e ∙ g))
+  pub said-field : {d a r : Span} {n : List ℕ} → t ≡ lines.Field d a r → n ≡ fieldNumbers d a r → n ≡ lineKindNumbers x
+  said-field g f = f ∙ sym (ap lineKindNumbers (sym e ∙ g))
 
-  pub said-method : {m : Method} {r : Span} {n : List ℕ} → t ≡ lines.Method m r → n ≡ methodNumbers m r → n ≡ lineNumbers x
-  said-method g f = f ∙ sym (ap lineNumbers (sym e ∙ g))
+  pub said-method : {m : Method} {r : Span} {n : List ℕ} → t ≡ lines.Method m r → n ≡ methodNumbers m r → n ≡ lineKindNumbers x
+  said-method g f = f ∙ sym (ap lineKindNumbers (sym e ∙ g))
 
-  pub said-refused : {k : ℕ} {n : List ℕ} → t ≡ lines.Refused k → n ≡ sevenNumbers 5 k 0 0 0 0 0 → n ≡ lineNumbers x
-  said-refused g f = f ∙ sym (ap lineNumbers (sym e ∙ g))
+  pub said-refused : {k : ℕ} {n : List ℕ} → t ≡ lines.Refused k → n ≡ sevenNumbers 5 k 0 0 0 0 0 → n ≡ lineKindNumbers x
+  said-refused g f = f ∙ sym (ap lineKindNumbers (sym e ∙ g))
 
 pub ruleset said-lines = (said-blank, said-comment, said-class, said-field, said-method, said-refused, brace-counts, needs)
 
@@ -54,11 +54,11 @@ module _ {t x : NextArgument} (e : t ≡ x) where
 pub ruleset said-arguments = (said-argument, said-no-argument, needs)
 
 -- The place of a comment's `{`.
-pub brace-at : {p : Place} {i : ℕ} {n : List ℕ} → p ≡ At i → n ≡ sevenNumbers 1 (i + 1) 0 0 0 0 0 → n ≡ commentNumbers p
-brace-at g f = f ∙ sym (ap commentNumbers g)
+pub brace-at : {p : Place} {i : ℕ} {n : List ℕ} → p ≡ At i → n ≡ sevenNumbers 1 (i + 1) 0 0 0 0 0 → n ≡ commentLineNumbers p
+brace-at g f = f ∙ sym (ap commentLineNumbers g)
 
-pub brace-none : {p : Place} {n : List ℕ} → p ≡ Nowhere → n ≡ sevenNumbers 1 0 0 0 0 0 0 → n ≡ commentNumbers p
-brace-none g f = f ∙ sym (ap commentNumbers g)
+pub brace-none : {p : Place} {n : List ℕ} → p ≡ Nowhere → n ≡ sevenNumbers 1 0 0 0 0 0 0 → n ≡ commentLineNumbers p
+brace-none g f = f ∙ sym (ap commentLineNumbers g)
 
 pub brace-fits : {p : Place} {i : ℕ} → p ≡ At i → placeNumber p < 2 ^ 64 → Fits w64 (i + 1)
 brace-fits e h = let l = rw e at h in omega arith
@@ -66,16 +66,16 @@ brace-fits e h = let l = rw e at h in omega arith
 pub ruleset said-braces = (brace-at, brace-none, brace-fits, needs)
 
 -- The parts of a method.
-pub owner-there : {q : Qualified} {o a : Span} → q ≡ Owned o a → o ≡ ownerOf q
-owner-there g = sym (ap ownerOf g)
+pub owner-there : {q : Qualified} {o a : Span} → q ≡ Owned o a → o ≡ ownerSpan q
+owner-there g = sym (ap ownerSpan g)
 
-pub owner-none : {q : Qualified} {a : Span} → q ≡ Plain a → span 0 0 ≡ ownerOf q
-owner-none g = sym (ap ownerOf g)
+pub owner-none : {q : Qualified} {a : Span} → q ≡ Plain a → span 0 0 ≡ ownerSpan q
+owner-none g = sym (ap ownerSpan g)
 
 pub ruleset said-owners = (owner-there, owner-none, needs)
 
 pub all-parts :
-    (m : Method) (raw : Span) {o a : Span} {k f g h i j l n : ℕ} → o ≡ ownerOf (m .named) → a ≡ nameOf (m .named) → k ≡ owned (m .named) →
+    (m : Method) (raw : Span) {o a : Span} {k f g h i j l n : ℕ} → o ≡ ownerSpan (m .named) → a ≡ nameSpan (m .named) → k ≡ owned (m .named) →
     f ≡ lined (m .raw) → g ≡ firstLine (m .raw) → h ≡ lastLine (m .raw) →
     i ≡ lined (m .display) → j ≡ firstLine (m .display) → l ≡ lastLine (m .display) → n ≡ bit (m .short) →
     4 ∷ m .returned .start ∷ m .returned .«end» ∷ k ∷ o .start ∷ o .«end» ∷ a .start ∷ a .«end» ∷ m .arguments .start ∷ m .arguments .«end»

@@ -2,32 +2,32 @@
 use mathlib.Core.List.{List, [], _∷_}
 use Prim.Native.Nat.{ℕ}
 use Rattle.ground.specs.Choice.{bit}
-use Rattle.places.specs.declared.find.Place.{Place}
-use Rattle.places.specs.Places.{placeNumber}
-use Rattle.text.specs.declared.trim.Span.{Span}
-use Rattle.arguments.specs.declared.arguments.NextArgument.{NextArgument}
-use Rattle.arguments.specs.declared.arguments.NextArgument.the-variants.{Argument, NoArgument}
-use Rattle.parts.specs.declared.signature.Qualified.{Qualified}
-use Rattle.parts.specs.declared.signature.Qualified.the-variants.{Owned, Plain}
-use Rattle.parts.specs.declared.method.LineRange.{LineRange}
-use Rattle.parts.specs.declared.method.LineRange.the-variants.{Lines, NoLines}
-use Rattle.parts.specs.declared.method.Method.{Method}
+use Rattle.text_places.specs.declared.find.Place.{Place}
+use Rattle.text_places.specs.Places.{placeNumber}
+use Rattle.text_white.specs.declared.trim.Span.{Span}
+use Rattle.line_arguments.specs.declared.arguments.NextArgument.{NextArgument}
+use Rattle.line_arguments.specs.declared.arguments.NextArgument.the-variants.{Argument, NoArgument}
+use Rattle.line_parts.specs.declared.signature.Qualified.{Qualified}
+use Rattle.line_parts.specs.declared.signature.Qualified.the-variants.{Owned, Plain}
+use Rattle.line_parts.specs.declared.method.LineRange.{LineRange}
+use Rattle.line_parts.specs.declared.method.LineRange.the-variants.{Lines, NoLines}
+use Rattle.line_parts.specs.declared.method.Method.{Method}
 use Rattle.line.specs.declared.line.Line.{Line}
 use Rattle.line.specs.declared.line.Line.the-variants as lines
-use Rattle.parts.specs.Spans.{span}
+use Rattle.line_parts.specs.Spans.{span}
 
 -- 1 for a name with an owner
 abbrev pub owned : Qualified → ℕ
 owned (Owned owner name) = 1
 owned (Plain name) = 0
 
-abbrev pub ownerOf : Qualified → Span
-ownerOf (Owned owner name) = owner
-ownerOf (Plain name) = span 0 0
+abbrev pub ownerSpan : Qualified → Span
+ownerSpan (Owned owner name) = owner
+ownerSpan (Plain name) = span 0 0
 
-abbrev pub nameOf : Qualified → Span
-nameOf (Owned owner name) = name
-nameOf (Plain name) = name
+abbrev pub nameSpan : Qualified → Span
+nameSpan (Owned owner name) = name
+nameSpan (Plain name) = name
 
 -- 1 for a range
 abbrev pub lined : LineRange → ℕ
@@ -46,8 +46,8 @@ lastLine NoLines = 0
 abbrev pub sevenNumbers : ℕ → ℕ → ℕ → ℕ → ℕ → ℕ → ℕ → List ℕ
 sevenNumbers kind a b c d e f = kind ∷ a ∷ b ∷ c ∷ d ∷ e ∷ f ∷ 0 ∷ 0 ∷ 0 ∷ 0 ∷ 0 ∷ 0 ∷ 0 ∷ 0 ∷ 0 ∷ 0 ∷ 0 ∷ 0 ∷ 0 ∷ []
 
-abbrev pub commentNumbers : Place → List ℕ
-commentNumbers brace = sevenNumbers 1 (placeNumber brace) 0 0 0 0 0
+abbrev pub commentLineNumbers : Place → List ℕ
+commentLineNumbers brace = sevenNumbers 1 (placeNumber brace) 0 0 0 0 0
 
 abbrev pub classNumbers : Span → Span → List ℕ
 classNumbers display raw = sevenNumbers 2 (display .start) (display .«end») (raw .start) (raw .«end») 0 0
@@ -59,18 +59,18 @@ fieldNumbers declared name raw = sevenNumbers 3 (declared .start) (declared .«e
 abbrev pub methodNumbers : Method → Span → List ℕ
 methodNumbers m raw =
     4 ∷ m .returned .start ∷ m .returned .«end»
-    ∷ owned (m .named) ∷ ownerOf (m .named) .start ∷ ownerOf (m .named) .«end» ∷ nameOf (m .named) .start ∷ nameOf (m .named) .«end»
+    ∷ owned (m .named) ∷ ownerSpan (m .named) .start ∷ ownerSpan (m .named) .«end» ∷ nameSpan (m .named) .start ∷ nameSpan (m .named) .«end»
     ∷ m .arguments .start ∷ m .arguments .«end» ∷ raw .start ∷ raw .«end»
     ∷ lined (m .raw) ∷ firstLine (m .raw) ∷ lastLine (m .raw)
     ∷ lined (m .display) ∷ firstLine (m .display) ∷ lastLine (m .display) ∷ bit (m .short) ∷ 0 ∷ []
 
-abbrev pub lineNumbers : Line → List ℕ
-lineNumbers lines.Blank = sevenNumbers 0 0 0 0 0 0 0
-lineNumbers (lines.Comment brace) = commentNumbers brace
-lineNumbers (lines.Class display raw) = classNumbers display raw
-lineNumbers (lines.Field declared name raw) = fieldNumbers declared name raw
-lineNumbers (lines.Method m raw) = methodNumbers m raw
-lineNumbers (lines.Refused number) = sevenNumbers 5 number 0 0 0 0 0
+abbrev pub lineKindNumbers : Line → List ℕ
+lineKindNumbers lines.Blank = sevenNumbers 0 0 0 0 0 0 0
+lineKindNumbers (lines.Comment brace) = commentLineNumbers brace
+lineKindNumbers (lines.Class display raw) = classNumbers display raw
+lineKindNumbers (lines.Field declared name raw) = fieldNumbers declared name raw
+lineKindNumbers (lines.Method m raw) = methodNumbers m raw
+lineKindNumbers (lines.Refused number) = sevenNumbers 5 number 0 0 0 0 0
 
 abbrev pub argumentNumbers : NextArgument → List ℕ
 argumentNumbers (Argument start «end» next) = 1 ∷ start ∷ «end» ∷ next ∷ []

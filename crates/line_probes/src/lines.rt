@@ -1,15 +1,15 @@
 // What a line is, and the arguments of a method.
 use crate::methods::method_numbers;
-use arguments::NextArgument;
 use line::Line;
-use places::Place;
-use text::Span;
+use line_arguments::NextArgument;
+use text_places::Place;
+use text_white::Span;
 ghost use mathlib.Core.Path.{_≡_};
 ghost use Prim.Native.Nat.{_<_, _^_};
-ghost use Rattle.places.specs.Places.{placeNumber};
+ghost use Rattle.text_places.specs.Places.{placeNumber};
 ghost use Rattle.line.specs.Kinds.{lineOf};
-ghost use Rattle.arguments.specs.Arguments.{nextArgument};
-ghost use Rattle.line_probes.specs.LineAnswers.{sevenNumbers, commentNumbers, classNumbers, fieldNumbers, lineNumbers, argumentNumbers};
+ghost use Rattle.line_arguments.specs.Arguments.{nextArgument};
+ghost use Rattle.line_probes.specs.LineAnswers.{sevenNumbers, commentLineNumbers, classNumbers, fieldNumbers, lineKindNumbers, argumentNumbers};
 
 // An answer of at most seven numbers.
 fn seven(kind: u64, a: u64, b: u64, c: u64, d: u64, e: u64, f: u64) -> [u64; 20]
@@ -42,7 +42,7 @@ fn seven(kind: u64, a: u64, b: u64, c: u64, d: u64, e: u64, f: u64) -> [u64; 20]
 // A comment, by the place of its `{`, counted from 1.
 fn comment_numbers(brace: Place) -> [u64; 20]
     requires { ⌜ placeNumber brace < 2 ^ 64 ⌝ }
-    ensures { λ r. ⌜ r ≡ commentNumbers brace ⌝ }
+    ensures { λ r. ⌜ r ≡ commentLineNumbers brace ⌝ }
 {
     match brace {
         Place::At(i) => seven(1, i as u64 + 1, 0, 0, 0, 0, 0),
@@ -80,7 +80,7 @@ fn field_numbers(declared: Span, name: Span, raw: Span) -> [u64; 20]
 
 #[no_mangle]
 pub extern "C" fn clumarief_probe_line_parts(text: &[u8], answer: &mut [u64; 20])
-    ensures { λ _. ⌜ now (answer .exit) ≡ lineNumbers (lineOf (now (text .entry))) ⌝ }
+    ensures { λ _. ⌜ now (answer .exit) ≡ lineKindNumbers (lineOf (now (text .entry))) ⌝ }
 {
     match line::read_line(text) {
         Line::Blank => {
@@ -112,7 +112,7 @@ pub extern "C" fn clumarief_probe_line_parts(text: &[u8], answer: &mut [u64; 20]
 pub extern "C" fn clumarief_probe_argument(text: &[u8], at: usize, answer: &mut [u64; 4])
     ensures { λ _. ⌜ now (answer .exit) ≡ argumentNumbers (nextArgument (now (text .entry)) at) ⌝ }
 {
-    match arguments::next_argument(text, at) {
+    match line_arguments::next_argument(text, at) {
         NextArgument::Argument { start, end, next } => {
             *answer = [1, start as u64, end as u64, next as u64];
         }

@@ -1,11 +1,11 @@
 // The parts of a method.
-use parts::LineRange;
-use parts::Method;
-use parts::Qualified;
-use text::Span;
+use line_parts::LineRange;
+use line_parts::Method;
+use line_parts::Qualified;
+use text_white::Span;
 ghost use mathlib.Core.Path.{_≡_};
 ghost use Rattle.ground.specs.Choice.{bit};
-ghost use Rattle.line_probes.specs.LineAnswers.{owned, ownerOf, nameOf, lined, firstLine, lastLine, methodNumbers};
+ghost use Rattle.line_probes.specs.LineAnswers.{owned, ownerSpan, nameSpan, lined, firstLine, lastLine, methodNumbers};
 
 // A test as a number.
 fn bit_number(b: bool) -> u64
@@ -28,7 +28,7 @@ fn has_owner(named: Qualified) -> u64
 }
 
 fn owner_of(named: Qualified) -> Span
-    ensures { λ r. ⌜ r ≡ ownerOf named ⌝ }
+    ensures { λ r. ⌜ r ≡ ownerSpan named ⌝ }
 {
     match named {
         Qualified::Owned { owner, name } => owner,
@@ -37,7 +37,7 @@ fn owner_of(named: Qualified) -> Span
 }
 
 fn name_of(named: Qualified) -> Span
-    ensures { λ r. ⌜ r ≡ nameOf named ⌝ }
+    ensures { λ r. ⌜ r ≡ nameSpan named ⌝ }
 {
     match named {
         Qualified::Owned { owner, name } => name,

@@ -12,18 +12,18 @@ use borrow.Author.Tests.{lt-ltb, le-ltb}
 use borrow.Author.Needs.{needs}
 use Rattle.ground.specs.Choice.{pick}
 use Rattle.ground.proofs.Parts.{take-rest}
-use Rattle.places.specs.Lines.{lines}
-use Rattle.utf8.specs.declared.check.Check.{Check}
-use Rattle.utf8.specs.declared.check.Check.the-variants.{Valid, Broken}
-use Rattle.utf8.specs.Utf8.{checkOf}
-use Rattle.utf8.proofs.Grammatical.{broken-breaks}
-use Rattle.utf8.proofs.Lengths.{broken-short}
-use Rattle.text.specs.Trim.{afterMarks}
-use Rattle.text.proofs.TrimLaws.{run-inside}
-use Rattle.rows.specs.Rows.{zeroClass, zeroMember}
-use Rattle.mapping.specs.declared.Load.{Load}
-use Rattle.mapping.specs.declared.Load.the-variants.{TooLong, NotUtf8}
-use Rattle.mapping.specs.Loading.{Lent, counting, checked, answerOf, isLoaded, leaves, classRowsOf, memberRowsOf, poolOf, linesParse}
+use Rattle.text_places.specs.Lines.{lines}
+use Rattle.text_utf8.specs.declared.check.Check.{Check}
+use Rattle.text_utf8.specs.declared.check.Check.the-variants.{Valid, Broken}
+use Rattle.text_utf8.specs.Utf8.{checkOf}
+use Rattle.text_utf8.proofs.Grammatical.{broken-breaks}
+use Rattle.text_utf8.proofs.Lengths.{broken-short}
+use Rattle.text_white.specs.Trim.{afterMarks}
+use Rattle.text_white.proofs.TrimLaws.{run-inside}
+use Rattle.table_rows.specs.Rows.{zeroClass, zeroMember}
+use Rattle.load_rule.specs.declared.Load.{Load}
+use Rattle.load_rule.specs.declared.Load.the-variants.{TooLong, NotUtf8}
+use Rattle.load_rule.specs.Loading.{Lent, counting, checked, answerOf, isLoaded, leaves, classRowsOf, memberRowsOf, poolOf, linesParse}
 use Rattle.load.specs.Into.{lent}
 use Rattle.load.specs.Loads.{Cleared, Left, Loads}
 

@@ -12,19 +12,19 @@ use mir.Syntax.{w32}
 use borrow.Author.Tests.{eq-eqb, ne-eqb, lt-ltb, le-ltb, ltb-false}
 use borrow.Author.Needs.{needs}
 use Rattle.ground.specs.Choice.{pick}
-use Rattle.places.specs.Lines.{onto, rawLines, withoutCr, lines}
-use Rattle.mapping.specs.declared.Fates.{Fates}
-use Rattle.mapping.specs.declared.Scan.{Scan}
-use Rattle.mapping.specs.declared.Scan.the-variants as scan
-use Rattle.mapping.specs.declared.Load.the-variants.{Loaded, Faulty, NoClasses, FewClassRows, FewMemberRows, ShortPool}
-use Rattle.mapping.specs.Fates.{noFates, scanOf}
-use Rattle.mapping.specs.Classes.{classesOf}
-use Rattle.mapping.specs.Loading.{entriesOf, poolOf, scanned, linesLoad}
-use Rattle.mapping.specs.Members.{under}
-use Rattle.mapping.proofs.Sums.{fates-sum, class-count, member-count}
-use Rattle.scan.specs.Bounds.{Within}
-use Rattle.scan.proofs.Scanning.{scanOn}
-use Rattle.members.proofs.Filling.{from-nothing}
+use Rattle.text_places.specs.Lines.{onto, rawLines, withoutCr, lines}
+use Rattle.load_rule.specs.declared.Fates.{Fates}
+use Rattle.load_rule.specs.declared.Scan.{Scan}
+use Rattle.load_rule.specs.declared.Scan.the-variants as scan
+use Rattle.load_rule.specs.declared.Load.the-variants.{Loaded, Faulty, NoClasses, FewClassRows, FewMemberRows, ShortPool}
+use Rattle.load_rule.specs.Fates.{noFates, scanOf}
+use Rattle.load_rule.specs.Classes.{classesOf}
+use Rattle.load_rule.specs.Loading.{entriesOf, poolOf, scanned, linesLoad}
+use Rattle.load_rule.specs.Members.{under}
+use Rattle.load_rule.proofs.Sums.{fates-sum, class-count, member-count}
+use Rattle.load_scan.specs.Bounds.{Within}
+use Rattle.load_scan.proofs.Scanning.{scanOn}
+use Rattle.load_members.proofs.Filling.{from-nothing}
 use Rattle.load.specs.Into.{lent, Counted, missing, refusedOf, acceptedOf}
 
 -- A text has no more lines than bytes.

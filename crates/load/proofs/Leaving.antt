@@ -11,9 +11,9 @@ use Rattle.ground.specs.Choice.{pick}
 use Rattle.ground.specs.Put.{put}
 use Rattle.ground.proofs.Parts.{prefix-whole}
 use Rattle.ground.proofs.PutLaws.{put-same-many}
-use Rattle.rows.specs.Rows.{zeroClass, zeroMember}
-use Rattle.mapping.specs.declared.Load.{Load}
-use Rattle.mapping.specs.Loading.{counting, linesLoad, isLoaded, classRowsOf, memberRowsOf, poolOf}
+use Rattle.table_rows.specs.Rows.{zeroClass, zeroMember}
+use Rattle.load_rule.specs.declared.Load.{Load}
+use Rattle.load_rule.specs.Loading.{counting, linesLoad, isLoaded, classRowsOf, memberRowsOf, poolOf}
 use Rattle.load.specs.Into.{Limits, lent, IntoBy}
 use Rattle.load.specs.Loads.{Cleared, Left}
 

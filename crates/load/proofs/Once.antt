@@ -2,7 +2,7 @@
 use mathlib.Core.Path.{_≡_, sym, _∙_}
 use mathlib.Core.List.{List}
 use Prim.Native.Nat.{ℕ}
-use Rattle.mapping.specs.declared.Load.{Load}
+use Rattle.load_rule.specs.declared.Load.{Load}
 use Rattle.load.specs.Loads.{Loads}
 
 -- two outcomes of one call

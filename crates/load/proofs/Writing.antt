@@ -14,27 +14,27 @@ use Rattle.ground.specs.Put.{put}
 use Rattle.ground.proofs.Cases.{clash}
 use Rattle.ground.proofs.Parts.{prefix-whole}
 use Rattle.ground.proofs.PutLaws.{put-part, length-put}
-use Rattle.pool.specs.declared.write.Wrote.the-variants.{Done}
-use Rattle.pool.specs.Wrote.{Written}
-use Rattle.pool.proofs.Writes.{written-length, wrote-then}
+use Rattle.table_pool.specs.declared.write.Wrote.the-variants.{Done}
+use Rattle.table_pool.specs.Wrote.{Written}
+use Rattle.table_pool.proofs.Writes.{written-length, wrote-then}
 use Rattle.tables.specs.Back.{readBack}
-use Rattle.raw_types.specs.Marks.{Indexed}
-use Rattle.mapping.specs.declared.Fates.{Fates}
-use Rattle.mapping.specs.declared.Scan.{Scan}
-use Rattle.mapping.specs.declared.Scan.the-variants as scan
-use Rattle.mapping.specs.declared.Load.{Load}
-use Rattle.mapping.specs.declared.Load.the-variants as loads
-use Rattle.mapping.specs.Fates.{scanOf}
-use Rattle.mapping.specs.Classes.{classesOf, classPool, classRows}
-use Rattle.mapping.specs.Members.{entryPool, entryRows}
-use Rattle.mapping.specs.Loading.{entriesOf, poolOf, scanned, isLoaded}
-use Rattle.mapping.proofs.Appended.{class-rows-length, entry-rows-length}
-use Rattle.classes.specs.declared.write.Classes.{Classes}
-use Rattle.classes.specs.declared.write.Classes.the-variants as classes
-use Rattle.classes.specs.Written.{ClassesAt, ClassesBy}
-use Rattle.members.specs.declared.fill.Filled.{Filled}
-use Rattle.members.specs.declared.fill.Filled.the-variants as filled
-use Rattle.members.specs.Filled.{Holding, Over, members, WrittenAll, CutShort, FilledBy}
+use Rattle.load_raw_types.specs.Marks.{Indexed}
+use Rattle.load_rule.specs.declared.Fates.{Fates}
+use Rattle.load_rule.specs.declared.Scan.{Scan}
+use Rattle.load_rule.specs.declared.Scan.the-variants as scan
+use Rattle.load_rule.specs.declared.Load.{Load}
+use Rattle.load_rule.specs.declared.Load.the-variants as loads
+use Rattle.load_rule.specs.Fates.{scanOf}
+use Rattle.load_rule.specs.Classes.{classesOf, classPool, classRows}
+use Rattle.load_rule.specs.Members.{entryPool, entryRows}
+use Rattle.load_rule.specs.Loading.{entriesOf, poolOf, scanned, isLoaded}
+use Rattle.load_rule.proofs.Appended.{class-rows-length, entry-rows-length}
+use Rattle.load_classes.specs.declared.write.Classes.{Classes}
+use Rattle.load_classes.specs.declared.write.Classes.the-variants as classes
+use Rattle.load_classes.specs.Written.{ClassesAt, ClassesBy}
+use Rattle.load_members.specs.declared.fill.Filled.{Filled}
+use Rattle.load_members.specs.declared.fill.Filled.the-variants as filled
+use Rattle.load_members.specs.Filled.{Holding, Over, members, WrittenAll, CutShort, FilledBy}
 use Rattle.load.specs.Into.{lent, refusedOf, acceptedOf, IntoBy}
 use Rattle.load.proofs.Deciding.{decided, accepted-as, scan-counted}
 

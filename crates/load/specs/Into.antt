@@ -7,12 +7,12 @@ use lib.Dec.{eqb, ltb}
 use lib.ListN.{length}
 use Rattle.ground.specs.Choice.{pick}
 use Rattle.ground.specs.Put.{put}
-use Rattle.mapping.specs.declared.Fates.{Fates}
-use Rattle.mapping.specs.declared.Scan.{Scan}
-use Rattle.mapping.specs.declared.Scan.the-variants as scan
-use Rattle.mapping.specs.declared.Load.{Load}
-use Rattle.mapping.specs.declared.Load.the-variants.{Loaded, Faulty, NoClasses, FewClassRows, FewMemberRows, ShortPool}
-use Rattle.mapping.specs.Loading.{Lent, linesLoad, isLoaded, poolOf, classRowsOf, memberRowsOf}
+use Rattle.load_rule.specs.declared.Fates.{Fates}
+use Rattle.load_rule.specs.declared.Scan.{Scan}
+use Rattle.load_rule.specs.declared.Scan.the-variants as scan
+use Rattle.load_rule.specs.declared.Load.{Load}
+use Rattle.load_rule.specs.declared.Load.the-variants.{Loaded, Faulty, NoClasses, FewClassRows, FewMemberRows, ShortPool}
+use Rattle.load_rule.specs.Loading.{Lent, linesLoad, isLoaded, poolOf, classRowsOf, memberRowsOf}
 
 -- the sizes of a text and of what is lent, at most the largest ones
 pub record Limits (s c m p : ℕ) : Type 0 where

@@ -3,9 +3,9 @@ use mathlib.Core.Path.{_≡_}
 use mathlib.Core.List.{List}
 use Prim.Native.Nat.{ℕ}
 use lib.ListN.{replicate}
-use Rattle.rows.specs.Rows.{zeroClass, zeroMember}
-use Rattle.mapping.specs.declared.Load.{Load}
-use Rattle.mapping.specs.Loading.{counting, linesLoad, leaves, classRowsOf, memberRowsOf, poolOf, answerOf, classesLeft, membersLeft, poolLeft}
+use Rattle.table_rows.specs.Rows.{zeroClass, zeroMember}
+use Rattle.load_rule.specs.declared.Load.{Load}
+use Rattle.load_rule.specs.Loading.{counting, linesLoad, leaves, classRowsOf, memberRowsOf, poolOf, answerOf, classesLeft, membersLeft, poolLeft}
 use Rattle.load.specs.Into.{lent}
 
 -- all is zero

@@ -1,22 +1,22 @@
 // The entry points.
 use crate::fill::load_into;
-use mapping::Load;
-use rows::ClassRow;
-use rows::MemberRow;
-use rows::zero_bytes;
-use rows::zero_classes;
-use rows::zero_members;
+use load_rule::Load;
+use table_rows::ClassRow;
+use table_rows::MemberRow;
+use table_rows::zero_bytes;
+use table_rows::zero_classes;
+use table_rows::zero_members;
 use tables::MOST_CLASSES;
 use tables::MOST_MEMBERS;
 use tables::MOST_POOL;
-use text::after_marks;
-use utf8::Check;
-use utf8::check_text;
+use text_utf8::Check;
+use text_utf8::check_text;
+use text_white::after_marks;
 ghost use mathlib.Core.Path.{_≡_};
 ghost use Prim.Native.Nat.{_≤_, min};
 ghost use lib.ListN.{length, drop};
-ghost use Rattle.places.specs.Lines.{lines};
-ghost use Rattle.mapping.specs.Loading.{isLoaded, linesParse, linesStr};
+ghost use Rattle.text_places.specs.Lines.{lines};
+ghost use Rattle.load_rule.specs.Loading.{isLoaded, linesParse, linesStr};
 ghost use Rattle.load.specs.Loads.{Cleared, Left, Loads};
 
 fn lesser(a: usize, b: usize) -> usize

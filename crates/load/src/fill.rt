@@ -1,20 +1,20 @@
 // The rows and the pool of a text whose UTF-8 and length are checked.
-use classes::Classes;
-use classes::write_classes;
-use mapping::Fates;
-use mapping::Load;
-use mapping::Scan;
-use members::Filled;
-use members::write_members;
-use rows::ClassRow;
-use rows::MemberRow;
-use scan::no_fates;
-use scan::scan_from;
+use load_classes::Classes;
+use load_classes::write_classes;
+use load_members::Filled;
+use load_members::write_members;
+use load_rule::Fates;
+use load_rule::Load;
+use load_rule::Scan;
+use load_scan::no_fates;
+use load_scan::scan_from;
+use table_rows::ClassRow;
+use table_rows::MemberRow;
 ghost use mathlib.Core.Path.{_≡_};
 ghost use Prim.Native.Nat.{_≤_};
 ghost use lib.ListN.{length};
-ghost use Rattle.places.specs.Lines.{lines};
-ghost use Rattle.mapping.specs.Fates.{scanOf};
+ghost use Rattle.text_places.specs.Lines.{lines};
+ghost use Rattle.load_rule.specs.Fates.{scanOf};
 ghost use Rattle.load.specs.Into.{Limits, Counted, refusedOf, acceptedOf, IntoBy};
 
 // The answer where rows or pool are too few: the first faulty line, else what is missing first.

@@ -5,9 +5,9 @@ use Prim.Native.Nat.{ℕ}
 use lib.Dec.{ltb}
 use lib.ListN.{length}
 use Rattle.ground.specs.Choice.{pick}
-use Rattle.mapping.specs.declared.Load.{Load}
-use Rattle.mapping.specs.declared.Load.the-variants.{TooLong}
-use Rattle.mapping.specs.Loading.{answerOf, linesParse}
+use Rattle.load_rule.specs.declared.Load.{Load}
+use Rattle.load_rule.specs.declared.Load.the-variants.{TooLong}
+use Rattle.load_rule.specs.Loading.{answerOf, linesParse}
 use Rattle.load.specs.Into.{lent}
 
 abbrev pub programAnswer : List ℕ → Load

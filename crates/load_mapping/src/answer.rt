@@ -1,11 +1,11 @@
 // The line for an input.
 use load::parse;
-use mapping::Load;
-use report::report_line;
+use load_report::report_line;
+use load_rule::Load;
 ghost use Prim.Native.Nat.{_≤_};
 ghost use lib.ListN.{length};
-ghost use Rattle.pool.specs.Wrote.{Written};
-ghost use Rattle.report.specs.Report.{reportOf};
+ghost use Rattle.table_pool.specs.Wrote.{Written};
+ghost use Rattle.load_report.specs.Report.{reportOf};
 ghost use Rattle.load_mapping.specs.Program.{programAnswer};
 
 // `parse`, with 1,024 class rows, 1,024 member rows and 65,536 pool bytes; an input over 65,536 bytes is refused.

@@ -13,11 +13,11 @@ use Rattle.ground.specs.Choice.{pick, within}
 use Rattle.ground.proofs.Cases.{within-yes, within-low, within-high}
 use Rattle.number.specs.declared.read.Number.{Number}
 use Rattle.number.specs.declared.read.Number.the-variants.{Value, Unread}
-use Rattle.number.specs.Numbers.{digits, plain, numberOf}
+use Rattle.number.specs.Numbers.{digitsFrom, plain, numberOf}
 
 -- a value that is too large stays so
-digits-over : (v : ℕ) (s : List ℕ) → 4294967295 < v → digits v s ≡ Unread
-unfolding digits
+digits-over : (v : ℕ) (s : List ℕ) → 4294967295 < v → digitsFrom v s ≡ Unread
+unfolding digitsFrom
 digits-over v [] h = rw (lt-leb v 4294967295 h)
 digits-over v (x ∷ s) h = rw (digits-over (v * 10 + (x - 0x30)) s (omega arith)) (go (within 0x30 0x39 x))
   where
@@ -28,7 +28,7 @@ digits-over v (x ∷ s) h = rw (digits-over (v * 10 + (x - 0x30)) s (omega arith
 pub record Read (s : List ℕ) (start value at : ℕ) : Type 0 where
   pub inside : at ≤ length s
   pub small : value ≤ 4294967295
-  pub decides : digits value (drop at s) ≡ plain (drop start s)
+  pub decides : digitsFrom value (drop at s) ≡ plain (drop start s)
 
 pub read-none : (s : List ℕ) (start : ℕ) → length s ≤ start → Unread ≡ plain (drop start s)
 unfolding plain
@@ -40,21 +40,21 @@ read-starts s start h = record { inside = omega arith; small = omega arith; deci
 
 module _ {s : List ℕ} {start value at : ℕ} (r : Read s start value at) where
   pub read-all : length s ≤ at → Value value ≡ plain (drop start s)
-  unfolding digits
+  unfolding digitsFrom
   read-all h = rw (drop-of-length-le s h, le-leb value 4294967295 (r .small)) at (r .decides)
 
   module _ (h : at < length s) where
     pub read-low : getD s at 0 < 0x30 → Unread ≡ plain (drop start s)
-    unfolding digits
+    unfolding digitsFrom
     read-low b = rw (drop-cons s at 0 h, within-low 0x30 0x39 (getD s at 0) b) at (r .decides)
 
     pub read-high : 0x39 < getD s at 0 → Unread ≡ plain (drop start s)
-    unfolding digits
+    unfolding digitsFrom
     read-high b = rw (drop-cons s at 0 h, within-high 0x30 0x39 (getD s at 0) b) at (r .decides)
 
     module _ (l : 0x30 ≤ getD s at 0) (u : getD s at 0 ≤ 0x39) where
-      goes : digits (value * 10 + (getD s at 0 - 0x30)) (drop (suc at) s) ≡ plain (drop start s)
-      unfolding digits
+      goes : digitsFrom (value * 10 + (getD s at 0 - 0x30)) (drop (suc at) s) ≡ plain (drop start s)
+      unfolding digitsFrom
       goes = rw (drop-cons s at 0 h, within-yes 0x30 0x39 (getD s at 0) l u) at (r .decides)
 
       pub read-over : 4294967295 < value * 10 + (getD s at 0 - 0x30) → Unread ≡ plain (drop start s)

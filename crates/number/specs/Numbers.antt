@@ -7,16 +7,16 @@ use Rattle.number.specs.declared.read.Number.{Number}
 use Rattle.number.specs.declared.read.Number.the-variants.{Value, Unread}
 
 -- the digits up to the end of a text, after digits of the value `v`
-unfoldable pub digits : ℕ → List ℕ → Number
-digits v [] = pick (leb v 4294967295) (Value v) Unread
-digits v (x ∷ s) =
-    let more = digits (v * 10 + (x - 0x30)) s in
+unfoldable pub digitsFrom : ℕ → List ℕ → Number
+digitsFrom v [] = pick (leb v 4294967295) (Value v) Unread
+digitsFrom v (x ∷ s) =
+    let more = digitsFrom (v * 10 + (x - 0x30)) s in
     pick (within 0x30 0x39 x) more Unread
 
 -- "at least one digit"
 unfoldable pub plain : List ℕ → Number
 plain [] = Unread
-plain (x ∷ s) = digits 0 (x ∷ s)
+plain (x ∷ s) = digitsFrom 0 (x ∷ s)
 
 -- "an optional `+`"
 unfoldable pub numberOf : List ℕ → Number

@@ -5,9 +5,9 @@ use Prim.Native.Nat.{ℕ, _+_}
 use lib.Dec.{eqb}
 use lib.ListN.{take, drop}
 use Rattle.ground.specs.Choice.{pick}
-use Rattle.places.specs.declared.find.Place.{Place}
-use Rattle.places.specs.declared.find.Place.the-variants.{At, Nowhere}
-use Rattle.places.specs.Places.{firstWhere, starts}
+use Rattle.text_places.specs.declared.find.Place.{Place}
+use Rattle.text_places.specs.declared.find.Place.the-variants.{At, Nowhere}
+use Rattle.text_places.specs.Places.{firstWhere, starts}
 use Rattle.number.specs.declared.read.Number.{Number}
 use Rattle.number.specs.declared.read.Number.the-variants.{Value, Unread}
 use Rattle.number.specs.declared.range.LeadingRange.{LeadingRange}

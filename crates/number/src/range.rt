@@ -1,8 +1,8 @@
 // Ranges of line numbers.
 use crate::read::Number;
 use crate::read::read_number;
-use places::Place;
-use places::first_byte;
+use text_places::Place;
+use text_places::first_byte;
 ghost use mathlib.Core.Path.{_≡_};
 ghost use Prim.Native.Nat.{_+_, _<_};
 ghost use lib.ListN.{length, take, drop};

@@ -11,13 +11,13 @@ use lib.Seq.{getD-take, length-take-le, take-at}
 use borrow.Author.Tests.{le-leb, lt-ltb, leb-true, ltb-true}
 use Rattle.ground.specs.Choice.{both}
 use Rattle.ground.proofs.Cases.{both-left, both-right, clash}
-use Rattle.utf8.specs.declared.check.Check.{Check}
-use Rattle.utf8.specs.declared.check.Check.the-variants.{Valid, Broken}
-use Rattle.utf8.specs.Utf8.{checkOf}
-use Rattle.rows.specs.declared.rows.Text.{Text}
-use Rattle.rows.specs.declared.rows.Member.{Member}
+use Rattle.text_utf8.specs.declared.check.Check.{Check}
+use Rattle.text_utf8.specs.declared.check.Check.the-variants.{Valid, Broken}
+use Rattle.text_utf8.specs.Utf8.{checkOf}
+use Rattle.table_rows.specs.declared.rows.Text.{Text}
+use Rattle.table_rows.specs.declared.rows.Member.{Member}
 use Rattle.tables.specs.declared.check.Used.{Used}
-use Rattle.rows.specs.Rows.{classOf, memberOf, flagOf, mostClasses, mostMembers, mostPool}
+use Rattle.table_rows.specs.Rows.{unpackClass, unpackMember, flagOf, mostClasses, mostMembers, mostPool}
 use Rattle.tables.specs.Back.{textIn}
 use Rattle.tables.specs.Check.{allOf, countsFine, isValid, isUtf8, textFine, classFine, numbersFine, textsFine, memberFine, wellFormed}
 
@@ -102,32 +102,32 @@ module _ (pool : List ℕ) (used : Used) where
 
   -- A class row.
   pub record FineClass (row : List ℕ) : Type 0 where
-    pub raw : FineText pool used (classOf row .raw)
-    pub display : FineText pool used (classOf row .display)
+    pub raw : FineText pool used (unpackClass row .raw)
+    pub display : FineText pool used (unpackClass row .display)
 
   -- A member row.
   pub record FineMember (row : List ℕ) : Type 0 where
-    pub class-row : memberOf row .class < used .classes
-    pub kind : memberOf row .kind ≤ 1
+    pub class-row : unpackMember row .class < used .classes
+    pub kind : unpackMember row .kind ≤ 1
     pub flag : flagOf row ≤ 2
-    pub raw-name : FineText pool used (memberOf row .«raw_name»)
-    pub descriptor : FineText pool used (memberOf row .descriptor)
-    pub name : FineText pool used (memberOf row .name)
-    pub owner : FineText pool used (memberOf row .owner)
+    pub raw-name : FineText pool used (unpackMember row .«raw_name»)
+    pub descriptor : FineText pool used (unpackMember row .descriptor)
+    pub name : FineText pool used (unpackMember row .name)
+    pub owner : FineText pool used (unpackMember row .owner)
 
   module _ (row : List ℕ) where
     pub class-told : classFine pool used row ≡ true → FineClass row
     class-told e =
-        let a : Bool = textFine pool used (classOf row .raw) in
-        let b : Bool = textFine pool used (classOf row .display) in
-        record { raw = text-told (classOf row .raw) (both-left a b e); display = text-told (classOf row .display) (both-right a b e) }
+        let a : Bool = textFine pool used (unpackClass row .raw) in
+        let b : Bool = textFine pool used (unpackClass row .display) in
+        record { raw = text-told (unpackClass row .raw) (both-left a b e); display = text-told (unpackClass row .display) (both-right a b e) }
 
     pub class-fine : FineClass row → classFine pool used row ≡ true
-    class-fine k = rw (text-fine (classOf row .raw) (k .raw)) (text-fine (classOf row .display) (k .display))
+    class-fine k = rw (text-fine (unpackClass row .raw) (k .raw)) (text-fine (unpackClass row .display) (k .display))
 
     pub member-told : memberFine pool used row ≡ true → FineMember row
     member-told e =
-        let m : Member = memberOf row in
+        let m : Member = unpackMember row in
         let n : Bool = ltb (m .class) (used .classes) in
         let k : Bool = leb (m .kind) 1 in
         let f : Bool = leb (flagOf row) 2 in
@@ -135,8 +135,8 @@ module _ (pool : List ℕ) (used : Used) where
         let b : Bool = textFine pool used (m .descriptor) in
         let c : Bool = textFine pool used (m .name) in
         let d : Bool = textFine pool used (m .owner) in
-        let numbers = both-left (numbersFine used row) (textsFine pool used (memberOf row)) e in
-        let texts = both-right (numbersFine used row) (textsFine pool used (memberOf row)) e in
+        let numbers = both-left (numbersFine used row) (textsFine pool used (unpackMember row)) e in
+        let texts = both-right (numbersFine used row) (textsFine pool used (unpackMember row)) e in
         let texts₂ = both-right a (both b (both c d)) texts in
         let texts₃ = both-right b (both c d) texts₂ in
         record {
@@ -152,14 +152,14 @@ module _ (pool : List ℕ) (used : Used) where
     pub member-fine : FineMember row → memberFine pool used row ≡ true
     member-fine k =
         rw (
-          lt-ltb (memberOf row .class) (used .classes) (k .class-row),
-          le-leb (memberOf row .kind) 1 (k .kind),
+          lt-ltb (unpackMember row .class) (used .classes) (k .class-row),
+          le-leb (unpackMember row .kind) 1 (k .kind),
           le-leb (flagOf row) 2 (k .flag),
-          text-fine (memberOf row .«raw_name») (k .raw-name),
-          text-fine (memberOf row .descriptor) (k .descriptor),
-          text-fine (memberOf row .name) (k .name),
+          text-fine (unpackMember row .«raw_name») (k .raw-name),
+          text-fine (unpackMember row .descriptor) (k .descriptor),
+          text-fine (unpackMember row .name) (k .name),
         )
-        (text-fine (memberOf row .owner) (k .owner))
+        (text-fine (unpackMember row .owner) (k .owner))
 
 -- The whole.
 pub record Formed (classes members : List (List ℕ)) (pool : List ℕ) (used : Used) : Type 0 where

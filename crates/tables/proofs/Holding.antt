@@ -7,11 +7,11 @@ use lib.ListN.{length, take, drop, length-append}
 use lib.Seq.{take-at, take-take, drop-at, drop-drop}
 use Rattle.ground.specs.Abnf.{none}
 use Rattle.ground.proofs.Parts.{drop-take}
-use Rattle.utf8.specs.Grammar.{UTF8-octets}
-use Rattle.utf8.specs.Utf8.{checkOf}
-use Rattle.utf8.proofs.Grammatical.{valid-iff}
+use Rattle.text_utf8.specs.Grammar.{UTF8-octets}
+use Rattle.text_utf8.specs.Utf8.{checkOf}
+use Rattle.text_utf8.proofs.Grammatical.{valid-iff}
 use Rattle.tables.specs.declared.check.Used.{Used}
-use Rattle.rows.specs.Rows.{text}
+use Rattle.table_rows.specs.Rows.{text}
 use Rattle.tables.specs.Back.{textIn}
 use Rattle.tables.proofs.Checking.{FineText}
 

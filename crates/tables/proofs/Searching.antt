@@ -8,62 +8,62 @@ use lib.ListN.{length, getD, drop}
 use lib.Seq.{drop-cons, drop-length}
 use borrow.Author.Needs.{needs}
 use Rattle.ground.specs.Choice.{pick}
-use Rattle.places.specs.Places.{same}
-use Rattle.pieces.specs.Pieces.{Pair, Look, known, unknown, orLook, shown, swapped, back}
-use Rattle.rows.specs.declared.rows.Text.{Text}
-use Rattle.rows.specs.declared.rows.Class.{Class}
+use Rattle.text_places.specs.Places.{same}
+use Rattle.descriptor_pieces.specs.Pieces.{Pair, Look, known, unknown, orLook, shown, swapped, back}
+use Rattle.table_rows.specs.declared.rows.Text.{Text}
+use Rattle.table_rows.specs.declared.rows.Class.{Class}
 use Rattle.tables.specs.declared.search.Found.{Found}
 use Rattle.tables.specs.declared.search.Found.the-variants.{Row, Unknown}
 use Rattle.tables.specs.declared.search.Side.{Side}
-use Rattle.rows.specs.Rows.{classOf}
+use Rattle.table_rows.specs.Rows.{unpackClass}
 use Rattle.tables.specs.Back.{textIn, pairOf, readBack}
-use Rattle.tables.specs.Search.{orRow, lastFrom, textOn, named, lastRaw, lastDisplay}
+use Rattle.tables.specs.Search.{orRow, lastRowFrom, textOn, hasName, lastRaw, lastDisplay}
 
 -- Backwards: there is none from here on.
 pub record Scanning (p : List ℕ → Bool) (rows : List (List ℕ)) («end» : ℕ) : Type 0 where
   pub inside : «end» ≤ length rows
-  pub none : lastFrom p «end» (drop «end» rows) ≡ Unknown
+  pub none : lastRowFrom p «end» (drop «end» rows) ≡ Unknown
 
 pub scanning-starts : (p : List ℕ → Bool) (rows : List (List ℕ)) → Scanning p rows (length rows)
-unfolding lastFrom
+unfolding lastRowFrom
 scanning-starts p rows = record { inside = omega arith; none = rw (drop-length rows) }
 
-last-cons : (p : List ℕ → Bool) (at : ℕ) (row : List ℕ) (rows : List (List ℕ)) → lastFrom p at (row ∷ rows) ≡ orRow (lastFrom p (suc at) rows) (pick (p row) (Row at) Unknown)
-unfolding lastFrom
+last-cons : (p : List ℕ → Bool) (at : ℕ) (row : List ℕ) (rows : List (List ℕ)) → lastRowFrom p at (row ∷ rows) ≡ orRow (lastRowFrom p (suc at) rows) (pick (p row) (Row at) Unknown)
+unfolding lastRowFrom
 last-cons p at row rows = refl
 
 -- a last row from somewhere on is the last of all
-last-stays : (p : List ℕ → Bool) (rows : List (List ℕ)) (at i : ℕ) → at ≤ length rows → lastFrom p at (drop at rows) ≡ Row i → lastFrom p 0 rows ≡ Row i
+last-stays : (p : List ℕ → Bool) (rows : List (List ℕ)) (at i : ℕ) → at ≤ length rows → lastRowFrom p at (drop at rows) ≡ Row i → lastRowFrom p 0 rows ≡ Row i
 last-stays p rows zero i h e = e
 last-stays p rows (suc at) i h e = last-stays p rows at i (omega arith) (rw (drop-cons rows at [] h, last-cons, e))
 
 -- where there is none behind a row, the row itself decides
-step-back : (p : List ℕ → Bool) (rows : List (List ℕ)) (at : ℕ) → at < length rows → lastFrom p (suc at) (drop (suc at) rows) ≡ Unknown →
-    lastFrom p at (drop at rows) ≡ pick (p (getD rows at [])) (Row at) Unknown
+step-back : (p : List ℕ → Bool) (rows : List (List ℕ)) (at : ℕ) → at < length rows → lastRowFrom p (suc at) (drop (suc at) rows) ≡ Unknown →
+    lastRowFrom p at (drop at rows) ≡ pick (p (getD rows at [])) (Row at) Unknown
 step-back p rows at h e = rw (drop-cons rows at [] h, last-cons, e)
 
 module _ {p : List ℕ → Bool} {rows : List (List ℕ)} {«end» : ℕ} (k : Scanning p rows «end») where
-  pub scanning-ends : «end» ≤ 0 → Unknown ≡ lastFrom p 0 rows
+  pub scanning-ends : «end» ≤ 0 → Unknown ≡ lastRowFrom p 0 rows
   scanning-ends h = let z : «end» ≡ 0 = omega arith in sym (rw z at (k .none))
 
   module _ (h : 0 < «end») where
     pub scanning-inside : «end» - 1 < length rows
     scanning-inside = omega (arith, k .inside)
 
-    before : lastFrom p («end» - 1) (drop («end» - 1) rows) ≡ pick (p (getD rows («end» - 1) [])) (Row («end» - 1)) Unknown
+    before : lastRowFrom p («end» - 1) (drop («end» - 1) rows) ≡ pick (p (getD rows («end» - 1) [])) (Row («end» - 1)) Unknown
     before =
         let up : «end» ≡ suc («end» - 1) = omega arith in
         step-back p rows («end» - 1) scanning-inside (rw up at (k .none))
 
-    pub scanning-found : p (getD rows («end» - 1) []) ≡ true → Row («end» - 1) ≡ lastFrom p 0 rows
+    pub scanning-found : p (getD rows («end» - 1) []) ≡ true → Row («end» - 1) ≡ lastRowFrom p 0 rows
     scanning-found e = sym (last-stays p rows («end» - 1) («end» - 1) (omega (arith, k .inside)) (rw (before, e)))
 
     pub scanning-more : p (getD rows («end» - 1) []) ≡ false → Scanning p rows («end» - 1)
     scanning-more e = record { inside = omega (arith, k .inside); none = rw (before, e) }
 
 -- The test of a row, as the code makes it.
-pub side-told : (side : Side) (pool name row : List ℕ) {c : Class} → c ≡ classOf row → {t : Text} → t ≡ textOn side c → {s : List ℕ} → s ≡ textIn pool t →
-    {b : Bool} → b ≡ same s name → {z : Bool} → b ≡ z → named side pool name row ≡ z
+pub side-told : (side : Side) (pool name row : List ℕ) {c : Class} → c ≡ unpackClass row → {t : Text} → t ≡ textOn side c → {s : List ℕ} → s ≡ textIn pool t →
+    {b : Bool} → b ≡ same s name → {z : Bool} → b ≡ z → hasName side pool name row ≡ z
 side-told side pool name row e f g h q =
     ap (λ x. same (textIn pool (textOn side x)) name) (sym e) ∙ ap (λ x. same (textIn pool x) name) (sym f) ∙ ap (λ x. same x name) (sym g) ∙ sym h ∙ q
 
@@ -74,11 +74,11 @@ abbrev Told : (List ℕ → Pair) → ℕ → List (List ℕ) → Found → Look
 Told f at rows (Row i) l = (at ≤ i) × (i < at + length rows) × (l ≡ known (f (getD rows (i - at) []) .display))
 Told f at rows Unknown l = l ≡ unknown
 
-told : (f : List ℕ → Pair) (name : List ℕ) (at : ℕ) (rows : List (List ℕ)) → Told f at rows (lastFrom (λ row. same (f row .raw) name) at rows) (shown (map f rows) name)
-unfolding lastFrom shown
+told : (f : List ℕ → Pair) (name : List ℕ) (at : ℕ) (rows : List (List ℕ)) → Told f at rows (lastRowFrom (λ row. same (f row .raw) name) at rows) (shown (map f rows) name)
+unfolding lastRowFrom shown
 told f name at [] = refl
 told f name at (row ∷ rows) =
-    later (lastFrom (λ r. same (f r .raw) name) (suc at) rows) (shown (map f rows) name) (same (f row .raw) name) (told f name (suc at) rows)
+    later (lastRowFrom (λ r. same (f r .raw) name) (suc at) rows) (shown (map f rows) name) (same (f row .raw) name) (told f name (suc at) rows)
   where
     later : (o : Found) (l : Look) (b : Bool) → Told f (suc at) rows o l →
         Told f at (row ∷ rows) (orRow o (pick b (Row at) Unknown)) (orLook l (pick b (known (f row .display)) unknown))
@@ -89,13 +89,13 @@ told f name at (row ∷ rows) =
     later Unknown l false e = ap (λ x. orLook x unknown) e
 
 module _ (f : List ℕ → Pair) (name : List ℕ) (rows : List (List ℕ)) where
-  told-row : {i : ℕ} → lastFrom (λ row. same (f row .raw) name) 0 rows ≡ Row i → (i < length rows) × (shown (map f rows) name ≡ known (f (getD rows i []) .display))
+  told-row : {i : ℕ} → lastRowFrom (λ row. same (f row .raw) name) 0 rows ≡ Row i → (i < length rows) × (shown (map f rows) name ≡ known (f (getD rows i []) .display))
   told-row {i} e =
       let t : Told f 0 rows (Row i) (shown (map f rows) name) = rw e at (told f name 0 rows) in
       let z : i - 0 ≡ i = omega arith in
       (omega (arith, t .1), t .2 ∙ rw z)
 
-  told-unknown : lastFrom (λ row. same (f row .raw) name) 0 rows ≡ Unknown → shown (map f rows) name ≡ unknown
+  told-unknown : lastRowFrom (λ row. same (f row .raw) name) 0 rows ≡ Unknown → shown (map f rows) name ≡ unknown
   told-unknown e = rw e at (told f name 0 rows)
 
 swapped-rows : (f : List ℕ → Pair) (rows : List (List ℕ)) → map swapped (map f rows) ≡ map (λ row. swapped (f row)) rows
@@ -105,7 +105,7 @@ swapped-rows f (row ∷ rows) = ap (λ l. swapped (f row) ∷ l) (swapped-rows f
 -- the row that is found shows its display descriptor, and where none is found the class is not known
 module _ (rows : List (List ℕ)) (pool name : List ℕ) where
   pub raw-found : {i : ℕ} → lastRaw rows pool name ≡ Row i →
-      (i < length rows) × (shown (readBack rows pool) name ≡ known (textIn pool (classOf (getD rows i []) .display)))
+      (i < length rows) × (shown (readBack rows pool) name ≡ known (textIn pool (unpackClass (getD rows i []) .display)))
   raw-found e = told-row (pairOf pool) name rows e
 
   pub raw-unknown : lastRaw rows pool name ≡ Unknown → shown (readBack rows pool) name ≡ unknown
@@ -119,7 +119,7 @@ module _ (rows : List (List ℕ)) (pool name : List ℕ) where
   turned-back = ap (λ l. shown l name) (swapped-rows (pairOf pool) rows)
 
   pub display-found : {i : ℕ} → lastDisplay rows pool name ≡ Row i →
-      (i < length rows) × (back (readBack rows pool) name ≡ known (textIn pool (classOf (getD rows i []) .raw)))
+      (i < length rows) × (back (readBack rows pool) name ≡ known (textIn pool (unpackClass (getD rows i []) .raw)))
   display-found e = let t = told-row turnedPair name rows e in (t .0, turned-back ∙ t .1)
 
   pub display-unknown : lastDisplay rows pool name ≡ Unknown → back (readBack rows pool) name ≡ unknown

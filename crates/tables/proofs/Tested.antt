@@ -12,14 +12,14 @@ use borrow.Author.Tests.{le-leb, lt-leb, lt-ltb, le-ltb, not-true, not-false}
 use borrow.Author.Needs.{needs}
 use Rattle.ground.specs.Choice.{both}
 use Rattle.ground.proofs.Parts.{prefix-whole}
-use Rattle.utf8.specs.declared.check.Check.{Check}
-use Rattle.utf8.specs.declared.check.Check.the-variants.{Valid, Broken}
-use Rattle.utf8.specs.Utf8.{checkOf}
-use Rattle.rows.specs.declared.rows.Text.{Text}
-use Rattle.rows.specs.declared.rows.Class.{Class}
-use Rattle.rows.specs.declared.rows.Member.{Member}
+use Rattle.text_utf8.specs.declared.check.Check.{Check}
+use Rattle.text_utf8.specs.declared.check.Check.the-variants.{Valid, Broken}
+use Rattle.text_utf8.specs.Utf8.{checkOf}
+use Rattle.table_rows.specs.declared.rows.Text.{Text}
+use Rattle.table_rows.specs.declared.rows.Class.{Class}
+use Rattle.table_rows.specs.declared.rows.Member.{Member}
 use Rattle.tables.specs.declared.check.Used.{Used}
-use Rattle.rows.specs.Rows.{classOf, memberOf, flagOf, mostClasses, mostMembers, mostPool}
+use Rattle.table_rows.specs.Rows.{unpackClass, unpackMember, flagOf, mostClasses, mostMembers, mostPool}
 use Rattle.tables.specs.Back.{textIn}
 use Rattle.tables.specs.Check.{allOf, countsFine, isValid, isUtf8, textFine, classFine, numbersFine, textsFine, memberFine, wellFormed}
 use Rattle.tables.proofs.Checking.{FineCounts, counts-told}
@@ -51,7 +51,7 @@ module _ (pool : List ℕ) (used : Used) (t : Text) where
 pub ruleset text-tests = (text-past, text-inside, needs)
 
 -- A class row.
-module _ (pool : List ℕ) (used : Used) (row : List ℕ) {c : Class} (e : c ≡ classOf row) {b : Bool} (f : b ≡ textFine pool used (c .raw)) where
+module _ (pool : List ℕ) (used : Used) (row : List ℕ) {c : Class} (e : c ≡ unpackClass row) {b : Bool} (f : b ≡ textFine pool used (c .raw)) where
   by-class : both (textFine pool used (c .raw)) (textFine pool used (c .display)) ≡ classFine pool used row
   by-class = ap (λ x. both (textFine pool used (x .raw)) (textFine pool used (x .display))) e
 
@@ -64,7 +64,7 @@ module _ (pool : List ℕ) (used : Used) (row : List ℕ) {c : Class} (e : c ≡
 pub ruleset class-tests = (class-no, class-yes, needs)
 
 -- A member row.
-module _ (used : Used) (row : List ℕ) {m : Member} (e : m ≡ memberOf row) where
+module _ (used : Used) (row : List ℕ) {m : Member} (e : m ≡ unpackMember row) where
   by-member : both (ltb (m .class) (used .classes)) (both (leb (m .kind) 1) (leb (flagOf row) 2)) ≡ numbersFine used row
   by-member = ap (λ x. both (ltb (x .class) (used .classes)) (both (leb (x .kind) 1) (leb (flagOf row) 2))) e
 
@@ -100,10 +100,10 @@ pub ruleset texts-tests = (texts-no, texts-no-2, texts-no-3, texts-yes, needs)
 
 module _ (pool : List ℕ) (used : Used) (row : List ℕ) {b : Bool} (e : b ≡ numbersFine used row) where
   pub member-no : not b ≡ true → false ≡ memberFine pool used row
-  member-no n = first-fails (numbersFine used row) (textsFine pool used (memberOf row)) e n
+  member-no n = first-fails (numbersFine used row) (textsFine pool used (unpackMember row)) e n
 
-  pub member-yes : not b ≡ false → {m : Member} → m ≡ memberOf row → {d : Bool} → d ≡ textsFine pool used m → d ≡ memberFine pool used row
-  member-yes n f g = then-second (numbersFine used row) (textsFine pool used (memberOf row)) e n (g ∙ ap (textsFine pool used) f)
+  pub member-yes : not b ≡ false → {m : Member} → m ≡ unpackMember row → {d : Bool} → d ≡ textsFine pool used m → d ≡ memberFine pool used row
+  member-yes n f g = then-second (numbersFine used row) (textsFine pool used (unpackMember row)) e n (g ∙ ap (textsFine pool used) f)
 
 pub ruleset member-tests = (member-no, member-yes, needs)
 

@@ -8,7 +8,7 @@ use lib.ListN.{length, take, drop, length-drop, drop-of-length-le}
 use lib.Seq.{take-all, drop-length}
 use borrow.Author.Needs.{needs}
 use Rattle.ground.proofs.Cases.{le-or-lt}
-use Rattle.rows.specs.declared.rows.Text.{Text}
+use Rattle.table_rows.specs.declared.rows.Text.{Text}
 use Rattle.tables.specs.Back.{textIn}
 
 -- a list has no more than it has

@@ -2,9 +2,9 @@
 use mathlib.Core.List.{List, map}
 use Prim.Native.Nat.{ℕ}
 use lib.ListN.{take, drop}
-use Rattle.pieces.specs.Pieces.{Pair}
-use Rattle.rows.specs.declared.rows.Text.{Text}
-use Rattle.rows.specs.Rows.{classOf}
+use Rattle.descriptor_pieces.specs.Pieces.{Pair}
+use Rattle.table_rows.specs.declared.rows.Text.{Text}
+use Rattle.table_rows.specs.Rows.{unpackClass}
 
 -- a text of the pool
 abbrev pub textIn : List ℕ → Text → List ℕ
@@ -12,7 +12,7 @@ textIn pool t = take (t .length) (drop (t .place) pool)
 
 -- the descriptors of a class row
 abbrev pub pairOf : List ℕ → List ℕ → Pair
-pairOf pool row = record { raw = textIn pool (classOf row .raw); display = textIn pool (classOf row .display) }
+pairOf pool row = record { raw = textIn pool (unpackClass row .raw); display = textIn pool (unpackClass row .display) }
 
 -- the classes of a mapping, in row order
 abbrev pub readBack : List (List ℕ) → List ℕ → List Pair

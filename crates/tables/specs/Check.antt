@@ -6,13 +6,13 @@ use Prim.Native.Nat.{ℕ, _+_, min}
 use lib.Dec.{leb, ltb}
 use lib.ListN.{length, take}
 use Rattle.ground.specs.Choice.{both}
-use Rattle.utf8.specs.declared.check.Check.{Check}
-use Rattle.utf8.specs.declared.check.Check.the-variants.{Valid, Broken}
-use Rattle.utf8.specs.Utf8.{checkOf}
-use Rattle.rows.specs.declared.rows.Text.{Text}
-use Rattle.rows.specs.declared.rows.Member.{Member}
+use Rattle.text_utf8.specs.declared.check.Check.{Check}
+use Rattle.text_utf8.specs.declared.check.Check.the-variants.{Valid, Broken}
+use Rattle.text_utf8.specs.Utf8.{checkOf}
+use Rattle.table_rows.specs.declared.rows.Text.{Text}
+use Rattle.table_rows.specs.declared.rows.Member.{Member}
 use Rattle.tables.specs.declared.check.Used.{Used}
-use Rattle.rows.specs.Rows.{classOf, memberOf, flagOf, mostClasses, mostMembers, mostPool}
+use Rattle.table_rows.specs.Rows.{unpackClass, unpackMember, flagOf, mostClasses, mostMembers, mostPool}
 use Rattle.tables.specs.Back.{textIn}
 
 -- a test holds of every element
@@ -38,18 +38,18 @@ abbrev pub textFine : List ℕ → Used → Text → Bool
 textFine pool used t = both (leb (t .place + t .length) (used .pool)) (isUtf8 (textIn pool t))
 
 abbrev pub classFine : List ℕ → Used → List ℕ → Bool
-classFine pool used row = both (textFine pool used (classOf row .raw)) (textFine pool used (classOf row .display))
+classFine pool used row = both (textFine pool used (unpackClass row .raw)) (textFine pool used (unpackClass row .display))
 
 -- "a class row, kind or flag out of range": kind (0 field, 1 method), range flag (0 none, 1 display only, 2 both)
 abbrev pub numbersFine : Used → List ℕ → Bool
-numbersFine used row = both (ltb (memberOf row .class) (used .classes)) (both (leb (memberOf row .kind) 1) (leb (flagOf row) 2))
+numbersFine used row = both (ltb (unpackMember row .class) (used .classes)) (both (leb (unpackMember row .kind) 1) (leb (flagOf row) 2))
 
 abbrev pub textsFine : List ℕ → Used → Member → Bool
 textsFine pool used m =
     both (textFine pool used (m .«raw_name»)) (both (textFine pool used (m .descriptor)) (both (textFine pool used (m .name)) (textFine pool used (m .owner))))
 
 abbrev pub memberFine : List ℕ → Used → List ℕ → Bool
-memberFine pool used row = both (numbersFine used row) (textsFine pool used (memberOf row))
+memberFine pool used row = both (numbersFine used row) (textsFine pool used (unpackMember row))
 
 -- tables that are not malformed: only the rows that are used are asked
 abbrev pub wellFormed : List (List ℕ) → List (List ℕ) → List ℕ → Used → Bool

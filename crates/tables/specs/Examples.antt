@@ -4,11 +4,11 @@ use mathlib.Core.Bool.{Bool, true, false}
 use mathlib.Core.List.{List, [], _∷_}
 use Prim.Native.Nat.{ℕ}
 use Rattle.ground.specs.Ascii.{ascii}
-use Rattle.places.specs.Places.{same}
-use Rattle.utf8.specs.Utf8.{leadOf, tails, afterLead, sequenceOf, piecesFrom, checkFrom}
+use Rattle.text_places.specs.Places.{same}
+use Rattle.text_utf8.specs.Utf8.{leadOf, tails, afterLead, sequenceOf, piecesFrom, checkFrom}
 use Rattle.tables.specs.declared.search.Found.the-variants.{Row, Unknown}
 use Rattle.tables.specs.declared.check.Used.{Used}
-use Rattle.tables.specs.Search.{lastFrom, lastRaw, lastDisplay}
+use Rattle.tables.specs.Search.{lastRowFrom, lastRaw, lastDisplay}
 use Rattle.tables.specs.Check.{allOf, countsFine, wellFormed}
 
 -- three classes: `x` shown as `y`, `x` shown as `z`, and one whose raw text, `w`, reaches past the pool's end
@@ -29,7 +29,7 @@ last-rows :
     -- past the pool's end there is nothing
     × (lastRaw rows pool (ascii "w") ≡ Row 2)
     × (lastDisplay rows pool [] ≡ Row 2)
-unfolding ascii same lastFrom
+unfolding ascii same lastRowFrom
 last-rows = (refl, refl, refl, refl, refl, refl, refl)
 
 abbrev used : ℕ → ℕ → ℕ → Used

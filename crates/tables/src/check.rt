@@ -1,16 +1,16 @@
 // The check for refusal 14, "tables malformed". Every function takes any rows, any pool and any counts.
 use crate::texts::lesser;
 use crate::texts::text_in;
-use rows::ClassRow;
-use rows::Member;
-use rows::MemberRow;
-use rows::Text;
-use rows::unpack_class;
-use rows::unpack_member;
-use utf8::Check;
-use utf8::check_text;
+use table_rows::ClassRow;
+use table_rows::Member;
+use table_rows::MemberRow;
+use table_rows::Text;
+use table_rows::unpack_class;
+use table_rows::unpack_member;
+use text_utf8::Check;
+use text_utf8::check_text;
 ghost use mathlib.Core.Path.{_≡_};
-ghost use Rattle.rows.specs.Rows.{flagOf};
+ghost use Rattle.table_rows.specs.Rows.{flagOf};
 ghost use Rattle.tables.specs.Check.{isUtf8, textFine, classFine, numbersFine, textsFine, memberFine, allOf, countsFine, wellFormed};
 
 // How many class rows, member rows and pool bytes are used.

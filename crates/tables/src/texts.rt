@@ -1,5 +1,5 @@
 // The texts that rows name, as parts of the pool.
-use rows::Text;
+use table_rows::Text;
 ghost use mathlib.Core.Path.{_≡_};
 ghost use Prim.Native.Nat.{min};
 ghost use Rattle.tables.specs.Back.{textIn};

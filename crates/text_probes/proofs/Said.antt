@@ -10,19 +10,19 @@ use mir.Syntax.{w64}
 use borrow.Author.Needs.{needs}
 use Rattle.ground.specs.Choice.{bit}
 use Rattle.ground.proofs.Cases.{bit-told}
-use Rattle.utf8.specs.declared.sequence.Sequence.{Sequence}
-use Rattle.utf8.specs.declared.sequence.Sequence.the-variants.{End, Good, Bad}
-use Rattle.utf8.specs.declared.check.Check.{Check}
-use Rattle.utf8.specs.declared.check.Check.the-variants.{Valid, Broken}
-use Rattle.places.specs.declared.find.Place.{Place}
-use Rattle.places.specs.declared.find.Place.the-variants.{At, Nowhere}
-use Rattle.places.specs.declared.lines.NextLine.{NextLine}
-use Rattle.places.specs.declared.lines.NextLine.the-variants.{Line, NoLine}
-use Rattle.text.specs.declared.trim.Span.{Span}
-use Rattle.places.specs.Places.{firstWhere, lastWhere, placeNumber}
-use Rattle.text.specs.Trim.{trimStart, trimEnd, trimBoth, afterMarks, startsWhite, firstWhite, lastWhite}
-use Rattle.places.proofs.PlaceLaws.{first-inside, last-inside}
-use Rattle.text_probes.specs.Answers.{trimNumbers, sequenceNumbers, checkNumbers, lineNumbers}
+use Rattle.text_utf8.specs.declared.sequence.Sequence.{Sequence}
+use Rattle.text_utf8.specs.declared.sequence.Sequence.the-variants.{End, Good, Bad}
+use Rattle.text_utf8.specs.declared.check.Check.{Check}
+use Rattle.text_utf8.specs.declared.check.Check.the-variants.{Valid, Broken}
+use Rattle.text_places.specs.declared.find.Place.{Place}
+use Rattle.text_places.specs.declared.find.Place.the-variants.{At, Nowhere}
+use Rattle.text_places.specs.declared.lines.NextLine.{NextLine}
+use Rattle.text_places.specs.declared.lines.NextLine.the-variants.{Line, NoLine}
+use Rattle.text_white.specs.declared.trim.Span.{Span}
+use Rattle.text_places.specs.Places.{firstWhere, lastWhere, placeNumber}
+use Rattle.text_white.specs.Trim.{trimStart, trimEnd, trimBoth, afterMarks, startsWhite, firstWhite, lastWhite}
+use Rattle.text_places.proofs.PlaceLaws.{first-inside, last-inside}
+use Rattle.text_probes.specs.Answers.{trimNumbers, sequenceNumbers, checkNumbers, nextLineNumbers}
 
 module _ {t x : Sequence} (e : t ≡ x) where
   pub said-end : t ≡ End → 0 ∷ 0 ∷ 0 ∷ [] ≡ sequenceNumbers x
@@ -42,10 +42,10 @@ module _ {t x : Check} (e : t ≡ x) where
   said-broken g = sym (rw (sym e ∙ g))
 
 module _ {t x : NextLine} (e : t ≡ x) where
-  pub said-line : {a b c : ℕ} → t ≡ Line a b c → 1 ∷ a ∷ b ∷ c ∷ [] ≡ lineNumbers x
+  pub said-line : {a b c : ℕ} → t ≡ Line a b c → 1 ∷ a ∷ b ∷ c ∷ [] ≡ nextLineNumbers x
   said-line g = sym (rw (sym e ∙ g))
 
-  pub said-no-line : t ≡ NoLine → 0 ∷ 0 ∷ 0 ∷ 0 ∷ [] ≡ lineNumbers x
+  pub said-no-line : t ≡ NoLine → 0 ∷ 0 ∷ 0 ∷ 0 ∷ [] ≡ nextLineNumbers x
   said-no-line g = sym (rw (sym e ∙ g))
 
 pub ruleset said = (said-end, said-good, said-bad, said-valid, said-broken, said-line, said-no-line, needs)

@@ -2,14 +2,14 @@
 use mathlib.Core.List.{List, [], _∷_}
 use Prim.Native.Nat.{ℕ}
 use Rattle.ground.specs.Choice.{bit}
-use Rattle.utf8.specs.declared.sequence.Sequence.{Sequence}
-use Rattle.utf8.specs.declared.sequence.Sequence.the-variants.{End, Good, Bad}
-use Rattle.utf8.specs.declared.check.Check.{Check}
-use Rattle.utf8.specs.declared.check.Check.the-variants.{Valid, Broken}
-use Rattle.places.specs.declared.lines.NextLine.{NextLine}
-use Rattle.places.specs.declared.lines.NextLine.the-variants.{Line, NoLine}
-use Rattle.places.specs.Places.{firstWhere, lastWhere, starts, startsPair, placeNumber}
-use Rattle.text.specs.Trim.{trimStart, trimEnd, trimBoth, afterMarks, startsWhite, firstWhite, lastWhite}
+use Rattle.text_utf8.specs.declared.sequence.Sequence.{Sequence}
+use Rattle.text_utf8.specs.declared.sequence.Sequence.the-variants.{End, Good, Bad}
+use Rattle.text_utf8.specs.declared.check.Check.{Check}
+use Rattle.text_utf8.specs.declared.check.Check.the-variants.{Valid, Broken}
+use Rattle.text_places.specs.declared.lines.NextLine.{NextLine}
+use Rattle.text_places.specs.declared.lines.NextLine.the-variants.{Line, NoLine}
+use Rattle.text_places.specs.Places.{firstWhere, lastWhere, starts, startsPair, placeNumber}
+use Rattle.text_white.specs.Trim.{trimStart, trimEnd, trimBoth, afterMarks, startsWhite, firstWhite, lastWhite}
 
 abbrev pub sequenceNumbers : Sequence → List ℕ
 sequenceNumbers End = 0 ∷ 0 ∷ 0 ∷ []
@@ -20,9 +20,9 @@ abbrev pub checkNumbers : Check → List ℕ
 checkNumbers Valid = 0 ∷ 0 ∷ 0 ∷ []
 checkNumbers (Broken at length) = 1 ∷ at ∷ length ∷ []
 
-abbrev pub lineNumbers : NextLine → List ℕ
-lineNumbers (Line start «end» next) = 1 ∷ start ∷ «end» ∷ next ∷ []
-lineNumbers NoLine = 0 ∷ 0 ∷ 0 ∷ 0 ∷ []
+abbrev pub nextLineNumbers : NextLine → List ℕ
+nextLineNumbers (Line start «end» next) = 1 ∷ start ∷ «end» ∷ next ∷ []
+nextLineNumbers NoLine = 0 ∷ 0 ∷ 0 ∷ 0 ∷ []
 
 -- all that the trims and the white space say of a text
 abbrev pub trimNumbers : List ℕ → List ℕ

@@ -1,17 +1,17 @@
 // C functions over characters, white space, places and lines, for differential runs and for timing. Each writes its answer as numbers.
-use places::NextLine;
-use places::Place;
-use utf8::Check;
-use utf8::Sequence;
+use text_places::NextLine;
+use text_places::Place;
+use text_utf8::Check;
+use text_utf8::Sequence;
 ghost use mathlib.Core.Path.{_≡_};
 ghost use Prim.Native.Nat.{_<_, _^_};
 ghost use lib.ListN.{drop};
 ghost use Rattle.ground.specs.Choice.{bit};
-ghost use Rattle.utf8.specs.Utf8.{sequenceOf, checkOf};
-ghost use Rattle.text.specs.White.{isWhite};
-ghost use Rattle.places.specs.Places.{same, placeNumber};
-ghost use Rattle.places.specs.Lines.{nextLine};
-ghost use Rattle.text_probes.specs.Answers.{sequenceNumbers, checkNumbers, trimNumbers, lineNumbers, byteNumbers};
+ghost use Rattle.text_utf8.specs.Utf8.{sequenceOf, checkOf};
+ghost use Rattle.text_white.specs.White.{isWhite};
+ghost use Rattle.text_places.specs.Places.{same, placeNumber};
+ghost use Rattle.text_places.specs.Lines.{nextLine};
+ghost use Rattle.text_probes.specs.Answers.{sequenceNumbers, checkNumbers, trimNumbers, nextLineNumbers, byteNumbers};
 
 // A test as a number.
 fn bit_number(b: bool) -> u32
@@ -38,7 +38,7 @@ fn place_number(p: Place) -> u64
 pub extern "C" fn clumarief_probe_sequence(text: &[u8], at: usize, answer: &mut [u64; 3])
     ensures { λ _. ⌜ now (answer .exit) ≡ sequenceNumbers (sequenceOf (drop at (now (text .entry)))) ⌝ }
 {
-    match utf8::sequence_at(text, at) {
+    match text_utf8::sequence_at(text, at) {
         Sequence::End => {
             *answer = [0, 0, 0];
         }
@@ -55,7 +55,7 @@ pub extern "C" fn clumarief_probe_sequence(text: &[u8], at: usize, answer: &mut 
 pub extern "C" fn clumarief_probe_check(text: &[u8], answer: &mut [u64; 3])
     ensures { λ _. ⌜ now (answer .exit) ≡ checkNumbers (checkOf (now (text .entry))) ⌝ }
 {
-    match utf8::check_text(text) {
+    match text_utf8::check_text(text) {
         Check::Valid => {
             *answer = [0, 0, 0];
         }
@@ -69,33 +69,33 @@ pub extern "C" fn clumarief_probe_check(text: &[u8], answer: &mut [u64; 3])
 pub extern "C" fn clumarief_probe_white(code: u32) -> u32
     ensures { λ r. ⌜ r ≡ bit (isWhite code) ⌝ }
 {
-    bit_number(text::is_white(code))
+    bit_number(text_white::is_white(code))
 }
 
 #[no_mangle]
 pub extern "C" fn clumarief_probe_trim(text: &[u8], answer: &mut [u64; 8])
     ensures { λ _. ⌜ now (answer .exit) ≡ trimNumbers (now (text .entry)) ⌝ }
 {
-    let both = text::trim_both(text);
+    let both = text_white::trim_both(text);
     let start = both.start;
     let end = both.end;
     *answer = [
-        text::trim_start(text) as u64,
-        text::trim_end(text) as u64,
+        text_white::trim_start(text) as u64,
+        text_white::trim_end(text) as u64,
         start as u64,
         end as u64,
-        text::after_marks(text) as u64,
-        bit_number(text::starts_white(text)) as u64,
-        place_number(text::first_white(text)),
-        place_number(text::last_white(text)),
+        text_white::after_marks(text) as u64,
+        bit_number(text_white::starts_white(text)) as u64,
+        place_number(text_white::first_white(text)),
+        place_number(text_white::last_white(text)),
     ];
 }
 
 #[no_mangle]
 pub extern "C" fn clumarief_probe_line(text: &[u8], at: usize, answer: &mut [u64; 4])
-    ensures { λ _. ⌜ now (answer .exit) ≡ lineNumbers (nextLine (now (text .entry)) at) ⌝ }
+    ensures { λ _. ⌜ now (answer .exit) ≡ nextLineNumbers (nextLine (now (text .entry)) at) ⌝ }
 {
-    match places::next_line(text, at) {
+    match text_places::next_line(text, at) {
         NextLine::Line { start, end, next } => {
             *answer = [1, start as u64, end as u64, next as u64];
         }
@@ -110,9 +110,9 @@ pub extern "C" fn clumarief_probe_bytes(text: &[u8], a: u8, b: u8, answer: &mut 
     ensures { λ _. ⌜ now (answer .exit) ≡ byteNumbers a b (now (text .entry)) ⌝ }
 {
     *answer = [
-        place_number(places::first_byte(text, a)),
-        place_number(places::last_byte(text, a)),
-        place_number(places::first_pair(text, a, b)),
+        place_number(text_places::first_byte(text, a)),
+        place_number(text_places::last_byte(text, a)),
+        place_number(text_places::first_pair(text, a, b)),
     ];
 }
 
@@ -120,5 +120,5 @@ pub extern "C" fn clumarief_probe_bytes(text: &[u8], a: u8, b: u8, answer: &mut 
 pub extern "C" fn clumarief_probe_same(s: &[u8], t: &[u8]) -> u32
     ensures { λ r. ⌜ r ≡ bit (same (now (s .entry)) (now (t .entry))) ⌝ }
 {
-    bit_number(places::same_bytes(s, t))
+    bit_number(text_places::same_bytes(s, t))
 }

@@ -1,5 +1,5 @@
 -- `json_cases::each_case` meets its contract, by the laws of Safe; its invariant: each place is inside the text.
-use Rattle.places.proofs.Taking.{Taking}
+use Rattle.text_places.proofs.Taking.{Taking}
 use Rattle.json_cases.proofs.Safe.{taking}
 use Prim.Native.Nat.{_-_}
 use lib.ListN.{length}

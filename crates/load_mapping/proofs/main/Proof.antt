@@ -1,7 +1,7 @@
 use native.Mathlib.Omega.{arith}
 use Prim.Native.Nat.{ℕ}
 use lib.ListN.{length-replicate}
-use Rattle.pool.proofs.Writes.{written-length}
+use Rattle.table_pool.proofs.Writes.{written-length}
 use Rattle.ground.proofs.Parts.{prefix-whole}
 -- `load_mapping::main` is safe: the line is a part of the buffer it was written to.
 use borrow.Author.Needs.{needs}

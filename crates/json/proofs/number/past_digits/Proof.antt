@@ -3,7 +3,7 @@ use Rattle.json.proofs.Numbers.{passing-digits}
 use Rattle.json.proofs.Spaces.{Passing}
 use Prim.Native.Nat.{_-_}
 use lib.ListN.{length}
-use Rattle.rfc8259.specs.Reader.{isDigit}
+use Rattle.json_grammar.specs.Reader.{isDigit}
 use Rattle.json.proofs.number.past_digits.Statement.{statement}
 use Rattle.json.proofs.number.past_digits.Tie as tie
 

@@ -2,7 +2,7 @@
 use Rattle.json.proofs.Spaces.{passing, Passing}
 use Prim.Native.Nat.{_-_}
 use lib.ListN.{length}
-use Rattle.rfc8259.specs.Reader.{isWs}
+use Rattle.json_grammar.specs.Reader.{isWs}
 use Rattle.json.proofs.space.skip_space.Statement.{statement}
 use Rattle.json.proofs.space.skip_space.Tie as tie
 

@@ -1,11 +1,11 @@
 -- `tables::search::last_with` meets its contract, by the laws of Searching and an invariant that says what is done and what is left.
 use Rattle.tables.proofs.Searching.{scanning, Scanning}
-use Rattle.tables.specs.Search.{named}
+use Rattle.tables.specs.Search.{hasName}
 use Rattle.tables.proofs.search.last_with.Statement.{statement}
 use Rattle.tables.proofs.search.last_with.Tie as tie
 
 abbrev Inv-loop : tie.InvT-loop
-Inv-loop side classes pool name end₀ end = Scanning (named side pool name) classes «end»
+Inv-loop side classes pool name end₀ end = Scanning (hasName side pool name) classes «end»
 
 abbrev μ-loop : tie.MeasureT-loop
 μ-loop side classes pool name end₀ end = «end»

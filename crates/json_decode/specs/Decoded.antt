@@ -1,0 +1,53 @@
+-- What a string stands for, in terms of RFC 8259's reader on lists: its length, whether it is a given text, and its bytes in a lent slice.
+use mathlib.Core.Path.{_≡_}
+use mathlib.Core.Bool.{Bool, true, false}
+use mathlib.Core.List.{List, [], _∷_}
+use Prim.Native.Nat.{ℕ, _+_, _≤_}
+use lib.Dec.{eqb, leb}
+use lib.ListN.{length}
+use Rattle.ground.specs.Choice.{pick, both}
+use Rattle.ground.specs.Put.{put}
+use Rattle.text_places.specs.Places.{same}
+use Rattle.json_grammar.specs.Reader.{Out, got, bad}
+use Rattle.json_decode.specs.declared.length.Decoded.{Decoded}
+use Rattle.json_decode.specs.declared.length.Decoded.the-variants.{Bytes, NoString}
+use Rattle.json_decode.specs.declared.write.Written.{Written}
+use Rattle.json_decode.specs.declared.write.Written.the-variants as written
+
+-- how many bytes a string stands for
+abbrev pub decodedLength : Out (List ℕ) → Decoded
+decodedLength (got v r) = Bytes (length v)
+decodedLength bad = NoString
+
+-- whether it stands for the bytes `w`
+abbrev pub decodedIs : List ℕ → Out (List ℕ) → Bool
+decodedIs w (got v r) = same v w
+decodedIs w bad = false
+
+-- the bytes themselves, none where there is no string
+abbrev pub decoded : Out (List ℕ) → List ℕ
+decoded (got v r) = v
+decoded bad = []
+
+-- they are written at a place, where the room has so many bytes
+abbrev pub writtenOf : Out (List ℕ) → ℕ → ℕ → Written
+writtenOf (got v r) at n = pick (leb (at + length v) n) (written.Done (at + length v)) written.NoRoom
+writtenOf bad at n = written.NoString
+
+-- the room afterwards; as it was where they do not fit
+abbrev pub roomOf : Out (List ℕ) → ℕ → List ℕ → List ℕ
+roomOf (got v r) at d = pick (leb (at + length v) (length d)) (put d at v) d
+roomOf bad at d = d
+
+-- there is a string, and what it stands for fits into a room of `n` bytes at the place `at`
+pub record Fitting (o : Out (List ℕ)) (at n : ℕ) : Type 0 where
+  pub value : List ℕ
+  pub rest : List ℕ
+  pub reads : o ≡ got value rest
+  pub fits : at + length value ≤ n
+
+-- the bytes `v` stand at the head
+unfoldable pub heads : List ℕ → List ℕ → Bool
+heads [] l = true
+heads (x ∷ v) [] = false
+heads (x ∷ v) (y ∷ l) = both (eqb x y) (heads v l)

@@ -1,0 +1,84 @@
+// A method's name, its arguments, and what follows its `)`.
+use crate::spans::shifted;
+use number::TrailingRange;
+use number::trailing_range;
+use text_places::Place;
+use text_places::first_byte;
+use text_places::last_byte;
+use text_white::Span;
+use text_white::trim_both;
+ghost use mathlib.Core.Path.{_≡_};
+ghost use Prim.Native.Nat.{_+_, _<_};
+ghost use Rattle.line_parts.specs.Signatures.{qualifiedOf, linesAfter, methodSignature};
+
+// A method's name, with its owner where it has one.
+pub enum Qualified {
+    Owned { owner: Span, name: Span },
+    Plain { name: Span },
+}
+
+pub enum Signature {
+    Parts {
+        named: Qualified,
+        arguments: Span,
+        lines: TrailingRange,
+    },
+    NoSignature,
+}
+
+// Owner and name split at the last dot.
+fn owner_and_name(s: &[u8]) -> Qualified
+    ensures { λ r. ⌜ r ≡ qualifiedOf (now (s .entry)) ⌝ }
+{
+    let Place::At(dot) = last_byte(s, b'.') else {
+        return Qualified::Plain {
+            name: Span {
+                start: 0,
+                end: s.len(),
+            },
+        };
+    };
+    Qualified::Owned {
+        owner: Span { start: 0, end: dot },
+        name: Span {
+            start: dot + 1,
+            end: s.len(),
+        },
+    }
+}
+
+// The range in what follows the `)`, trimmed.
+fn lines_after(s: &[u8]) -> TrailingRange
+    ensures { λ r. ⌜ r ≡ linesAfter (now (s .entry)) ⌝ }
+{
+    let part = trim_both(s);
+    let start = part.start;
+    let end = part.end;
+    trailing_range(&s[start..end])
+}
+
+// What follows the return type, trimmed.
+pub fn signature_parts(s: &[u8]) -> Signature
+    ensures { λ r. ⌜ r ≡ methodSignature (now (s .entry)) ⌝ }
+{
+    let Place::At(open) = first_byte(s, b'(') else {
+        return Signature::NoSignature;
+    };
+    let Place::At(close) = last_byte(s, b')') else {
+        return Signature::NoSignature;
+    };
+    if close < open {
+        return Signature::NoSignature;
+    }
+    let named = owner_and_name(&s[..open]);
+    let after = close + 1;
+    let lines = lines_after(&s[after..]);
+    Signature::Parts {
+        named,
+        arguments: Span {
+            start: open + 1,
+            end: close,
+        },
+        lines,
+    }
+}

@@ -1,0 +1,229 @@
+-- All class lines, one after the other. Assumes nothing.
+use mathlib.Core.Path.{_≡_, refl, sym, _∙_, ap}
+use mathlib.Core.List.{List, [], _∷_, _++_, append-assoc, append-nil}
+use Prim.Native.Nat.{ℕ, _+_, _-_, _≤_, _<_}
+use native.Mathlib.Omega.{arith}
+use lib.ListN.{length, set, take, drop, replicate, length-append}
+use mir.Val.{Fits}
+use mir.Syntax.{w64}
+use borrow.Author.Needs.{needs}
+use Rattle.ground.specs.Put.{put}
+use Rattle.ground.proofs.PutLaws.{put-nothing, put-set, length-put}
+use Rattle.text_places.specs.declared.lines.NextLine.{NextLine}
+use Rattle.text_places.specs.declared.lines.NextLine.the-variants.{Line, NoLine}
+use Rattle.text_places.specs.Lines.{lines, nextLine}
+use Rattle.text_places.proofs.Taking.{Taken, line-taken, none-taken, end-taken}
+use Rattle.line_parts.specs.Spans.{Lies}
+use Rattle.line.specs.Kinds.{lineOf}
+use Rattle.table_pool.specs.declared.write.Wrote.{Wrote}
+use Rattle.table_pool.specs.declared.write.Wrote.the-variants.{Done, NoRoom}
+use Rattle.descriptor_pieces.specs.Pieces.{Pair, join}
+use Rattle.table_pool.specs.Wrote.{Written}
+use Rattle.table_pool.proofs.Writes.{written-length, wrote-then}
+use Rattle.tables.specs.Back.{readBack}
+use Rattle.load_raw_types.specs.Marks.{markOf, chained, Indexed}
+use Rattle.load_raw_types.proofs.Indexing.{indexed-none, indexed-class, read-back-class}
+use Rattle.load_raw_types.proofs.Writing.{wrote-as}
+use Rattle.load_rule.specs.Classes.{classIn, classesOf, classText, classPool, classRow, classRows}
+use Rattle.load_rule.proofs.Appended.{join-more, join-append, class-rows-length, class-rows-more}
+use Rattle.load_classes.specs.declared.names.ClassNames.{ClassNames}
+use Rattle.load_classes.specs.declared.names.ClassLine.{ClassLine}
+use Rattle.load_classes.specs.declared.names.ClassLine.the-variants.{Names, Other}
+use Rattle.load_classes.specs.Names.{classNamed, NamedAt, NamedBy}
+use Rattle.load_classes.specs.Entries.{EnteredClass, EnteredClassBy}
+use Rattle.load_classes.specs.Written.{ClassesAt}
+
+-- the classes `done` are written
+pub record Rows (done : List Pair) (c : List (List ℕ)) (p : List ℕ) (count q : ℕ) (c₁ : List (List ℕ)) (i₁ p₁ : List ℕ) : Type 0 where
+  pub counted : count ≡ length done
+  pub room : count ≤ length c
+  pub rows : c₁ ≡ put c 0 (classRows 0 done)
+  pub size : length c₁ ≡ length c
+  pub texts : Written q p 0 (classPool done) p₁
+  pub indexed : Indexed (classRows 0 done) p₁ i₁ q
+  pub back : readBack (classRows 0 done) p₁ ≡ done
+
+rows-none : (c : List (List ℕ)) (p i : List ℕ) → i ≡ replicate 12288 0 → Rows [] c p 0 0 c i p
+unfolding classRows join
+rows-none c p i e = record {
+  counted = refl;
+  room = omega arith;
+  rows = sym (put-nothing c 0);
+  size = refl;
+  texts = record { past = refl; room = omega arith; is = sym (put-nothing p 0) };
+  indexed = rw e (indexed-none p 0 (omega arith));
+  back = refl;
+}
+
+-- one class more
+module _ {done : List Pair} {c : List (List ℕ)} {p : List ℕ} {count at : ℕ} {c₁ : List (List ℕ)} {i₁ p₁ : List ℕ} (w : Rows done c p count at c₁ i₁ p₁) where
+  long : count ≡ 0 + length (classRows 0 done)
+  long = let a = w .counted in let b = class-rows-length 0 done in omega arith
+
+  module _ (k : Pair) {q : ℕ} {c₂ : List (List ℕ)} {i₂ p₂ : List ℕ} (e : EnteredClass q k count at c₁ i₁ p₁ c₂ i₂ p₂) where
+    abbrev wider : List (List ℕ)
+    wider = classRows 0 done ++ (classRow at k ∷ [])
+
+    all-rows : wider ≡ classRows 0 (done ++ (k ∷ []))
+    all-rows = ap (λ n. classRows 0 done ++ (classRow n k ∷ [])) (w .texts .past) ∙ sym (class-rows-more 0 done k)
+
+    rows-more : count < length c → count < 4096 → Rows (done ++ (k ∷ [])) c p (count + 1) q c₂ i₂ p₂
+    rows-more h few =
+        let n = length-append done (k ∷ []) in
+        let o = w .counted in
+        let m = long in
+        let put-there : c₂ ≡ put c 0 wider =
+        e .row ∙ ap (λ x. set x count (classRow at k)) (w .rows) ∙ ap (λ x. set (put c 0 (classRows 0 done)) x (classRow at k)) m
+        ∙ put-set c 0 (classRows 0 done) (classRow at k) (omega arith) in
+        let marked : i₂ ≡ chained i₁ (markOf (k .display)) (length (classRows 0 done)) = e .marked ∙ ap (chained i₁ (markOf (k .display))) (w .counted ∙ sym (class-rows-length 0 done)) in
+        let wide : length wider ≡ length (classRows 0 done) + 1 = length-append (classRows 0 done) (classRow at k ∷ []) in
+        let there : Indexed wider p₂ (chained i₁ (markOf (k .display)) (length (classRows 0 done))) q = indexed-class (k .raw) (k .display) (e .written) (w .indexed) (omega arith) in
+        let back : readBack wider p₂ ≡ done ++ (k ∷ []) = read-back-class (k .raw) (k .display) (e .written) (w .indexed) ∙ ap (λ x. x ++ (k ∷ [])) (w .back) in
+        record {
+          counted = omega arith;
+          room = omega arith;
+          rows = put-there ∙ ap (put c 0) all-rows;
+          size = ap length put-there ∙ length-put c 0 wider (omega arith);
+          texts = wrote-as (Done q) p 0 p₂ (sym (join-more classText done k)) (wrote-then (Done q) (classText k) p₂ (w .texts) (e .written));
+          indexed = rw (← all-rows, marked) there;
+          back = rw (← all-rows) back;
+        }
+
+-- what is written up to the place `at` of the text, and what is left
+pub record Writing (s : List ℕ) (c : List (List ℕ)) (i p : List ℕ) (at count q : ℕ) (c₁ : List (List ℕ)) (i₁ p₁ : List ℕ) : Type 0 where
+  pub most : length c ≤ 4096
+  pub same-rows : length c₁ ≡ length c
+  pub same-index : length i₁ ≡ length i
+  pub same-pool : length p₁ ≡ length p
+  pub done : List Pair
+  pub split : classesOf (lines s) ≡ done ++ classesOf (lines (drop at s))
+  pub written : Rows done c p count q c₁ i₁ p₁
+
+pub writing-starts : (s : List ℕ) (c : List (List ℕ)) (p i : List ℕ) → i ≡ replicate 12288 0 → length c ≤ 4096 → Writing s c i p 0 0 0 c i p
+writing-starts s c p i e h = record { most = h; same-rows = refl; same-index = refl; same-pool = refl; done = []; split = refl; written = rows-none c p i e }
+
+-- all of them
+finish : {done : List Pair} {ls : List (List ℕ)} {c : List (List ℕ)} {p : List ℕ} {count q : ℕ} {c₁ : List (List ℕ)} {i₁ p₁ : List ℕ} → done ≡ classesOf ls →
+    Rows done c p count q c₁ i₁ p₁ → ClassesAt count q ls c p c₁ p₁ i₁
+finish {done} {ls} {c} {p} {count} {q} {c₁} {i₁} {p₁} e w =
+    let v : Rows (classesOf ls) c p count q c₁ i₁ p₁ = rw (← e) w in
+    let n = v .counted in
+    let o = v .room in
+    record { counted = n; room = omega arith; rows = v .rows; texts = v .texts; indexed = v .indexed; back = v .back }
+
+named-told : (t : ClassLine) (l : List ℕ) {ns : ClassNames} → NamedBy t l → t ≡ Names ns → NamedAt l ns
+named-told t l w e = rw e at w
+
+module _ (t : ClassLine) (l : List ℕ) {ns : ClassNames} (w : NamedBy t l) (e : t ≡ Names ns) where
+  pub display-there : Lies (ns .display) (length l)
+  display-there = named-told t l w e .display-lies
+
+  pub raw-there : Lies (ns .raw) (length l)
+  raw-there = named-told t l w e .raw-lies
+
+other-told : (t : ClassLine) (l : List ℕ) → NamedBy t l → t ≡ Other → classIn l (lineOf l) ≡ []
+other-told t l w e = rw e at w
+
+module _ {s : List ℕ} {c : List (List ℕ)} {i p : List ℕ} {at count q : ℕ} {c₁ : List (List ℕ)} {i₁ p₁ : List ℕ} (w : Writing s c i p at count q c₁ i₁ p₁) where
+  ended : lines (drop at s) ≡ [] → ClassesAt count q (lines s) c p c₁ p₁ i₁
+  unfolding classesOf
+  ended e = finish (sym (w .split ∙ ap (λ ls. w .done ++ classesOf ls) e ∙ append-nil (w .done))) (w .written)
+
+  pub writing-ends : length s ≤ at → ClassesAt count q (lines s) c p c₁ p₁ i₁
+  writing-ends h = ended (end-taken s at h)
+
+  pub writing-size : length i₁ ≡ 12288
+  writing-size = w .written .indexed .size
+
+  pub writing-pool : length p ≤ 4194304 → length p₁ ≤ 4194304
+  writing-pool h = let e = written-length (w .written .texts) in omega arith
+
+  pub writing-count : length c ≤ 4096 → count < length c₁ → count < 4096
+  writing-count h l = let e = w .written .size in omega arith
+
+  pub writing-fits : length c ≤ 4096 → Fits w64 (count + 1)
+  writing-fits h = let n = w .written .room in omega arith
+
+  module _ {t : NextLine} (x : t ≡ nextLine s at) where
+    pub writing-none : t ≡ NoLine → ClassesAt count q (lines s) c p c₁ p₁ i₁
+    writing-none y = ended (none-taken s at x y)
+
+    module _ {a e n : ℕ} (y : t ≡ Line a e n) where
+      taken : Taken s at a e n
+      taken = line-taken s at x y
+
+      pub writing-order : a ≤ e
+      writing-order = taken .order
+
+      pub writing-inside : e ≤ length s
+      writing-inside = taken .ends
+
+      pub writing-falls : at < length s → length s - n < length s - at
+      writing-falls h = let u = taken .past in let v = taken .inside in omega arith
+
+      split-here : classesOf (lines s) ≡ w .done ++ (classIn (take (e - a) (drop a s)) (lineOf (take (e - a) (drop a s))) ++ classesOf (lines (drop n s)))
+      unfolding classesOf
+      split-here = w .split ∙ ap (λ ls. w .done ++ classesOf ls) (taken .split)
+
+      module _ (k : ClassLine) (z : NamedBy k (take (e - a) (drop a s))) where
+        pub writing-other : k ≡ Other → Writing s c i p n count q c₁ i₁ p₁
+        writing-other f = record {
+          most = w .most;
+          same-rows = w .same-rows;
+          same-index = w .same-index;
+          same-pool = w .same-pool;
+          done = w .done;
+          split = split-here ∙ ap (λ cs. w .done ++ (cs ++ classesOf (lines (drop n s)))) (other-told k (take (e - a) (drop a s)) z f);
+          written = w .written;
+        }
+
+        module _ {ns : ClassNames} (f : k ≡ Names ns) where
+          there : NamedAt (take (e - a) (drop a s)) ns
+          there = named-told k (take (e - a) (drop a s)) z f
+
+          abbrev class : Pair
+          class = classNamed (take (e - a) (drop a s)) ns
+
+          split-class : classesOf (lines s) ≡ (w .done ++ (class ∷ [])) ++ classesOf (lines (drop n s))
+          split-class = split-here ∙ ap (λ cs. w .done ++ (cs ++ classesOf (lines (drop n s)))) (there .is) ∙ sym (append-assoc (w .done) (class ∷ []) (classesOf (lines (drop n s))))
+
+          pub writing-few : length c₁ ≤ count → length c < length (classesOf (lines s))
+          writing-few h =
+              let l = ap length split-class in
+              let m = length-append (w .done ++ (class ∷ [])) (classesOf (lines (drop n s))) in
+              let o = length-append (w .done) (class ∷ []) in
+              let v = w .written .counted in
+              let u = w .written .size in
+              omega arith
+
+          module _ (r : Wrote) (c₂ : List (List ℕ)) (i₂ p₂ : List ℕ) (g : EnteredClassBy r class count q c₁ i₁ p₁ c₂ i₂ p₂) where
+            pub writing-short : r ≡ NoRoom → length p < length (classPool (classesOf (lines s)))
+            writing-short h =
+                let short : length p₁ < q + length (classText class) = rw h at g in
+                let l = ap (λ cs. length (classPool cs)) split-class in
+                let m = ap length (join-append classText (w .done ++ (class ∷ [])) (classesOf (lines (drop n s)))) in
+                let o = ap length (join-more classText (w .done) class) in
+                let u = length-append (classPool (w .done ++ (class ∷ []))) (classPool (classesOf (lines (drop n s)))) in
+                let v = length-append (classPool (w .done)) (classText class) in
+                let x = written-length (w .written .texts) in
+                let y = w .written .texts .past in
+                omega arith
+
+            pub writing-more : {q₂ : ℕ} → r ≡ Done q₂ → count < length c₁ → Writing s c i p n (count + 1) q₂ c₂ i₂ p₂
+            writing-more {q₂} h l =
+                let entered : EnteredClass q₂ class count q c₁ i₁ p₁ c₂ i₂ p₂ = rw h at g in
+                let u = w .same-rows in
+                let v = w .most in
+                let more = rows-more (w .written) class entered (omega arith) (omega arith) in
+                record {
+                  most = w .most;
+                  same-rows = more .size;
+                  same-index = more .indexed .size ∙ sym (w .written .indexed .size) ∙ w .same-index;
+                  same-pool = written-length (more .texts);
+                  done = w .done ++ (class ∷ []);
+                  split = split-class;
+                  written = more;
+                }
+
+pub ruleset writing =
+    (writing-starts, writing-ends, writing-size, writing-pool, writing-count, writing-fits, writing-none, writing-order, writing-inside, writing-falls, writing-other, display-there, raw-there, writing-few, writing-short, writing-more, needs)

@@ -1,0 +1,34 @@
+-- One class written: its descriptors, its row and its mark.
+use mathlib.Core.Path.{_≡_}
+use mathlib.Core.List.{List, _++_}
+use Prim.Native.Nat.{ℕ, _+_, _<_}
+use lib.ListN.{length, set}
+use Rattle.table_pool.specs.declared.write.Wrote.{Wrote}
+use Rattle.table_pool.specs.declared.write.Wrote.the-variants as wrote
+use Rattle.descriptor_pieces.specs.Pieces.{Pair}
+use Rattle.table_pool.specs.Wrote.{Written}
+use Rattle.load_raw_types.specs.Marks.{markOf, chained}
+use Rattle.load_rule.specs.Classes.{classText, classRow}
+use Rattle.load_classes.specs.declared.entry.PairPlaces.{PairPlaces}
+use Rattle.load_classes.specs.declared.entry.PairPlaces.the-variants.{At, NoRoom}
+
+-- the texts `a` and `b` are written into the pool `d` at the place `at`: `m` is where the second one starts, and `q` the place after it
+pub record PairAt (m q : ℕ) (d : List ℕ) (at : ℕ) (a b d₁ : List ℕ) : Type 0 where
+  pub second : m ≡ at + length a
+  pub after : q ≡ m + length b
+  pub written : Written q d at (a ++ b) d₁
+
+abbrev pub PairBy : PairPlaces → List ℕ → ℕ → List ℕ → List ℕ → List ℕ → Type 0
+PairBy (At m q) d at a b d₁ = PairAt m q d at a b d₁
+PairBy NoRoom d at a b d₁ = length d < at + length (a ++ b)
+
+-- The class `k` is the row `count` of the rows `c`, its descriptors stand in the pool `p` from the place `at` to the place `q`, and the index `i` has
+-- it as the last row with its mark. With `₁`: after that.
+pub record EnteredClass (q : ℕ) (k : Pair) (count at : ℕ) (c : List (List ℕ)) (i p : List ℕ) (c₁ : List (List ℕ)) (i₁ p₁ : List ℕ) : Type 0 where
+  pub written : Written q p at (classText k) p₁
+  pub row : c₁ ≡ set c count (classRow at k)
+  pub marked : i₁ ≡ chained i (markOf (k .display)) count
+
+abbrev pub EnteredClassBy : Wrote → Pair → ℕ → ℕ → List (List ℕ) → List ℕ → List ℕ → List (List ℕ) → List ℕ → List ℕ → Type 0
+EnteredClassBy (wrote.Done q) k count at c i p c₁ i₁ p₁ = EnteredClass q k count at c i p c₁ i₁ p₁
+EnteredClassBy wrote.NoRoom k count at c i p c₁ i₁ p₁ = length p < at + length (classText k)

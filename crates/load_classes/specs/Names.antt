@@ -1,0 +1,27 @@
+-- The names of a class line.
+use mathlib.Core.Path.{_≡_}
+use mathlib.Core.List.{List, [], _∷_}
+use Prim.Native.Nat.{ℕ}
+use lib.ListN.{length}
+use Rattle.line_parts.specs.Spans.{partOf, Lies}
+use Rattle.line.specs.Kinds.{lineOf}
+use Rattle.table_pool.specs.Names.{classDescriptor}
+use Rattle.descriptor_pieces.specs.Pieces.{Pair}
+use Rattle.load_rule.specs.Classes.{pair, classIn}
+use Rattle.load_classes.specs.declared.names.ClassNames.{ClassNames}
+use Rattle.load_classes.specs.declared.names.ClassLine.{ClassLine}
+use Rattle.load_classes.specs.declared.names.ClassLine.the-variants.{Names, Other}
+
+-- the class of a line `l` by the places of its names
+abbrev pub classNamed : List ℕ → ClassNames → Pair
+classNamed l ns = pair (classDescriptor (partOf l (ns .raw))) (classDescriptor (partOf l (ns .display)))
+
+-- the names lie in the line, and are those of its class
+pub record NamedAt (l : List ℕ) (ns : ClassNames) : Type 0 where
+  pub display-lies : Lies (ns .display) (length l)
+  pub raw-lies : Lies (ns .raw) (length l)
+  pub is : classIn l (lineOf l) ≡ classNamed l ns ∷ []
+
+abbrev pub NamedBy : ClassLine → List ℕ → Type 0
+NamedBy (Names ns) l = NamedAt l ns
+NamedBy Other l = classIn l (lineOf l) ≡ []

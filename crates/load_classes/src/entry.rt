@@ -1,0 +1,81 @@
+// One class: its descriptors in the pool, its row, and its mark in the index.
+use crate::names::ClassNames;
+use load_raw_types::mark_class;
+use table_pool::Wrote;
+use table_pool::put_class;
+use table_rows::Class;
+use table_rows::ClassRow;
+use table_rows::Text;
+use table_rows::pack_class;
+ghost use mathlib.Core.Path.{_≡_};
+ghost use Prim.Native.Nat.{_≤_, _<_, _-_};
+ghost use lib.ListN.{length};
+ghost use Rattle.line_parts.specs.Spans.{Lies};
+ghost use Rattle.table_pool.specs.Names.{classDescriptor};
+ghost use Rattle.table_rows.specs.Rows.{text, packClass};
+ghost use Rattle.load_classes.specs.Entries.{PairBy, EnteredClassBy};
+ghost use Rattle.load_classes.specs.Names.{classNamed};
+
+// Two descriptors are written: where the second one starts, and the place after it.
+pub enum PairPlaces {
+    At { middle: usize, next: usize },
+    NoRoom,
+}
+
+// "each class row's raw then display"
+fn put_pair(pool: &mut [u8], at: usize, raw: &[u8], display: &[u8]) -> PairPlaces
+    ensures { λ r. ⌜ PairBy r (now (pool .entry)) at (classDescriptor (now (raw .entry))) (classDescriptor (now (display .entry))) (now (pool .exit)) ⌝ }
+{
+    let Wrote::Done(middle) = put_class(pool, at, raw) else {
+        return PairPlaces::NoRoom;
+    };
+    let Wrote::Done(next) = put_class(pool, middle, display) else {
+        return PairPlaces::NoRoom;
+    };
+    PairPlaces::At { middle, next }
+}
+
+// The row of a class whose raw descriptor runs from `at` to `middle`, and its display descriptor from there to `next`.
+fn class_row(at: usize, middle: usize, next: usize) -> ClassRow
+    requires { ⌜ (at ≤ middle) × (middle ≤ next) × (next ≤ 4194304) ⌝ }
+    ensures { λ r. ⌜ r ≡ packClass (record { raw = text at (middle - at); display = text middle (next - middle) }) ⌝ }
+{
+    let raw = middle - at;
+    let display = next - middle;
+    pack_class(Class {
+        raw: Text {
+            place: at as u32,
+            length: raw as u32,
+        },
+        display: Text {
+            place: middle as u32,
+            length: display as u32,
+        },
+    })
+}
+
+// A class line by its names: the class of the row `count`, with its descriptors from the place `at` on.
+pub fn enter_class(
+    classes: &mut [ClassRow],
+    index: &mut [u16],
+    pool: &mut [u8],
+    count: usize,
+    at: usize,
+    line: &[u8],
+    names: ClassNames,
+) -> Wrote
+    requires { ⌜ (count < length (now classes)) × (count < 4096) × (length (now index) ≡ 12288) × (length (now pool) ≤ 4194304) × Lies (names .display) (length (now line)) × Lies (names .raw) (length (now line)) ⌝ }
+    ensures { λ r. ⌜ EnteredClassBy r (classNamed (now (line .entry)) names) count at (now (classes .entry)) (now (index .entry)) (now (pool .entry)) (now (classes .exit)) (now (index .exit)) (now (pool .exit)) ⌝ }
+{
+    let start = names.raw.start;
+    let end = names.raw.end;
+    let first = names.display.start;
+    let last = names.display.end;
+    let PairPlaces::At { middle, next } = put_pair(pool, at, &line[start..end], &line[first..last])
+    else {
+        return Wrote::NoRoom;
+    };
+    classes[count] = class_row(at, middle, next);
+    mark_class(index, &line[first..last], count);
+    Wrote::Done(next)
+}

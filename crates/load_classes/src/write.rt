@@ -1,0 +1,60 @@
+// All class lines of a text, one after the other.
+use crate::entry::enter_class;
+use crate::names::ClassLine;
+use crate::names::class_line;
+use table_pool::Wrote;
+use table_rows::ClassRow;
+use text_places::NextLine;
+use text_places::next_line;
+ghost use mathlib.Core.Path.{_≡_};
+ghost use Prim.Native.Nat.{_≤_};
+ghost use lib.ListN.{length, replicate};
+ghost use Rattle.text_places.specs.Lines.{lines};
+ghost use Rattle.load_classes.specs.Written.{ClassesBy};
+
+pub enum Classes {
+    // How many rows are used, and where the descriptors end.
+    Written { count: usize, end: usize },
+    FewRows,
+    ShortPool,
+}
+
+// The class rows of a text, their descriptors from the start of the pool on, and the index of their display descriptors.
+pub fn write_classes(
+    text: &[u8],
+    classes: &mut [ClassRow],
+    index: &mut [u16],
+    pool: &mut [u8],
+) -> Classes
+    requires { ⌜ (now index ≡ replicate 12288 0) × (length (now classes) ≤ 4096) × (length (now pool) ≤ 4194304) ⌝ }
+    ensures { λ r. ⌜ ClassesBy r (lines (now (text .entry))) (now (classes .entry)) (now (pool .entry)) (now (classes .exit)) (now (pool .exit)) (now (index .exit)) ⌝ }
+{
+    let mut at = 0;
+    let mut count = 0;
+    let mut end = 0;
+    while at < text.len() {
+        let NextLine::Line {
+            start,
+            end: stop,
+            next,
+        } = next_line(text, at)
+        else {
+            return Classes::Written { count, end };
+        };
+        let line = &text[start..stop];
+        let ClassLine::Names(names) = class_line(line) else {
+            at = next;
+            continue;
+        };
+        if classes.len() <= count {
+            return Classes::FewRows;
+        }
+        let Wrote::Done(after) = enter_class(classes, index, pool, count, end, line, names) else {
+            return Classes::ShortPool;
+        };
+        at = next;
+        count += 1;
+        end = after;
+    }
+    Classes::Written { count, end }
+}

@@ -1,0 +1,372 @@
+-- All lines, one after the other: their members' rows and texts. Assumes nothing.
+use mathlib.Core.Path.{_≡_, refl, sym, _∙_, ap}
+use mathlib.Core.Bool.{Bool, false}
+use mathlib.Core.List.{List, [], _∷_, _++_, append-assoc, append-nil}
+use mathlib.Core.Logic.{_⊎_, inl, inr, ⊎-elim}
+use Prim.Native.Nat.{ℕ, _+_, _-_, _≤_, _<_}
+use native.Mathlib.Nat.{zero-add, add-zero}
+use native.Mathlib.Omega.{arith}
+use lib.ListN.{length, drop, set, length-append, length-take, length-set}
+use borrow.Author.Needs.{needs}
+use Rattle.ground.specs.Put.{put}
+use Rattle.ground.proofs.Parts.{part-part}
+use Rattle.ground.proofs.PutLaws.{put-nothing, put-set}
+use Rattle.text_places.specs.Lines.{lines}
+use Rattle.text_places.proofs.Taking.{Taken, end-taken}
+use Rattle.text_white.specs.declared.trim.Span.{Span}
+use Rattle.line_parts.specs.Spans.{span, partOf, Lies}
+use Rattle.line.specs.Kinds.{lineOf}
+use Rattle.table_pool.specs.declared.write.Wrote.the-variants.{Done}
+use Rattle.descriptor_pieces.specs.Pieces.{join}
+use Rattle.table_pool.proofs.Writes.{written-length, wrote-then}
+use Rattle.table_rows.specs.Rows.{packMember}
+use Rattle.tables.specs.Back.{readBack}
+use Rattle.load_raw_types.specs.Marks.{Indexed}
+use Rattle.load_raw_types.proofs.Indexing.{read-back-put, indexed-put}
+use Rattle.load_raw_types.proofs.Writing.{wrote-as}
+use Rattle.load_rule.specs.declared.Fates.{Fates}
+use Rattle.load_rule.specs.declared.Scan.{Scan}
+use Rattle.load_rule.specs.declared.Scan.the-variants as scan
+use Rattle.load_rule.specs.Comments.{residualIn}
+use Rattle.load_rule.specs.Fates.{noFates, classLine, faultsFrom, scanOf}
+use Rattle.load_rule.specs.Members.{Entry, Under, under, underAfter, entryIn, entriesFrom, entryText, entryPool, entryRow, entryRows}
+use Rattle.load_rule.proofs.Tally.{fate-class}
+use Rattle.load_rule.proofs.Appended.{join-more, join-append, entry-rows-length, entry-rows-more}
+use Rattle.load_scan.specs.Bounds.{Within}
+use Rattle.load_scan.proofs.Scanning.{scanOn, Scanning, scan-end, scanned-more}
+use Rattle.load_texts.specs.declared.texts.MemberLine.{MemberLine}
+use Rattle.load_members.specs.declared.role.Role.{Role}
+use Rattle.load_members.specs.declared.role.Role.the-variants.{Class, Member, Neither}
+use Rattle.load_members.specs.declared.step.LineStep.{LineStep}
+use Rattle.load_members.specs.declared.step.Step.{Step}
+use Rattle.load_members.specs.declared.step.Step.the-variants as steps
+use Rattle.load_members.specs.declared.enter.Slot.{Slot}
+use Rattle.load_members.specs.declared.enter.NextSlot.{NextSlot}
+use Rattle.load_members.specs.declared.enter.NextSlot.the-variants.{At, NoRoom}
+use Rattle.load_members.specs.Steps.{bytesOf, StepLine, StepBy}
+use Rattle.load_members.specs.Enters.{slotAt, MemberReady, RoleReady, Ready, textsIn, WrittenMember, Kept, underClass, EnterBy}
+use Rattle.load_texts.specs.Texts.{MemberTexts, allTexts}
+use Rattle.load_members.specs.Roles.{roleOf}
+use Rattle.load_texts.specs.Places.{EnteredTexts, memberPlaced}
+use Rattle.load_members.specs.Filled.{Holding, Over, members, WrittenAll, CutShort}
+use Rattle.load_texts.proofs.Typing.{written-nothing}
+use Rattle.load_members.proofs.Stepping.{step-told, step-ended, step-faulty}
+use Rattle.load_members.proofs.Entering.{entryOf, entry-member, entry-class, entry-neither, under-class, under-neither, under-member, member-counts, member-classed, member-lies, class-lies, entry-text, entry-row}
+
+-- the rule starts with nothing counted
+pub from-nothing : (ls : List (List ℕ)) → scanOn noFates false ls ≡ scanOf ls
+from-nothing ls = ap (λ f. faultsFrom f 1 0 ls) (simp zero-add)
+
+-- what is written up to the place `at`, and what is left
+pub record Filling (s : List ℕ) (rows : List (List ℕ)) (index : List ℕ) (used : ℕ) (m₀ : List (List ℕ)) (p₀ : List ℕ)
+    (at : ℕ) (t : Slot) (member : Bool) (f : Fates) (m : List (List ℕ)) (p : List ℕ) : Type 0 where
+  pub short : length s ≤ 1048576
+  pub scanning : Scanning s 0 noFates false at f member
+  pub done : List Entry
+  pub split : members (lines s) (readBack rows p₀) ≡ done ++ entriesFrom (readBack rows p₀) (under (f .class) (partOf s (span (t .own) (t .«own_end»)))) (lines (drop at s))
+  pub held : Holding done used (t .place) m₀ p₀ m p
+  pub counts : t .row ≡ length done
+  pub indexed : Indexed rows p index (t .place)
+  pub same : readBack rows p ≡ readBack rows p₀
+  pub lies : Lies (span (t .own) (t .«own_end»)) (length s)
+  pub pool-size : length p ≡ length p₀
+  pub rows-size : length m ≡ length m₀
+
+pub filling-starts : (s : List ℕ) (rows : List (List ℕ)) (index : List ℕ) (used : ℕ) (m₀ : List (List ℕ)) (p₀ : List ℕ) → length s ≤ 1048576 → Indexed rows p₀ index used →
+    {f : Fates} → f ≡ noFates → {t : Slot} → t ≡ slotAt 0 used 0 0 → Filling s rows index used m₀ p₀ 0 t false f m₀ p₀
+unfolding join entryRows
+filling-starts s rows index used m₀ p₀ h x g e = rw (g, e) (record {
+  short = h;
+  scanning = record {
+    inside = omega arith;
+    within = record { lines = omega arith; blank = omega arith; applied = omega arith; idle = omega arith; class = omega arith; field = omega arith; method = omega arith; short = omega arith };
+    decides = refl;
+  };
+  done = [];
+  split = refl;
+  held = record { room = omega arith; rows = sym (put-nothing m₀ 0); texts = written-nothing p₀ used (x .room) };
+  counts = refl;
+  indexed = x;
+  same = refl;
+  lies = record { order = omega arith; within = omega arith };
+  pool-size = refl;
+  rows-size = refl;
+})
+
+-- one line more is counted
+scan-on : {s : List ℕ} {«from» : ℕ} {before : Fates} {has : Bool} {at : ℕ} {f : Fates} {member : Bool} {y : LineStep} →
+    Scanning s «from» before has at f member → StepLine s at f member y → Scanning s «from» before has (y .next) (y .sum) (y .«has_member»)
+scan-on k st = scanned-more k (st .taken) (st .clean) (st .sum) (st .after)
+
+module _ {s : List ℕ} {rows : List (List ℕ)} {index : List ℕ} {used : ℕ} {m₀ : List (List ℕ)} {p₀ : List ℕ}
+    {at : ℕ} {t : Slot} {member : Bool} {f : Fates} {m : List (List ℕ)} {p : List ℕ}
+    (k : Filling s rows index used m₀ p₀ at t member f m p) where
+  -- The end.
+  ended : lines (drop at s) ≡ [] → WrittenAll f (lines s) (readBack rows p₀) used (t .place) m₀ p₀ m p
+  unfolding entriesFrom
+  ended e =
+      let all : members (lines s) (readBack rows p₀) ≡ k .done = k .split ∙ ap (λ ls. k .done ++ entriesFrom (readBack rows p₀) (under (f .class) (partOf s (span (t .own) (t .«own_end»)))) ls) e ∙ append-nil (k .done) in
+      record { scanned = sym (from-nothing (lines s)) ∙ sym (k .scanning .decides) ∙ ap (scanOn f member) e ∙ scan-end f member; held = rw all (k .held) }
+
+  pub filling-ends : length s ≤ at → WrittenAll f (lines s) (readBack rows p₀) used (t .place) m₀ p₀ m p
+  filling-ends h = ended (end-taken s at h)
+
+  pub filling-none : (r : Step) → StepBy r s at f member → r ≡ steps.End → WrittenAll f (lines s) (readBack rows p₀) used (t .place) m₀ p₀ m p
+  filling-none r w q = ended (step-ended s at f member r w q)
+
+  pub filling-fault : (r : Step) → StepBy r s at f member → {number line : ℕ} → r ≡ steps.Faulty number line → scanOf (lines s) ≡ scan.Faulty number line
+  filling-fault r w q = sym (from-nothing (lines s)) ∙ sym (k .scanning .decides) ∙ step-faulty s at f member r w q
+
+  pub filling-text : length s ≤ 1048576
+  filling-text = k .short
+
+  pub filling-inside-text : at ≤ length s
+  filling-inside-text = k .scanning .inside
+
+  pub filling-counted : Within f at
+  filling-counted = k .scanning .within
+
+  module _ (r : Step) (x : StepBy r s at f member) {y : LineStep} (q : r ≡ steps.Line y) where
+    st : StepLine s at f member y
+    st = step-told s at f member r x q
+
+    taken : Taken s at (y .start) (y .«end») (y .next)
+    taken = st .taken
+
+    pub filling-rest : y .next ≤ length s
+    filling-rest = taken .inside
+
+    pub filling-falls : at < length s → length s - y .next < length s - at
+    filling-falls h = let u = taken .past in let i = taken .inside in omega arith
+
+    next-scan : Scanning s 0 noFates false (y .next) (y .sum) (y .«has_member»)
+    next-scan = scan-on (k .scanning) st
+
+    pub filling-within : Within (y .sum) (y .next)
+    filling-within = next-scan .within
+
+    next-class : y .sum .class ≡ f .class + classLine (lineOf (bytesOf s y))
+    next-class =
+        ap (λ y. y .class) (st .sum)
+        ∙ ap (λ y. f .class + y) (fate-class member (bytesOf s y) (lineOf (bytesOf s y)))
+
+    here : Under
+    here = under (f .class) (partOf s (span (t .own) (t .«own_end»)))
+
+    -- the members that are left: that of this line, and those after it
+    step : members (lines s) (readBack rows p₀) ≡ k .done ++ (entryIn (readBack rows p₀) here (residualIn (lines (drop (y .next) s))) (bytesOf s y) (lineOf (bytesOf s y))
+        ++ entriesFrom (readBack rows p₀) (underAfter here (bytesOf s y) (lineOf (bytesOf s y))) (lines (drop (y .next) s)))
+    unfolding entriesFrom here
+    step = k .split ∙ ap (λ ls. k .done ++ entriesFrom (readBack rows p₀) (under (f .class) (partOf s (span (t .own) (t .«own_end»)))) ls) (taken .split)
+
+    short-scan : {sc : Scan} → sc ≡ scanOn (y .sum) (y .«has_member») (lines (drop (y .next) s)) → sc ≡ scanOf (lines s)
+    short-scan y = y ∙ next-scan .decides ∙ from-nothing (lines s)
+
+    role-told : {x : Role} → y .role ≡ x → roleOf (lineOf (bytesOf s y)) ≡ x
+    role-told h = sym (st .is) ∙ h
+
+    pub filling-neither : y .role ≡ Neither → Filling s rows index used m₀ p₀ (y .next) t (y .«has_member») (y .sum) m p
+    unfolding here
+    filling-neither h = record {
+      short = k .short;
+      scanning = next-scan;
+      done = k .done;
+      split =
+          step ∙ ap (λ es. k .done ++ (es ++ entriesFrom (readBack rows p₀) (underAfter here (bytesOf s y) (lineOf (bytesOf s y))) (lines (drop (y .next) s))))
+          (entry-neither (readBack rows p₀) here (residualIn (lines (drop (y .next) s))) (bytesOf s y) (lineOf (bytesOf s y)) (role-told h))
+          ∙ ap (λ w. k .done ++ entriesFrom (readBack rows p₀) w (lines (drop (y .next) s)))
+          (under-neither here (bytesOf s y) (lineOf (bytesOf s y)) (role-told h) ∙ ap (λ c. under c (partOf s (span (t .own) (t .«own_end»)))) (sym next-class));
+      held = k .held;
+      counts = k .counts;
+      indexed = k .indexed;
+      same = k .same;
+      lies = k .lies;
+      pool-size = k .pool-size;
+      rows-size = k .rows-size;
+    }
+
+    module _ {d : Span} (h : y .role ≡ Class d) where
+      inside : Lies d (length (bytesOf s y))
+      inside = class-lies (bytesOf s y) (role-told h)
+
+      in-line : d .«end» ≤ y .«end» - y .start
+      in-line = let w = inside .within in let l = length-take (y .«end» - y .start) (drop (y .start) s) in omega arith
+
+      pub filling-class : Filling s rows index used m₀ p₀ (y .next) (underClass y d t) (y .«has_member») (y .sum) m p
+      unfolding here
+      filling-class = record {
+        short = k .short;
+        scanning = next-scan;
+        done = k .done;
+        split =
+            step ∙ ap (λ es. k .done ++ (es ++ entriesFrom (readBack rows p₀) (underAfter here (bytesOf s y) (lineOf (bytesOf s y))) (lines (drop (y .next) s))))
+            (entry-class (readBack rows p₀) here (residualIn (lines (drop (y .next) s))) (bytesOf s y) (lineOf (bytesOf s y)) (role-told h))
+            ∙ ap (λ w. k .done ++ entriesFrom (readBack rows p₀) w (lines (drop (y .next) s)))
+            (under-class here (bytesOf s y) (lineOf (bytesOf s y)) (role-told h) ∙ ap (λ c. under c (partOf (bytesOf s y) d)) (sym next-class)
+            ∙ ap (under (y .sum .class)) (part-part s (y .start) (y .«end») (d .start) (d .«end») in-line));
+        held = k .held;
+        counts = k .counts;
+        indexed = k .indexed;
+        same = k .same;
+        lies = record { order = let o = inside .order in omega arith; within = let w = in-line in let f = taken .ends in let o₂ = taken .order in omega arith };
+        pool-size = k .pool-size;
+        rows-size = k .rows-size;
+      }
+
+    module _ {parts : MemberLine} (h : y .role ≡ Member parts) where
+      no-class : y .sum .class ≡ f .class
+      no-class = next-class ∙ ap (λ c. f .class + c) (member-counts (lineOf (bytesOf s y)) (role-told h)) ∙ add-zero (f .class)
+
+      member-ready : MemberReady s y parts
+      member-ready = record {
+        lies = member-lies (bytesOf s y) (role-told h);
+        classed = rw no-class (member-classed (f .class) (lineOf (bytesOf s y)) (role-told h) (st .clean));
+      }
+
+      texts : MemberTexts
+      texts = textsIn s (readBack rows p₀) y t parts
+
+      entry : Entry
+      entry = entryOf (f .class - 1) texts (parts .body)
+
+      rest : List Entry
+      rest = entriesFrom (readBack rows p₀) (under (y .sum .class) (partOf s (span (t .own) (t .«own_end»)))) (lines (drop (y .next) s))
+
+      -- this line's member, and those after it
+      member-step : members (lines s) (readBack rows p₀) ≡ k .done ++ (entry ∷ rest)
+      unfolding here entry rest texts
+      member-step =
+          step ∙ ap (λ es. k .done ++ (es ++ entriesFrom (readBack rows p₀) (underAfter here (bytesOf s y) (lineOf (bytesOf s y))) (lines (drop (y .next) s))))
+          (entry-member (readBack rows p₀) here (residualIn (lines (drop (y .next) s))) (bytesOf s y) (lineOf (bytesOf s y)) (role-told h))
+          ∙ ap (λ w. k .done ++ (entryOf (f .class - 1) (textsIn s (readBack rows p₀) y t parts) (parts .body) ∷ entriesFrom (readBack rows p₀) w (lines (drop (y .next) s))))
+          (under-member here (bytesOf s y) (lineOf (bytesOf s y)) (role-told h) ∙ ap (λ c. under c (partOf s (span (t .own) (t .«own_end»)))) (sym next-class))
+
+      past : t .place ≡ used + length (entryPool (k .done))
+      past = k .held .texts .past
+
+      text-is : entryText entry ≡ allTexts texts
+      unfolding entry texts
+      text-is = entry-text (f .class - 1) (readBack rows p₀) (residualIn (lines (drop (y .next) s))) (partOf s (span (t .own) (t .«own_end»))) (bytesOf s y) parts
+
+      few : length m ≤ t .row → Over (members (lines s) (readBack rows p₀)) used m₀ p₀
+      few l =
+          let c = k .counts in
+          let size = k .rows-size in
+          let all = ap length member-step ∙ length-append (k .done) (entry ∷ rest) in
+          inl (omega arith)
+
+      short : length p < t .place + length (allTexts (textsIn s (readBack rows p) y t parts)) → Over (members (lines s) (readBack rows p₀)) used m₀ p₀
+      unfolding join texts
+      short l =
+          let over : length p < t .place + length (allTexts texts) = rw (k .same) at l in
+          let size = k .pool-size in
+          let before = past in
+          let u = ap length text-is in
+          let all = ap (λ es. length (entryPool es)) member-step ∙ ap length (join-append entryText (k .done) (entry ∷ rest))
+          ∙ length-append (entryPool (k .done)) (entryText entry ++ entryPool rest) in
+          let v = length-append (entryText entry) (entryPool rest) in
+          inr (omega arith)
+
+      module _ {t₁ : Slot} {m₁ : List (List ℕ)} {p₁ : List ℕ} (w : WrittenMember t₁ s rows y parts t m p m₁ p₁) where
+        it : EnteredTexts (w .places) p (t .place) texts p₁
+        unfolding texts
+        it = rw (k .same) at (w .texts)
+
+        row-is : packMember (memberPlaced (y .sum .class - 1) (t .place) (w .places) (parts .body)) ≡ entryRow (used + length (entryPool (k .done))) entry
+        unfolding entry
+        row-is =
+            ap (λ c. packMember (memberPlaced (c - 1) (t .place) (w .places) (parts .body))) no-class
+            ∙ entry-row (f .class - 1) (t .place) (w .places) texts (parts .body) (it .placed) ∙ ap (λ x. entryRow x entry) past
+
+        filling-member : Filling s rows index used m₀ p₀ (y .next) t₁ (y .«has_member») (y .sum) m₁ p₁
+        unfolding rest
+        filling-member =
+            let size = k .rows-size in
+            let c = k .counts in
+            let l = w .room in
+            let rows-count : t .row ≡ 0 + length (entryRows used (k .done)) = c ∙ sym (entry-rows-length used (k .done)) ∙ sym (zero-add (length (entryRows used (k .done)))) in
+            let fits : 0 + length (entryRows used (k .done)) < length m₀ = omega arith in
+            let row : List ℕ = packMember (memberPlaced (y .sum .class - 1) (t .place) (w .places) (parts .body)) in
+            let texts-are : entryPool (k .done) ++ allTexts texts ≡ entryPool (k .done ++ (entry ∷ [])) =
+            ap (λ x. entryPool (k .done) ++ x) (sym text-is) ∙ sym (join-more entryText (k .done) entry) in
+            rw (w .row, w .next) (record {
+              short = k .short;
+              scanning = next-scan;
+              done = k .done ++ (entry ∷ []);
+              split = member-step ∙ sym (append-assoc (k .done) (entry ∷ []) rest);
+              held = record {
+                room = rw (length-append (k .done) (entry ∷ [])) (omega arith);
+                rows =
+                    ap (λ x. set x (t .row) row) (k .held .rows) ∙ ap (λ x. set (put m₀ 0 (entryRows used (k .done))) x row) rows-count
+                    ∙ put-set m₀ 0 (entryRows used (k .done)) row fits
+                    ∙ ap (λ x. put m₀ 0 (entryRows used (k .done) ++ (x ∷ []))) row-is ∙ ap (put m₀ 0) (sym (entry-rows-more used (k .done) entry));
+                texts = wrote-as (Done (w .places .«end»)) p₀ used p₁ texts-are (wrote-then (Done (w .places .«end»)) (allTexts texts) p₁ (k .held .texts) (it .written));
+              };
+              counts = ap (λ x. x + 1) c ∙ sym (length-append (k .done) (entry ∷ []));
+              indexed = indexed-put (k .indexed) (it .written);
+              same = read-back-put (k .indexed) (it .written) ∙ k .same;
+              lies = k .lies;
+              pool-size = written-length (it .written) ∙ k .pool-size;
+              rows-size = length-set m (t .row) row ∙ k .rows-size;
+            })
+
+    -- A line is entered by its role.
+    role-ready : (ro : Role) → y .role ≡ ro → RoleReady ro s y
+    role-ready Neither h = tt
+    role-ready (Class d) h = inside h
+    role-ready (Member parts) h = member-ready h
+
+    pub filling-ready : length p₀ ≤ 4194304 → Ready s rows index y t p
+    filling-ready most = record {
+      short = k .short;
+      order = taken .order;
+      inside = taken .ends;
+      rest = taken .inside;
+      own-order = k .lies .order;
+      own-inside = k .lies .within;
+      pool = let size = k .pool-size in omega arith;
+      indexed = k .indexed;
+      role = role-ready (y .role) refl;
+    }
+
+    module _ (o : NextSlot) (m₁ : List (List ℕ)) (p₁ : List ℕ) (w : EnterBy (y .role) o s rows y t m p m₁ p₁) where
+      pub filling-entered : {t₁ : Slot} → o ≡ At t₁ → Filling s rows index used m₀ p₀ (y .next) t₁ (y .«has_member») (y .sum) m₁ p₁
+      filling-entered {t₁} e = go (y .role) refl w
+        where
+          kept : {u : Slot} → Filling s rows index used m₀ p₀ (y .next) u (y .«has_member») (y .sum) m p → Kept o u m p m₁ p₁ → Filling s rows index used m₀ p₀ (y .next) t₁ (y .«has_member») (y .sum) m₁ p₁
+          kept {u} v z = let a = z .answer in let is : t₁ ≡ u = cc in rw (is, z .rows, z .pool) v
+
+          go : (ro : Role) → y .role ≡ ro → EnterBy ro o s rows y t m p m₁ p₁ → Filling s rows index used m₀ p₀ (y .next) t₁ (y .«has_member») (y .sum) m₁ p₁
+          go Neither h z = kept (filling-neither h) z
+          go (Class d) h z = kept (filling-class h) z
+          go (Member parts) h z = filling-member h (rw e at z)
+
+      pub filling-over : o ≡ NoRoom → {sc : Scan} → sc ≡ scanOn (y .sum) (y .«has_member») (lines (drop (y .next) s)) → CutShort sc (lines s) (readBack rows p₀) used m₀ p₀
+      filling-over e i = record { scanned = short-scan i; over = go (y .role) refl w }
+        where
+          none : {u : Slot} → o ≡ At u → Over (members (lines s) (readBack rows p₀)) used m₀ p₀
+          none f = absurd (let z : _≡_ {A = ℕ} 0 1 = cc in omega arith)
+
+          go : (ro : Role) → y .role ≡ ro → EnterBy ro o s rows y t m p m₁ p₁ → Over (members (lines s) (readBack rows p₀)) used m₀ p₀
+          go Neither h z = none (z .answer)
+          go (Class d) h z = none (z .answer)
+          go (Member parts) h z =
+              let c : (length m ≤ t .row) ⊎ (length p < t .place + length (allTexts (textsIn s (readBack rows p) y t parts))) = rw e at z in
+              ⊎-elim (few h) (short h) c
+
+pub ruleset filling = (
+  filling-starts,
+  filling-ends,
+  filling-none,
+  filling-fault,
+  filling-text,
+  filling-inside-text,
+  filling-counted,
+  filling-rest,
+  filling-falls,
+  filling-within,
+  filling-ready,
+  filling-entered,
+  filling-over,
+  needs,
+)

@@ -1,0 +1,113 @@
+-- What a line adds to the rows and the pool. Assumes nothing.
+use mathlib.Core.Path.{_≡_, refl}
+use mathlib.Core.List.{List}
+use mathlib.Core.Logic.{inl, inr}
+use Prim.Native.Nat.{ℕ, _+_, _-_, _≤_, _<_}
+use native.Mathlib.Omega.{arith}
+use lib.ListN.{length, take, drop, set, length-take}
+use mir.Val.{Fits}
+use mir.Syntax.{w64}
+use borrow.Author.Needs.{needs}
+use Rattle.ground.proofs.Parts.{take-rest}
+use Rattle.text_places.specs.Lines.{lines}
+use Rattle.text_white.specs.declared.trim.Span.{Span}
+use Rattle.line_parts.specs.Spans.{Lies}
+use Rattle.table_rows.specs.Rows.{packMember}
+use Rattle.tables.specs.Back.{readBack}
+use Rattle.load_raw_types.specs.Marks.{Indexed}
+use Rattle.load_rule.specs.Comments.{residualIn}
+use Rattle.load_texts.specs.declared.texts.MemberLine.{MemberLine}
+use Rattle.load_texts.specs.declared.texts.Places.{Places}
+use Rattle.load_texts.specs.declared.texts.Entered.{Entered}
+use Rattle.load_texts.specs.declared.texts.Entered.the-variants as entered
+use Rattle.load_texts.specs.Texts.{MemberIn, textsOf}
+use Rattle.load_texts.specs.Places.{EnteredTexts, EnteredTextsBy, Rising, memberPlaced}
+use Rattle.load_members.specs.declared.role.Role.{Role}
+use Rattle.load_members.specs.declared.role.Role.the-variants.{Class, Member, Neither}
+use Rattle.load_members.specs.declared.step.LineStep.{LineStep}
+use Rattle.load_members.specs.declared.enter.Slot.{Slot}
+use Rattle.load_members.specs.declared.enter.NextSlot.{NextSlot}
+use Rattle.load_members.specs.declared.enter.NextSlot.the-variants.{At, NoRoom}
+use Rattle.load_members.specs.Steps.{bytesOf}
+use Rattle.load_members.specs.Enters.{slotAt, MemberReady, RoleReady, Ready, textsIn, WrittenMember, WrittenMemberBy, underClass, EnterBy}
+
+-- A member.
+pub member-parts : {s : List ℕ} {x : LineStep} {parts : MemberLine} → MemberReady s x parts → MemberIn parts (length (take (x .«end» - x .start) (drop (x .start) s)))
+member-parts k = k .lies
+
+module _ {s : List ℕ} {rows : List (List ℕ)} {index : List ℕ} {x : LineStep} {t : Slot} {p : List ℕ} (k : Ready s rows index x t p) where
+  pub member-indexed : Indexed rows p index (t .place)
+  member-indexed = k .indexed
+
+  module _ (parts : MemberLine) (m : List (List ℕ)) where
+    pub member-few : (m₁ : List (List ℕ)) (p₁ : List ℕ) → length m ≤ t .row → WrittenMemberBy NoRoom s rows x parts t m p m₁ p₁
+    member-few m₁ p₁ h = inl h
+
+    module _ (r : Entered) (p₁ : List ℕ)
+        (w : EnteredTextsBy r p (t .place) (textsOf (readBack rows p) (residualIn (lines (take (length s - x .next) (drop (x .next) s)))) (take (t .«own_end» - t .own) (drop (t .own) s)) (take (x .«end» - x .start) (drop (x .start) s)) parts) p₁) where
+      as-ruled : EnteredTextsBy r p (t .place) (textsIn s (readBack rows p) x t parts) p₁
+      as-ruled = rw (take-rest s (x .next)) at w
+
+      pub member-short : (m₁ : List (List ℕ)) → r ≡ entered.NoRoom → WrittenMemberBy NoRoom s rows x parts t m p m₁ p₁
+      member-short m₁ e = inr (rw e at as-ruled)
+
+      module _ {places : Places} (e : r ≡ entered.At places) where
+        it : EnteredTexts places p (t .place) (textsIn s (readBack rows p) x t parts) p₁
+        it = rw e at as-ruled
+
+        pub member-rising : Rising (t .place) places 4194304
+        member-rising =
+            let l = it .placed in
+            let d = l .descriptor in
+            let n = l .name in
+            let o = l .owner in
+            let z = l .«end» in
+            let most = k .pool in
+            let room = it .written .room in
+            let end-is = it .written .past in
+            record { raw = omega arith; descriptor = omega arith; name = omega arith; owner = omega arith; inside = omega arith }
+
+        pub member-at : t .row < length m → {row : List ℕ} → row ≡ packMember (memberPlaced (x .sum .class - 1) (t .place) places (parts .body)) →
+            WrittenMember (slotAt (t .row + 1) (places .«end») (t .own) (t .«own_end»)) s rows x parts t m p (set m (t .row) row) p₁
+        member-at h f = record { places = places; texts = it; room = h; row = rw f refl; next = refl }
+
+pub ruleset member-slots = (member-parts, member-indexed, member-few, member-short, member-rising, member-at, needs)
+
+-- A line by its role.
+role-class : (ro : Role) (s : List ℕ) (x : LineStep) {d : Span} → RoleReady ro s x → ro ≡ Class d → Lies d (length (bytesOf s x))
+role-class ro s x k e = rw e at k
+
+role-member : (ro : Role) (s : List ℕ) (x : LineStep) {parts : MemberLine} → RoleReady ro s x → ro ≡ Member parts → MemberReady s x parts
+role-member ro s x k e = rw e at k
+
+module _ {s : List ℕ} {rows : List (List ℕ)} {index : List ℕ} {x : LineStep} {t : Slot} {p : List ℕ} (k : Ready s rows index x t p) where
+  module _ {d : Span} (e : x .role ≡ Class d) where
+    within : d .«end» ≤ x .«end» - x .start
+    within = let w = role-class (x .role) s x (k .role) e .within in let l = length-take (x .«end» - x .start) (drop (x .start) s) in omega arith
+
+    pub line-own : Fits w64 (x .start + d .start)
+    line-own =
+        let a = k .short in
+        let b = k .order in
+        let c = k .inside in
+        let o = role-class (x .role) s x (k .role) e .order in
+        let w = within in
+        omega arith
+
+    pub line-own-end : Fits w64 (x .start + d .«end»)
+    line-own-end = let a = k .short in let b = k .order in let c = k .inside in let w = within in omega arith
+
+  pub line-member : {parts : MemberLine} → x .role ≡ Member parts → MemberReady s x parts
+  line-member e = role-member (x .role) s x (k .role) e
+
+module _ (ro : Role) (s : List ℕ) (rows : List (List ℕ)) (x : LineStep) (t : Slot) (m : List (List ℕ)) (p : List ℕ) where
+  pub line-neither : ro ≡ Neither → EnterBy ro (At t) s rows x t m p m p
+  line-neither e = rw e (record { answer = refl; rows = refl; pool = refl })
+
+  pub line-class : {d : Span} → ro ≡ Class d → EnterBy ro (At (underClass x d t)) s rows x t m p m p
+  line-class e = rw e (record { answer = refl; rows = refl; pool = refl })
+
+  pub line-entered : {parts : MemberLine} → ro ≡ Member parts → (r : NextSlot) (m₁ : List (List ℕ)) (p₁ : List ℕ) → WrittenMemberBy r s rows x parts t m p m₁ p₁ → EnterBy ro r s rows x t m p m₁ p₁
+  line-entered e r m₁ p₁ w = rw e w
+
+pub ruleset line-slots = (line-own, line-own-end, line-member, line-neither, line-class, line-entered, needs)

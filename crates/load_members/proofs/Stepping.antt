@@ -1,0 +1,82 @@
+-- One line. Assumes nothing.
+use mathlib.Core.Path.{_≡_, sym, _∙_, ap}
+use mathlib.Core.Bool.{Bool}
+use mathlib.Core.List.{List, []}
+use Prim.Native.Nat.{ℕ, _+_, _-_, _≤_}
+use native.Mathlib.Omega.{arith}
+use lib.ListN.{length, take, drop}
+use mir.Val.{Fits}
+use mir.Syntax.{w32}
+use borrow.Author.Needs.{needs}
+use Rattle.text_places.specs.declared.lines.NextLine.{NextLine}
+use Rattle.text_places.specs.declared.lines.NextLine.the-variants.{Line, NoLine}
+use Rattle.text_places.specs.Lines.{lines, nextLine}
+use Rattle.text_places.proofs.Taking.{line-taken, none-taken}
+use Rattle.line.specs.declared.line.Line as line
+use Rattle.line.specs.Kinds.{lineOf}
+use Rattle.load_rule.specs.declared.Fates.{Fates}
+use Rattle.load_rule.specs.declared.Scan.the-variants as scan
+use Rattle.load_rule.specs.Fates.{plus, fateOf, memberAfter, faultOf}
+use Rattle.load_scan.specs.Bounds.{Within}
+use Rattle.load_scan.proofs.Scanning.{scanOn, within-more, scan-fault}
+use Rattle.load_members.specs.declared.step.LineStep.{LineStep}
+use Rattle.load_members.specs.declared.step.Step.{Step}
+use Rattle.load_members.specs.declared.step.Step.the-variants as steps
+use Rattle.load_members.specs.declared.role.Role.{Role}
+use Rattle.load_members.specs.Roles.{roleOf}
+use Rattle.load_members.specs.Steps.{StepLine, StepBy}
+
+module _ (s : List ℕ) (at : ℕ) (f : Fates) (member : Bool) where
+  pub step-fits : length s ≤ 1048576 → at ≤ length s → Within f at → Fits w32 (f .lines + 1)
+  step-fits h i w = let l = w .lines in omega arith
+
+  pub step-bounds : length s ≤ 1048576 → at ≤ length s → Within f at → Within f 1048576
+  step-bounds h i w = within-more f at 1048576 w (omega arith)
+
+  module _ {t : NextLine} (b : t ≡ nextLine s at) where
+    pub step-end : t ≡ NoLine → lines (drop at s) ≡ []
+    step-end q = none-taken s at b q
+
+    module _ {a e n : ℕ} (q : t ≡ Line a e n) where
+      pub step-order : a ≤ e
+      step-order = line-taken s at b q .order
+
+      pub step-inside : e ≤ length s
+      step-inside = line-taken s at b q .ends
+
+      module _ {kind : line.Line} (r : kind ≡ lineOf (take (e - a) (drop a s))) where
+        pub step-kind : lineOf (take (e - a) (drop a s)) ≡ kind
+        step-kind = sym r
+
+        module _ {number : ℕ} (x : number ≡ faultOf (f .class) kind) where
+          told : number ≡ faultOf (f .class) (lineOf (take (e - a) (drop a s)))
+          told = x ∙ ap (faultOf (f .class)) r
+
+          pub step-fault : (number ≡ 0 → ⊥) → scanOn f member (lines (drop at s)) ≡ scan.Faulty number (f .lines + 1)
+          step-fault z =
+              let no : faultOf (f .class) (lineOf (take (e - a) (drop a s))) ≡ 0 → ⊥ = λ y. z (told ∙ y) in
+              ap (scanOn f member) (line-taken s at b q .split) ∙ scan-fault f member (take (e - a) (drop a s)) (lines (drop n s)) no
+              ∙ ap (λ y. scan.Faulty y (f .lines + 1)) (sym told)
+
+          pub step-line : number ≡ 0 → {g : Fates} → g ≡ plus f (fateOf member (take (e - a) (drop a s)) kind) → {has : Bool} → has ≡ memberAfter member kind →
+              {role : Role} → role ≡ roleOf kind → StepLine s at f member (record { start = a; «end» = e; next = n; sum = g; «has_member» = has; role = role })
+          step-line z u v y = record {
+            taken = line-taken s at b q;
+            clean = sym told ∙ z;
+            sum = u ∙ ap (λ k. plus f (fateOf member (take (e - a) (drop a s)) k)) r;
+            after = v ∙ ap (memberAfter member) r;
+            is = y ∙ ap roleOf r;
+          }
+
+pub ruleset stepping = (step-fits, step-bounds, step-end, step-order, step-inside, step-kind, step-fault, step-line, needs)
+
+-- What it said.
+module _ (s : List ℕ) (at : ℕ) (f : Fates) (member : Bool) where
+  pub step-told : (r : Step) → StepBy r s at f member → {x : LineStep} → r ≡ steps.Line x → StepLine s at f member x
+  step-told r w q = rw q at w
+
+  pub step-ended : (r : Step) → StepBy r s at f member → r ≡ steps.End → lines (drop at s) ≡ []
+  step-ended r w q = rw q at w
+
+  pub step-faulty : (r : Step) → StepBy r s at f member → {number line : ℕ} → r ≡ steps.Faulty number line → scanOn f member (lines (drop at s)) ≡ scan.Faulty number line
+  step-faulty r w q = rw q at w

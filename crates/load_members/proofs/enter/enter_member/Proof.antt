@@ -1,0 +1,102 @@
+-- `members::enter::enter_member` meets its contract, by the laws of Slots.
+use native.Mathlib.Omega.{arith}
+use Rattle.load_members.proofs.Slots.{member-slots, member-at}
+use Rattle.load_members.proofs.enter.enter_member.Statement.{statement}
+use Rattle.load_members.proofs.enter.enter_member.Tie as tie
+
+returns : tie.Need-returns
+returns c = search member-slots
+
+sub-after : tie.Need-sub-after
+sub-after c = search member-slots
+
+part-after-start : tie.Need-part-after-start
+part-after-start c = search member-slots
+
+part-after-end : tie.Need-part-after-end
+part-after-end c = search member-slots
+
+sub-bytes : tie.Need-sub-bytes
+sub-bytes c = search member-slots
+
+part-bytes-start : tie.Need-part-bytes-start
+part-bytes-start c = search member-slots
+
+part-bytes-end : tie.Need-part-bytes-end
+part-bytes-end c = search member-slots
+
+sub-own : tie.Need-sub-own
+sub-own c = search member-slots
+
+part-own-start : tie.Need-part-own-start
+part-own-start c = search member-slots
+
+part-own-end : tie.Need-part-own-end
+part-own-end c = search member-slots
+
+write-texts-requires : tie.Need-write-texts-requires
+write-texts-requires c κs = search member-slots
+
+enum-known-places : tie.Need-enum-known-places
+enum-known-places c = search member-slots
+
+enum-told : tie.Need-enum-told
+enum-told c = search member-slots
+
+same-length : tie.Need-same-length
+same-length c = search member-slots
+
+returns-2 : tie.Need-returns-2
+returns-2 c = search member-slots
+
+sub-member-row : tie.Need-sub-member-row
+sub-member-row c = search member-slots
+
+member-row-requires : tie.Need-member-row-requires
+member-row-requires c κs = search member-slots
+
+mul-t22 : tie.Need-mul-t22
+mul-t22 c = let a = c .before .before .before .before .before .before .before .before .before .before .before .before .if1 .left in let g = c .before .before .before .before .before .before .before .before .before .before .before .before .before .before .before .before .good .0 in omega arith
+
+slice-set-from-members : tie.Need-slice-set-from-members
+slice-set-from-members c = search member-slots
+
+add-following : tie.Need-add-following
+add-following c = let a = c .before .before .before .before .before .before .before .before .before .before .before .before .before .if1 .left in let g = c .before .before .before .before .before .before .before .before .before .before .before .before .before .before .before .before .before .good .0 in omega arith
+
+same-length-2 : tie.Need-same-length-2
+same-length-2 c = search member-slots
+
+same-length-3 : tie.Need-same-length-3
+same-length-3 c = search member-slots
+
+returns-3 : tie.Need-returns-3
+returns-3 c = member-at (c .before .before .before .before .before .before .before .before .before .before .before .before .before .before .before .before .before .pre .0) _ _ _ _ (c .before .before .before .before .before .before .before .before .write-texts .ensures) (c .before .before .before .before .places .given .1) (c .before .before .before .before .before .before .before .before .before .before .before .before .before .if1 .left) (c .before .member-row .ensures)
+
+pub enter-member-spec : {M : Type 1} → statement M
+enter-member-spec =
+    tie.close
+    (tie.spec
+    returns
+    sub-after
+    part-after-start
+    part-after-end
+    sub-bytes
+    part-bytes-start
+    part-bytes-end
+    sub-own
+    part-own-start
+    part-own-end
+    write-texts-requires
+    enum-known-places
+    enum-told
+    same-length
+    returns-2
+    sub-member-row
+    member-row-requires
+    mul-t22
+    slice-set-from-members
+    add-following
+    same-length-2
+    same-length-3
+    returns-3)

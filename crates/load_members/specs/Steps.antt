@@ -1,0 +1,34 @@
+-- What reading one line says.
+use mathlib.Core.Path.{_≡_}
+use mathlib.Core.Bool.{Bool}
+use mathlib.Core.List.{List, []}
+use Prim.Native.Nat.{ℕ, _+_, _-_}
+use lib.ListN.{take, drop}
+use Rattle.text_places.specs.Lines.{lines}
+use Rattle.text_places.proofs.Taking.{Taken}
+use Rattle.line.specs.Kinds.{lineOf}
+use Rattle.load_rule.specs.declared.Fates.{Fates}
+use Rattle.load_rule.specs.declared.Scan.the-variants as scan
+use Rattle.load_rule.specs.Fates.{plus, fateOf, memberAfter, faultOf, fatesFrom, faultsFrom}
+use Rattle.load_members.specs.declared.step.LineStep.{LineStep}
+use Rattle.load_members.specs.declared.step.Step.{Step}
+use Rattle.load_members.specs.declared.step.Step.the-variants as steps
+use Rattle.load_members.specs.Roles.{roleOf}
+
+-- the bytes of a line
+abbrev pub bytesOf : List ℕ → LineStep → List ℕ
+bytesOf s x = take (x .«end» - x .start) (drop (x .start) s)
+
+-- `x` is the line at the place `at`, and has no fault
+pub record StepLine (s : List ℕ) (at : ℕ) (f : Fates) (member : Bool) (x : LineStep) : Type 0 where
+  pub taken : Taken s at (x .start) (x .«end») (x .next)
+  pub clean : faultOf (f .class) (lineOf (bytesOf s x)) ≡ 0
+  pub sum : x .sum ≡ plus f (fateOf member (bytesOf s x) (lineOf (bytesOf s x)))
+  pub after : x .«has_member» ≡ memberAfter member (lineOf (bytesOf s x))
+  pub is : x .role ≡ roleOf (lineOf (bytesOf s x))
+
+abbrev pub StepBy : Step → List ℕ → ℕ → Fates → Bool → Type 0
+StepBy steps.End s at f member = lines (drop at s) ≡ []
+StepBy (steps.Faulty number line) s at f member =
+    faultsFrom (plus f (fatesFrom member (lines (drop at s)))) (f .lines + 1) (f .class) (lines (drop at s)) ≡ scan.Faulty number line
+StepBy (steps.Line x) s at f member = StepLine s at f member x

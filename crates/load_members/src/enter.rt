@@ -1,0 +1,102 @@
+// What a line adds to the rows and the pool.
+use crate::role::Role;
+use crate::row::member_row;
+use crate::step::LineStep;
+use load_texts::Entered;
+use load_texts::MemberLine;
+use load_texts::write_texts;
+use table_rows::ClassRow;
+use table_rows::MemberRow;
+ghost use mathlib.Core.Path.{_≡_};
+ghost use Rattle.load_members.specs.Enters.{slotAt, Ready, MemberReady, WrittenMemberBy, EnterBy};
+
+// Where the next member goes: its row, and the place of its texts. The display name of its class line stands in the text from `own` to `own_end`.
+pub struct Slot {
+    pub row: usize,
+    pub place: usize,
+    pub own: usize,
+    pub own_end: usize,
+}
+
+pub enum NextSlot {
+    At(Slot),
+    // Rows or pool do not hold the member.
+    NoRoom,
+}
+
+// Where the first member goes, if the pool is used up to the place `used`.
+pub fn first_slot(used: usize) -> Slot
+    ensures { λ r. ⌜ r ≡ slotAt 0 used 0 0 ⌝ }
+{
+    Slot {
+        row: 0,
+        place: used,
+        own: 0,
+        own_end: 0,
+    }
+}
+
+// The texts of a member, and its row.
+fn enter_member(
+    members: &mut [MemberRow],
+    pool: &mut [u8],
+    text: &[u8],
+    line: LineStep,
+    parts: MemberLine,
+    slot: Slot,
+    classes: &[ClassRow],
+    index: &[u16],
+) -> NextSlot
+    requires { ⌜ Ready (now text) (now classes) (now index) line slot (now pool) × MemberReady (now text) line parts ⌝ }
+    ensures { λ r. ⌜ WrittenMemberBy r (now (text .entry)) (now (classes .entry)) line parts slot (now (members .entry)) (now (pool .entry)) (now (members .exit)) (now (pool .exit)) ⌝ }
+{
+    let row = slot.row;
+    let place = slot.place;
+    if members.len() <= row {
+        return NextSlot::NoRoom;
+    }
+    let next = line.next;
+    let start = line.start;
+    let end = line.end;
+    let first = slot.own;
+    let last = slot.own_end;
+    let after = &text[next..];
+    let bytes = &text[start..end];
+    let own = &text[first..last];
+    let Entered::At(places) = write_texts(pool, place, after, bytes, parts, own, classes, index)
+    else {
+        return NextSlot::NoRoom;
+    };
+    let body = parts.body;
+    members[row] = member_row(line.sum.class - 1, place, places, body);
+    let mut following = slot;
+    following.row += 1;
+    following.place = places.end;
+    NextSlot::At(following)
+}
+
+// A class line names the class of the members after it, a member line is entered.
+pub fn enter_line(
+    members: &mut [MemberRow],
+    pool: &mut [u8],
+    text: &[u8],
+    line: LineStep,
+    slot: Slot,
+    classes: &[ClassRow],
+    index: &[u16],
+) -> NextSlot
+    requires { ⌜ Ready (now text) (now classes) (now index) line slot (now pool) ⌝ }
+    ensures { λ r. ⌜ EnterBy (line .role) r (now (text .entry)) (now (classes .entry)) line slot (now (members .entry)) (now (pool .entry)) (now (members .exit)) (now (pool .exit)) ⌝ }
+{
+    let role = line.role;
+    match role {
+        Role::Neither => NextSlot::At(slot),
+        Role::Class(display) => {
+            let mut named = slot;
+            named.own = line.start + display.start;
+            named.own_end = line.start + display.end;
+            NextSlot::At(named)
+        }
+        Role::Member(parts) => enter_member(members, pool, text, line, parts, slot, classes, index),
+    }
+}

@@ -1,0 +1,148 @@
+-- Class pieces turned to raw, one after the other. Assumes nothing.
+use mathlib.Core.Path.{_≡_, sym, _∙_, ap}
+use mathlib.Core.Bool.{Bool}
+use mathlib.Core.List.{List, [], _∷_, _++_}
+use Prim.Native.Nat.{ℕ, _+_, _-_, _^_, _≤_, _<_}
+use native.Mathlib.Omega.{arith}
+use lib.ListN.{length, getD, take, drop, length-drop}
+use lib.Seq.{drop-drop}
+use mir.Val.{Fits}
+use mir.Syntax.{w64}
+use borrow.Author.Needs.{needs}
+use Rattle.ground.proofs.Parts.{take-rest}
+use Rattle.text_places.specs.declared.find.Place.{Place}
+use Rattle.text_places.specs.declared.find.Place.the-variants.{At, Nowhere}
+use Rattle.text_places.specs.Places.{firstWhere, starts}
+use Rattle.text_places.proofs.PlaceLaws.{first-inside}
+use Rattle.table_pool.specs.declared.write.Wrote.{Wrote}
+use Rattle.table_pool.specs.declared.write.Wrote.the-variants.{Done, NoRoom}
+use Rattle.descriptor_pieces.specs.Pieces.{Look, unknown, lookOr, turn, back}
+use Rattle.table_pool.specs.Wrote.{Written, WroteBy}
+use Rattle.table_pool.proofs.Writes.{wrote-told, none-then, wrote-none}
+use Rattle.table_rows.specs.Rows.{unpackClass}
+use Rattle.tables.specs.Back.{textIn, readBack}
+use Rattle.load_raw_types.specs.declared.search.FoundClass.{FoundClass}
+use Rattle.load_raw_types.specs.declared.search.FoundClass.the-variants.{Row, Unknown}
+use Rattle.load_raw_types.specs.Raw.{nameBytes, classPiece}
+use Rattle.load_raw_types.specs.Marks.{Indexed}
+use Rattle.load_raw_types.specs.Found.{FoundAt, FoundBy}
+use Rattle.load_raw_types.specs.Stretches.{insidePiece, outsidePiece, Stretched}
+use Rattle.load_raw_types.proofs.Writing.{wrote-as}
+use Rattle.load_raw_types.proofs.Pieces.{piece-whole, piece-first, plain-first, plain-all}
+use Rattle.load_raw_types.proofs.Indexing.{indexed-all}
+
+-- One piece.
+module _ (rows : List (List ℕ)) (pool p : List ℕ) (r : FoundClass) (f : FoundBy r rows pool p) where
+  at-row : {i : ℕ} → r ≡ Row i → FoundAt i rows pool p
+  at-row e = rw e at f
+
+  pub found-inside : {i : ℕ} → r ≡ Row i → i < length rows
+  found-inside e = at-row e .inside
+
+  pub found-below : {index : List ℕ} {at : ℕ} → Indexed rows pool index at → {i : ℕ} → r ≡ Row i → {a n : ℕ} → a ≡ getD (getD rows i []) 0 0 → n ≡ getD (getD rows i []) 1 0 → a + n ≤ at
+  found-below x {i} e g h = let b = x .raw-below i (found-inside e) in omega arith
+
+  pub found-put : {i : ℕ} → r ≡ Row i → {a n : ℕ} → a ≡ getD (getD rows i []) 0 0 → n ≡ getD (getD rows i []) 1 0 → (t : Wrote) (at : ℕ) (d : List ℕ) → WroteBy t pool at (take n (drop a pool)) d →
+      WroteBy t pool at (lookOr p (back (readBack rows pool) p)) d
+  found-put {i} e {a} {n} g h t at d w =
+      let is : take n (drop a pool) ≡ textIn pool (unpackClass (getD rows i []) .raw) = rw (g, h) in
+      wrote-as t pool at d (is ∙ ap (lookOr p) (at-row e .answers)) w
+
+  pub unknown-put : r ≡ Unknown → (t : Wrote) (at : ℕ) (d : List ℕ) → WroteBy t pool at p d → WroteBy t pool at (lookOr p (back (readBack rows pool) p)) d
+  unknown-put e t at d w = let u : unknown ≡ back (readBack rows pool) p = rw e at f in wrote-as t pool at d (ap (lookOr p) u) w
+
+pub ruleset turning-one = (indexed-all, found-inside, found-below, found-put, unknown-put, needs)
+
+rest-of : (text : List ℕ) (at n m : ℕ) → at + n ≡ m → drop n (drop at text) ≡ drop m text
+rest-of text at n m e = drop-drop n at text ∙ ap (λ k. drop k text) e
+
+-- A byte that is looked for from a place on.
+module _ (b : ℕ) (text : List ℕ) (start : ℕ) (i : start ≤ length text) {p : Place} (e : p ≡ firstWhere (starts b) (take (length text - start) (drop start text))) where
+  from-here : p ≡ firstWhere (starts b) (drop start text)
+  from-here = rw (take-rest text start) at e
+
+  module _ {n : ℕ} (f : p ≡ At n) where
+    reach : start + n < length text
+    reach = let j = first-inside (starts b) (drop start text) (sym from-here ∙ f) in omega (arith, length-drop start text)
+
+    pub gap-fits : length text < 2 ^ 64 → Fits w64 (start + n)
+    gap-fits z = let r = reach in omega arith
+
+    pub gap-inside : start + n ≤ length text
+    gap-inside = let r = reach in omega arith
+
+    pub gap-fits-past : length text < 2 ^ 64 → Fits w64 (start + n + 1)
+    gap-fits-past z = let r = reach in omega arith
+
+-- The piece that begins before `start`.
+module _ (look : List ℕ → Look) (dots : Bool) (text : List ℕ) (start : ℕ) (i : start ≤ length text) {p : Place} (e : p ≡ firstWhere (starts 0x3B) (take (length text - start) (drop start text))) (r : Wrote) (pool : List ℕ) (at : ℕ) (d : List ℕ) where
+  module _ (f : p ≡ Nowhere) (w : WroteBy r pool at (lookOr (classPiece dots (take (length text - start) (drop start text))) (look (classPiece dots (take (length text - start) (drop start text))))) d) where
+    all-written : WroteBy r pool at (insidePiece look dots text start) d
+    all-written = wrote-as r pool at d (rw (take-rest text start) (sym (piece-whole look dots (drop start text) (sym (from-here 0x3B text start i e) ∙ f)))) w
+
+    pub last-piece : {q : ℕ} → r ≡ Done q → Written q pool at (insidePiece look dots text start) d
+    last-piece g = wrote-told r pool at (insidePiece look dots text start) d all-written g
+
+    pub last-piece-no-room : r ≡ NoRoom → length pool < at + length (insidePiece look dots text start)
+    last-piece-no-room g = wrote-none r pool at (insidePiece look dots text start) d all-written g
+
+  module _ {n : ℕ} (f : p ≡ At n) (w : WroteBy r pool at (lookOr (classPiece dots (take (start + n - start) (drop start text))) (look (classPiece dots (take (start + n - start) (drop start text))))) d) where
+    piece : List ℕ
+    piece = lookOr (classPiece dots (take (start + n - start) (drop start text))) (look (classPiece dots (take (start + n - start) (drop start text))))
+
+    split : insidePiece look dots text start ≡ piece ++ outsidePiece look dots text (start + n + 1)
+    unfolding piece
+    split =
+        let z : start + n - start ≡ n = omega arith in
+        rw z (piece-first look dots (drop start text) (sym (from-here 0x3B text start i e) ∙ f)
+        ∙ ap (λ l. lookOr (classPiece dots (take n (drop start text))) (look (classPiece dots (take n (drop start text)))) ++ turn look (nameBytes dots l ++ (0x3B ∷ []))) (rest-of text start (n + 1) (start + n + 1) (omega arith)))
+
+    pub first-piece : {q : ℕ} → r ≡ Done q → Stretched q (start + n + 1) start (length text) (insidePiece look dots text start) (outsidePiece look dots text (start + n + 1)) pool at d
+    unfolding piece
+    first-piece g = record {
+      past = omega arith;
+      inside = let j = reach 0x3B text start i e f in omega arith;
+      done = piece;
+      written = wrote-told r pool at piece d w g;
+      splits = split;
+    }
+
+    pub first-piece-no-room : r ≡ NoRoom → length pool < at + length (insidePiece look dots text start)
+    unfolding piece
+    first-piece-no-room g = rw split (none-then pool at piece (outsidePiece look dots text (start + n + 1)) (wrote-none r pool at piece d w g))
+
+pub ruleset first-pieces = (gap-fits, gap-inside, gap-fits-past, last-piece, last-piece-no-room, first-piece, first-piece-no-room, needs)
+
+-- Between pieces.
+module _ (dots : Bool) (text : List ℕ) (start : ℕ) (i : start ≤ length text) {p : Place} (e : p ≡ firstWhere (starts 0x4C) (take (length text - start) (drop start text))) (r : Wrote) (pool : List ℕ) (at : ℕ) (d : List ℕ) where
+  module _ (f : p ≡ Nowhere) (w : WroteBy r pool at (nameBytes dots (take (length text - start) (drop start text)) ++ (0x3B ∷ [])) d) (look : List ℕ → Look) where
+    all-plain : WroteBy r pool at (outsidePiece look dots text start) d
+    all-plain = wrote-as r pool at d (rw (take-rest text start) (sym (plain-all look dots (drop start text) (sym (from-here 0x4C text start i e) ∙ f)))) w
+
+    pub last-plain : {q : ℕ} → r ≡ Done q → Written q pool at (outsidePiece look dots text start) d
+    last-plain g = wrote-told r pool at (outsidePiece look dots text start) d all-plain g
+
+    pub last-plain-no-room : r ≡ NoRoom → length pool < at + length (outsidePiece look dots text start)
+    last-plain-no-room g = wrote-none r pool at (outsidePiece look dots text start) d all-plain g
+
+  module _ {n : ℕ} (f : p ≡ At n) (w : WroteBy r pool at (nameBytes dots (take (start + n - start) (drop start text))) d) (look : List ℕ → Look) where
+    split-plain : outsidePiece look dots text start ≡ nameBytes dots (take (start + n - start) (drop start text)) ++ insidePiece look dots text (start + n + 1)
+    split-plain =
+        let z : start + n - start ≡ n = omega arith in
+        rw z (plain-first look dots (drop start text) (sym (from-here 0x4C text start i e) ∙ f)
+        ∙ ap (λ l. nameBytes dots (take n (drop start text)) ++ turn look (classPiece dots l)) (rest-of text start (n + 1) (start + n + 1) (omega arith)))
+
+    pub first-plain : {q : ℕ} → r ≡ Done q → Stretched q (start + n + 1) start (length text) (outsidePiece look dots text start) (insidePiece look dots text (start + n + 1)) pool at d
+    first-plain g = record {
+      past = omega arith;
+      inside = let j = reach 0x4C text start i e f in omega arith;
+      done = nameBytes dots (take (start + n - start) (drop start text));
+      written = wrote-told r pool at (nameBytes dots (take (start + n - start) (drop start text))) d w g;
+      splits = split-plain;
+    }
+
+    pub first-plain-no-room : r ≡ NoRoom → length pool < at + length (outsidePiece look dots text start)
+    first-plain-no-room g =
+        rw split-plain (none-then pool at (nameBytes dots (take (start + n - start) (drop start text))) (insidePiece look dots text (start + n + 1)) (wrote-none r pool at (nameBytes dots (take (start + n - start) (drop start text))) d w g))
+
+pub ruleset plains = (gap-fits, gap-inside, gap-fits-past, last-plain, last-plain-no-room, first-plain, first-plain-no-room, needs)

@@ -1,0 +1,77 @@
+-- `raw_types::types::put_raw_piece` meets its contract, by the laws of Turned.
+use Rattle.load_raw_types.proofs.Turned.{turning-one}
+use Rattle.load_raw_types.proofs.types.put_raw_piece.Statement.{statement}
+use Rattle.load_raw_types.proofs.types.put_raw_piece.Tie as tie
+
+last-class-requires : tie.Need-last-class-requires
+last-class-requires c κs = search turning-one
+
+enum-known-row : tie.Need-enum-known-row
+enum-known-row c = search turning-one
+
+mul-wide : tie.Need-mul-wide
+mul-wide c = search turning-one
+
+index-1-wide : tie.Need-index-1-wide
+index-1-wide c = search turning-one
+
+index-2-wide : tie.Need-index-2-wide
+index-2-wide c = search turning-one
+
+wide-requires : tie.Need-wide-requires
+wide-requires c κs = search turning-one
+
+mul-wide-2 : tie.Need-mul-wide-2
+mul-wide-2 c = search turning-one
+
+index-1-wide-2 : tie.Need-index-1-wide-2
+index-1-wide-2 c = search turning-one
+
+index-2-wide-2 : tie.Need-index-2-wide-2
+index-2-wide-2 c = search turning-one
+
+wide-requires-2 : tie.Need-wide-requires-2
+wide-requires-2 c κs = search turning-one
+
+put-copy-requires : tie.Need-put-copy-requires
+put-copy-requires c κs = search turning-one
+
+enum-told : tie.Need-enum-told
+enum-told c = search turning-one
+
+put-piece-requires : tie.Need-put-piece-requires
+put-piece-requires c κs = search turning-one
+
+same-length : tie.Need-same-length
+same-length c = search turning-one
+
+returns : tie.Need-returns
+returns c = search turning-one
+
+same-length-2 : tie.Need-same-length-2
+same-length-2 c = search turning-one
+
+returns-2 : tie.Need-returns-2
+returns-2 c = search turning-one
+
+pub put-raw-piece-spec : {M : Type 1} → statement M
+put-raw-piece-spec =
+    tie.close
+    (tie.spec
+    last-class-requires
+    enum-known-row
+    mul-wide
+    index-1-wide
+    index-2-wide
+    wide-requires
+    mul-wide-2
+    index-1-wide-2
+    index-2-wide-2
+    wide-requires-2
+    put-copy-requires
+    enum-told
+    put-piece-requires
+    same-length
+    returns
+    same-length-2
+    returns-2)

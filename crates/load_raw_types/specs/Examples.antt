@@ -1,0 +1,50 @@
+-- Worked examples of raw descriptors, computed from the rules.
+use mathlib.Core.Path.{_≡_, refl}
+use mathlib.Core.List.{List, [], _∷_}
+use Prim.Native.Nat.{ℕ}
+use lib.ListN.{getD}
+use Rattle.ground.specs.Ascii.{ascii}
+use Rattle.text_places.specs.Places.{firstFrom, lastFrom, same}
+use Rattle.text_utf8.specs.Utf8.{leadOf, tails, afterLead, sequenceOf, piecesFrom}
+use Rattle.text_white.specs.White.{whiteRanges, inRanges, isWhite}
+use Rattle.text_white.specs.Trim.{runOf, allWhite, trimEnd}
+use Rattle.table_pool.specs.Names.{classDescriptor}
+use Rattle.descriptor.specs.Types.{baseEnd, bracketCount}
+use Rattle.descriptor_pieces.specs.Pieces.{Pair, partsFrom, join, shown}
+use Rattle.load_raw_types.specs.Raw.{rawTypeOf}
+use Rattle.load_raw_types.specs.Marks.{markFrom, markOf, lastBelow}
+
+-- three classes, of which two have the same display name
+abbrev classes : List Pair
+classes =
+    record { raw = ascii "Lx;"; display = ascii "La/Main;" }
+    ∷ (record { raw = ascii "Ly;"; display = ascii "Lb;" }
+    ∷ (record { raw = ascii "Lz;"; display = ascii "La/Main;" } ∷ []))
+
+-- the marks of four rows
+abbrev marks : ℕ → ℕ
+marks i = getD (5 ∷ (7 ∷ (5 ∷ (9 ∷ [])))) i 0
+
+examples :
+    -- the last class with the display name answers
+    (rawTypeOf classes (ascii "a.Main[]") ≡ ascii "[Lz;")
+    × (rawTypeOf classes (ascii " b ") ≡ ascii "Ly;")
+    -- a class that is not known stays, and so does a word
+    × (rawTypeOf classes (ascii "a.Other") ≡ ascii "La/Other;")
+    × (rawTypeOf classes (ascii "int[][]") ≡ ascii "[[I")
+    × (rawTypeOf classes (ascii "int []") ≡ ascii "[Lint ;")
+    -- text that is kept has its dots as they are
+    × (rawTypeOf classes (ascii "La/Main;[]") ≡ ascii "[Lz;")
+    × (rawTypeOf classes (ascii "La.Main;") ≡ ascii "La.Main;")
+    -- a `;` inside a name ends a piece: from the next `L` on there is another
+    × (rawTypeOf classes (ascii "b;cLb") ≡ ascii "Ly;cLy;")
+    × (rawTypeOf classes (ascii "a.Main;c.d") ≡ ascii "Lz;c/d;")
+    -- a name with dots has the mark of its descriptor
+    × (markOf (ascii "La.Main;") ≡ markOf (classDescriptor (ascii "a.Main")))
+    -- the search for a mark starts at the last row with it, goes on at the one before, and ends where there is none
+    × (lastBelow marks 5 4 ≡ 3)
+    × (lastBelow marks 5 2 ≡ 1)
+    × (lastBelow marks 5 0 ≡ 0)
+    × (lastBelow marks 8 4 ≡ 0)
+unfolding ascii firstFrom lastFrom same baseEnd bracketCount runOf trimEnd allWhite piecesFrom sequenceOf afterLead leadOf tails isWhite inRanges whiteRanges partsFrom join shown markFrom lastBelow
+examples = (refl, refl, refl, refl, refl, refl, refl, refl, refl, refl, refl, refl, refl, refl)

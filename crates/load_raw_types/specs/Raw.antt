@@ -1,0 +1,22 @@
+-- Document 01 "Descriptors": "Without a residual signature, raw descriptors come from display types, each class piece turned to raw."
+use mathlib.Core.Bool.{Bool, true, false}
+use mathlib.Core.List.{List, [], _∷_, _++_, map}
+use Prim.Native.Nat.{ℕ}
+use Rattle.table_pool.specs.Names.{slash}
+use Rattle.descriptor.specs.Types.{typeDescriptor}
+use Rattle.descriptor_pieces.specs.Pieces.{Pair, turn, back}
+
+-- the raw descriptor of a display type, over the classes of a mapping
+abbrev pub rawTypeOf : List Pair → List ℕ → List ℕ
+rawTypeOf cs t = turn (back cs) (typeDescriptor t)
+
+-- A class piece by the name in it: dots as slashes, as in the descriptor of a class name, or as they are, as in a type that is kept.
+abbrev pub slashIf : Bool → ℕ → ℕ
+slashIf true x = slash x
+slashIf false x = x
+
+abbrev pub nameBytes : Bool → List ℕ → List ℕ
+nameBytes dots s = map (slashIf dots) s
+
+abbrev pub classPiece : Bool → List ℕ → List ℕ
+classPiece dots s = 0x4C ∷ (nameBytes dots s ++ (0x3B ∷ []))

@@ -1,0 +1,183 @@
+// Raw descriptors of display types. The descriptor of the display type is written nowhere: its pieces are found in the type's own text.
+use crate::search::FoundClass;
+use crate::search::last_class;
+use crate::search::wide;
+use crate::write::put_closed;
+use crate::write::put_copy;
+use crate::write::put_name;
+use crate::write::put_piece;
+use descriptor::Base;
+use descriptor::type_shape;
+use table_pool::Wrote;
+use table_pool::put_bytes;
+use table_rows::ClassRow;
+use text_places::Place;
+use text_places::first_byte;
+ghost use mathlib.Core.Path.{_≡_};
+ghost use Prim.Native.Nat.{_≤_};
+ghost use lib.ListN.{length};
+ghost use Rattle.descriptor_pieces.specs.Pieces.{lookOr, turn, back};
+ghost use Rattle.descriptor.specs.Types.{baseOf, baseBytes};
+ghost use Rattle.table_pool.specs.Wrote.{WroteBy};
+ghost use Rattle.tables.specs.Back.{readBack};
+ghost use Rattle.load_raw_types.specs.Raw.{classPiece, rawTypeOf};
+ghost use Rattle.load_raw_types.specs.Marks.{Indexed};
+ghost use Rattle.load_raw_types.specs.Stretches.{InsideBy, OutsideBy};
+
+// One class piece, turned to raw.
+fn put_raw_piece(
+    pool: &mut [u8],
+    at: usize,
+    name: &[u8],
+    dots: bool,
+    classes: &[ClassRow],
+    index: &[u16],
+) -> Wrote
+    requires { ⌜ Indexed (now classes) (now pool) (now index) at ⌝ }
+    ensures { λ r. ⌜ WroteBy r (now (pool .entry)) at (lookOr (classPiece dots (now (name .entry))) (back (readBack (now (classes .entry)) (now (pool .entry))) (classPiece dots (now (name .entry))))) (now (pool .exit)) ⌝ }
+{
+    match last_class(classes, pool, index, name, dots) {
+        FoundClass::Row(row) => {
+            let place = wide(classes[row][0]);
+            let size = wide(classes[row][1]);
+            put_copy(pool, at, place, size)
+        }
+        FoundClass::Unknown => put_piece(pool, at, name, dots),
+    }
+}
+
+// How far a text that stands between an `L` and a last `;` was written.
+pub enum Stretch {
+    // It goes on: the places in the pool and in the text.
+    More(usize, usize),
+    // All of it, and the last `;`: the place in the pool.
+    Last(usize),
+    NoRoom,
+}
+
+// The class piece whose `L` stands before `start`, turned to raw: up to behind its `;`.
+fn put_first(
+    pool: &mut [u8],
+    at: usize,
+    text: &[u8],
+    start: usize,
+    dots: bool,
+    classes: &[ClassRow],
+    index: &[u16],
+) -> Stretch
+    requires { ⌜ (start ≤ length (now text)) × Indexed (now classes) (now pool) (now index) at ⌝ }
+    ensures { λ r. ⌜ InsideBy r (back (readBack (now (classes .entry)) (now (pool .entry)))) dots (now (text .entry)) start (now (pool .entry)) at (now (pool .exit)) ⌝ }
+{
+    let Place::At(gap) = first_byte(&text[start..], b';') else {
+        let Wrote::Done(ended) = put_raw_piece(pool, at, &text[start..], dots, classes, index)
+        else {
+            return Stretch::NoRoom;
+        };
+        return Stretch::Last(ended);
+    };
+    let end = start + gap;
+    let Wrote::Done(turned) = put_raw_piece(pool, at, &text[start..end], dots, classes, index)
+    else {
+        return Stretch::NoRoom;
+    };
+    Stretch::More(turned, end + 1)
+}
+
+// What stands between two class pieces: up to behind the next `L`.
+fn put_plain(pool: &mut [u8], at: usize, text: &[u8], start: usize, dots: bool) -> Stretch
+    requires { ⌜ start ≤ length (now text) ⌝ }
+    ensures { λ r. ⌜ OutsideBy r dots (now (text .entry)) start (now (pool .entry)) at (now (pool .exit)) ⌝ }
+{
+    let Place::At(gap) = first_byte(&text[start..], b'L') else {
+        let Wrote::Done(ended) = put_closed(pool, at, &text[start..], dots) else {
+            return Stretch::NoRoom;
+        };
+        return Stretch::Last(ended);
+    };
+    let end = start + gap;
+    let Wrote::Done(after) = put_name(pool, at, &text[start..end], dots) else {
+        return Stretch::NoRoom;
+    };
+    Stretch::More(after, end + 1)
+}
+
+// `L`, a text, `;`, each class piece turned to raw. A `;` in the text ends a piece, and the next `L` begins one.
+fn put_raw_pieces(
+    pool: &mut [u8],
+    at: usize,
+    text: &[u8],
+    dots: bool,
+    classes: &[ClassRow],
+    index: &[u16],
+) -> Wrote
+    requires { ⌜ Indexed (now classes) (now pool) (now index) at ⌝ }
+    ensures { λ r. ⌜ WroteBy r (now (pool .entry)) at (turn (back (readBack (now (classes .entry)) (now (pool .entry)))) (classPiece dots (now (text .entry)))) (now (pool .exit)) ⌝ }
+{
+    let mut start = 0;
+    let mut next = at;
+    loop {
+        match put_first(pool, next, text, start, dots, classes, index) {
+            Stretch::NoRoom => {
+                return Wrote::NoRoom;
+            }
+            Stretch::Last(ended) => {
+                return Wrote::Done(ended);
+            }
+            Stretch::More(turned, plain) => match put_plain(pool, turned, text, plain, dots) {
+                Stretch::NoRoom => {
+                    return Wrote::NoRoom;
+                }
+                Stretch::Last(closed) => {
+                    return Wrote::Done(closed);
+                }
+                Stretch::More(after, begun) => {
+                    next = after;
+                    start = begun;
+                }
+            },
+        }
+    }
+}
+
+// The raw descriptor of a type without its `[]`s.
+fn put_raw_base(
+    pool: &mut [u8],
+    at: usize,
+    text: &[u8],
+    base: Base,
+    classes: &[ClassRow],
+    index: &[u16],
+) -> Wrote
+    requires { ⌜ (base ≡ baseOf (now text)) × Indexed (now classes) (now pool) (now index) at ⌝ }
+    ensures { λ r. ⌜ WroteBy r (now (pool .entry)) at (turn (back (readBack (now (classes .entry)) (now (pool .entry)))) (baseBytes base (now (text .entry)))) (now (pool .exit)) ⌝ }
+{
+    match base {
+        Base::Letter(letter) => put_bytes(pool, at, letter, 1),
+        Base::Kept => {
+            let end = text.len() - 1;
+            put_raw_pieces(pool, at, &text[1..end], false, classes, index)
+        }
+        Base::Named => put_raw_pieces(pool, at, text, true, classes, index),
+    }
+}
+
+// The raw descriptor of a display type, written at a place behind the descriptors of all classes.
+pub fn put_raw_type(
+    pool: &mut [u8],
+    at: usize,
+    text: &[u8],
+    classes: &[ClassRow],
+    index: &[u16],
+) -> Wrote
+    requires { ⌜ Indexed (now classes) (now pool) (now index) at ⌝ }
+    ensures { λ r. ⌜ WroteBy r (now (pool .entry)) at (rawTypeOf (readBack (now (classes .entry)) (now (pool .entry))) (now (text .entry))) (now (pool .exit)) ⌝ }
+{
+    let shape = type_shape(text);
+    let start = shape.start;
+    let end = shape.end;
+    let base = shape.base;
+    let Wrote::Done(after) = put_bytes(pool, at, b'[', shape.brackets) else {
+        return Wrote::NoRoom;
+    };
+    put_raw_base(pool, after, &text[start..end], base, classes, index)
+}

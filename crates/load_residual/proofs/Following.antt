@@ -1,0 +1,152 @@
+-- The comments after a member, one line after the other. Assumes nothing.
+use mathlib.Core.Path.{_≡_, refl, sym, _∙_, ap}
+use mathlib.Core.List.{List, []}
+use Prim.Native.Nat.{ℕ, _-_, _^_, _≤_, _<_}
+use native.Mathlib.Omega.{arith}
+use lib.ListN.{length, take, drop, length-take, length-drop}
+use borrow.Author.Needs.{needs}
+use Rattle.ground.proofs.Parts.{part-part}
+use Rattle.text_places.specs.declared.find.Place.{Place}
+use Rattle.text_places.specs.declared.find.Place.the-variants.{At}
+use Rattle.text_places.specs.declared.lines.NextLine.{NextLine}
+use Rattle.text_places.specs.declared.lines.NextLine.the-variants.{Line, NoLine}
+use Rattle.text_places.specs.Lines.{lines, nextLine}
+use Rattle.text_places.proofs.Taking.{Taken, line-taken, none-taken, end-taken}
+use Rattle.line.specs.declared.line.Line as line
+use Rattle.line.specs.declared.line.Line.the-variants as kinds
+use Rattle.line_parts.specs.Spans.{shift, Lies, largest}
+use Rattle.line.specs.Kinds.{lineOf}
+use Rattle.line_parts.proofs.Lying.{shift-lies, lies-more}
+use Rattle.descriptor_pieces.specs.Pieces.{Look, known, unknown, orLook}
+use Rattle.load_rule.specs.Comments.{signatureAt, residualBy, residualIn}
+use Rattle.load_residual.specs.declared.residual.Residual.{Residual}
+use Rattle.load_residual.specs.declared.residual.Residual.the-variants.{Text, Nothing}
+use Rattle.load_residual.specs.declared.residual.Opening.{Opening}
+use Rattle.load_residual.specs.declared.residual.Opening.the-variants.{Blank, Comment, Other}
+use Rattle.load_residual.specs.Residuals.{placeLook, jsonPart, residualLook, Gives, openingOf, laterOf}
+
+or-unknown : (o : Look) → orLook o unknown ≡ o
+or-unknown (known s) = refl
+or-unknown unknown = refl
+
+or-or : (a b c : Look) → orLook (orLook a b) c ≡ orLook a (orLook b c)
+or-or (known s) b c = refl
+or-or unknown b c = refl
+
+-- what was found up to the place `at`, where what follows does not give another
+pub record Following (s : List ℕ) («from» at : ℕ) (found : Residual) : Type 0 where
+  pub decides : orLook (residualIn (lines (drop at s))) (residualLook s found) ≡ residualIn (lines (drop «from» s))
+  pub lies : Lies (jsonPart found) (length s)
+
+pub follow-starts : (s : List ℕ) («from» : ℕ) → Following s «from» «from» Nothing
+follow-starts s f = record { decides = or-unknown (residualIn (lines (drop f s))); lies = record { order = omega arith; within = omega arith } }
+
+-- what a line gives, by its opening
+blank-by : (l : List ℕ) (k : line.Line) (later : Look) → openingOf k ≡ Blank → residualBy l k later ≡ later
+blank-by l kinds.Blank later e = refl
+blank-by l (kinds.Comment p) later e = absurd (let z : _≡_ {A = ℕ} 0 1 = cc in omega arith)
+blank-by l (kinds.Class d r) later e = absurd (let z : _≡_ {A = ℕ} 0 1 = cc in omega arith)
+blank-by l (kinds.Field d n r) later e = absurd (let z : _≡_ {A = ℕ} 0 1 = cc in omega arith)
+blank-by l (kinds.Method m r) later e = absurd (let z : _≡_ {A = ℕ} 0 1 = cc in omega arith)
+blank-by l (kinds.Refused n) later e = absurd (let z : _≡_ {A = ℕ} 0 1 = cc in omega arith)
+
+other-by : (l : List ℕ) (k : line.Line) (later : Look) → openingOf k ≡ Other → residualBy l k later ≡ unknown
+other-by l kinds.Blank later e = absurd (let z : _≡_ {A = ℕ} 0 1 = cc in omega arith)
+other-by l (kinds.Comment p) later e = absurd (let z : _≡_ {A = ℕ} 0 1 = cc in omega arith)
+other-by l (kinds.Class d r) later e = refl
+other-by l (kinds.Field d n r) later e = refl
+other-by l (kinds.Method m r) later e = refl
+other-by l (kinds.Refused n) later e = refl
+
+comment-is : (k : line.Line) {p : Place} → openingOf k ≡ Comment p → k ≡ kinds.Comment p
+comment-is kinds.Blank e = absurd (let z : _≡_ {A = ℕ} 0 1 = cc in omega arith)
+comment-is (kinds.Comment p) e = cc
+comment-is (kinds.Class d r) e = absurd (let z : _≡_ {A = ℕ} 0 1 = cc in omega arith)
+comment-is (kinds.Field d n r) e = absurd (let z : _≡_ {A = ℕ} 0 1 = cc in omega arith)
+comment-is (kinds.Method m r) e = absurd (let z : _≡_ {A = ℕ} 0 1 = cc in omega arith)
+comment-is (kinds.Refused n) e = absurd (let z : _≡_ {A = ℕ} 0 1 = cc in omega arith)
+
+-- what is found in a line is found in the text, else what was found before
+later-look : (s : List ℕ) (a e : ℕ) (found own : Residual) → Lies (jsonPart own) (length (take (e - a) (drop a s))) →
+    orLook (residualLook (take (e - a) (drop a s)) own) (residualLook s found) ≡ residualLook s (laterOf found a own)
+later-look s a e found (Text x y p) h =
+    let n = length-take (e - a) (drop a s) in
+    let w = h .within in
+    ap (λ l. placeLook l (At p)) (part-part s a e x y (omega arith))
+later-look s a e found Nothing h = refl
+
+later-lies : (a n : ℕ) (found own : Residual) → Lies (jsonPart found) n → Lies (shift a (jsonPart own)) n → Lies (jsonPart (laterOf found a own)) n
+later-lies a n found (Text x y p) f h = h
+later-lies a n found Nothing f h = f
+
+module _ {s : List ℕ} {«from» at : ℕ} {found : Residual} (f : Following s «from» at found) where
+  ended : lines (drop at s) ≡ [] → Gives s found (residualIn (lines (drop «from» s)))
+  unfolding residualIn
+  ended e = record { look = rw e at (f .decides); lies = f .lies }
+
+  pub follow-ends : length s ≤ at → Gives s found (residualIn (lines (drop «from» s)))
+  follow-ends h = ended (end-taken s at h)
+
+  module _ {t : NextLine} (p : t ≡ nextLine s at) where
+    pub follow-none : t ≡ NoLine → Gives s found (residualIn (lines (drop «from» s)))
+    follow-none q = ended (none-taken s at p q)
+
+    module _ {a e n : ℕ} (q : t ≡ Line a e n) where
+      taken : Taken s at a e n
+      taken = line-taken s at p q
+
+      pub follow-order : a ≤ e
+      follow-order = taken .order
+
+      pub follow-inside : e ≤ length s
+      follow-inside = taken .ends
+
+      pub follow-falls : at < length s → length s - n < length s - at
+      follow-falls h = let k = taken .past in let i = taken .inside in omega arith
+
+      step : residualIn (lines (drop at s)) ≡ residualBy (take (e - a) (drop a s)) (lineOf (take (e - a) (drop a s))) (residualIn (lines (drop n s)))
+      unfolding residualIn
+      step = ap residualIn (taken .split)
+
+      module _ {o : Opening} (k : o ≡ openingOf (lineOf (take (e - a) (drop a s)))) where
+        pub follow-blank : o ≡ Blank → Following s «from» n found
+        follow-blank b = record {
+          decides = ap (λ x. orLook x (residualLook s found)) (sym (step ∙ blank-by (take (e - a) (drop a s)) (lineOf (take (e - a) (drop a s))) (residualIn (lines (drop n s))) (sym k ∙ b))) ∙ f .decides;
+          lies = f .lies;
+        }
+
+        pub follow-other : o ≡ Other → Gives s found (residualIn (lines (drop «from» s)))
+        follow-other b = record {
+          look = ap (λ x. orLook x (residualLook s found)) (sym (step ∙ other-by (take (e - a) (drop a s)) (lineOf (take (e - a) (drop a s))) (residualIn (lines (drop n s))) (sym k ∙ b))) ∙ f .decides;
+          lies = f .lies;
+        }
+
+        module _ {brace : Place} (b : o ≡ Comment brace) where
+          pub follow-kind : lineOf (take (e - a) (drop a s)) ≡ kinds.Comment brace
+          follow-kind = comment-is (lineOf (take (e - a) (drop a s))) (sym k ∙ b)
+
+          module _ {own : Residual} (g : Gives (take (e - a) (drop a s)) own (signatureAt (take (e - a) (drop a s)) brace)) where
+            in-text : Lies (shift a (jsonPart own)) (length s)
+            in-text =
+                let o = taken .order in
+                let w = taken .ends in
+                let n = length-take (e - a) (drop a s) in
+                let m = length-drop a s in
+                shift-lies a (jsonPart own) (length (take (e - a) (drop a s))) (length s) (omega arith) (g .lies)
+
+            pub follow-room : length s < 2 ^ 64 → Lies (shift a (jsonPart own)) largest
+            follow-room z = lies-more (omega arith) in-text
+
+            pub follow-comment : {r : Residual} → r ≡ laterOf found a own → Following s «from» n r
+            follow-comment {r} x = rw x (record {
+              decides =
+                  ap (orLook (residualIn (lines (drop n s)))) (sym (later-look s a e found own (g .lies)))
+                  ∙ ap (λ y. orLook (residualIn (lines (drop n s))) (orLook y (residualLook s found))) (g .look)
+                  ∙ sym (or-or (residualIn (lines (drop n s))) (signatureAt (take (e - a) (drop a s)) brace) (residualLook s found))
+                  ∙ ap (λ y. orLook y (residualLook s found)) (sym (step ∙ ap (λ y. residualBy (take (e - a) (drop a s)) y (residualIn (lines (drop n s)))) follow-kind))
+                  ∙ f .decides;
+              lies = later-lies a (length s) found own (f .lies) in-text;
+            })
+
+pub ruleset following =
+    (follow-starts, follow-ends, follow-none, follow-order, follow-inside, follow-falls, follow-blank, follow-other, follow-kind, follow-room, follow-comment, needs)

@@ -1,0 +1,130 @@
+-- The signatures that comments give. Assumes nothing.
+use mathlib.Core.Path.{_≡_, sym, _∙_, ap}
+use mathlib.Core.Bool.{Bool, true, false}
+use mathlib.Core.List.{List}
+use Prim.Native.Nat.{ℕ, _+_, _-_, _≤_, _<_}
+use native.Mathlib.Omega.{arith}
+use lib.ListN.{length, take, drop}
+use mir.Val.{Fits}
+use mir.Syntax.{w64}
+use borrow.Author.Needs.{needs}
+use Rattle.ground.specs.Choice.{pick}
+use Rattle.text_places.specs.declared.find.Place.{Place}
+use Rattle.text_places.specs.declared.find.Place.the-variants.{At, Nowhere}
+use Rattle.text_white.specs.declared.trim.Span.{Span}
+use Rattle.text_white.specs.Trim.{trimBoth}
+use Rattle.json_grammar.specs.Reader.{charsFrom}
+use Rattle.json_comment.specs.declared.answer.Stands.{Stands}
+use Rattle.json_comment.specs.declared.answer.Stands.the-variants as stands
+use Rattle.json_comment.specs.declared.answer.Comment as comment
+use Rattle.json_comment.specs.declared.answer.Comment.the-variants.{Unreadable, Readable}
+use Rattle.json_comment.specs.Answer.{commentOf, residualOf}
+use Rattle.line.specs.declared.line.Line.the-variants as kinds
+use Rattle.line_parts.specs.Spans.{span, shift, partOf, Lies, largest}
+use Rattle.line.specs.Kinds.{lineOf}
+use Rattle.line_parts.proofs.Lying.{trim-lies}
+use Rattle.line.proofs.Whole.{brace-inside}
+use Rattle.descriptor_pieces.specs.Pieces.{unknown}
+use Rattle.load_rule.specs.Comments.{saysResidual, stringAt, signatureBy, signatureOf, signatureAt}
+use Rattle.load_rule.specs.Fates.{isKnown}
+use Rattle.load_residual.specs.declared.residual.Residual.{Residual}
+use Rattle.load_residual.specs.declared.residual.Residual.the-variants.{Text, Nothing}
+use Rattle.load_residual.specs.Residuals.{placeLook, jsonPart, residualLook, Gives, laterOf}
+
+-- The string of a JSON text.
+module _ (s : List ℕ) {c : comment.Comment} (e : c ≡ commentOf s) where
+  pub string-unread : c ≡ Unreadable → placeLook s Nowhere ≡ signatureOf s
+  string-unread f = sym (ap (signatureBy s) (sym e ∙ f))
+
+  module _ {id signature : Stands} (f : c ≡ Readable id signature) where
+    told : signatureOf s ≡ pick (saysResidual s id) (stringAt s signature) unknown
+    told = ap (signatureBy s) (sym e ∙ f)
+
+    pub string-no-id : id ≡ stands.Missing → placeLook s Nowhere ≡ signatureOf s
+    string-no-id g = sym (told ∙ ap (λ i. pick (saysResidual s i) (stringAt s signature) unknown) g)
+
+    pub string-other-id : id ≡ stands.Other → placeLook s Nowhere ≡ signatureOf s
+    string-other-id g = sym (told ∙ ap (λ i. pick (saysResidual s i) (stringAt s signature) unknown) g)
+
+    module _ {named : ℕ} (g : id ≡ stands.Text named) {b : Bool} (h : b ≡ residualOf (charsFrom 0 (drop named s))) where
+      by-id : {x : Bool} → b ≡ x → signatureOf s ≡ pick x (stringAt s signature) unknown
+      by-id t = told ∙ ap (λ i. pick (saysResidual s i) (stringAt s signature) unknown) g ∙ ap (λ k. pick k (stringAt s signature) unknown) (sym h ∙ t)
+
+      pub string-idle : b ≡ false → placeLook s Nowhere ≡ signatureOf s
+      string-idle t = sym (by-id t)
+
+      module _ (t : b ≡ true) where
+        pub string-missing : signature ≡ stands.Missing → placeLook s Nowhere ≡ signatureOf s
+        string-missing k = sym (by-id t ∙ ap (stringAt s) k)
+
+        pub string-other : signature ≡ stands.Other → placeLook s Nowhere ≡ signatureOf s
+        string-other k = sym (by-id t ∙ ap (stringAt s) k)
+
+        pub string-there : {string : ℕ} → signature ≡ stands.Text string → placeLook s (At string) ≡ signatureOf s
+        string-there k = sym (by-id t ∙ ap (stringAt s) k)
+
+pub ruleset stringing = (string-unread, string-no-id, string-other-id, string-idle, string-missing, string-other, string-there, needs)
+
+-- The signature of a comment.
+nothing-lies : (n : ℕ) → Lies (span 0 0) n
+nothing-lies n = record { order = omega arith; within = omega arith }
+
+module _ (l : List ℕ) {brace : Place} where
+  pub gives-no-brace : brace ≡ Nowhere → Gives l Nothing (signatureAt l brace)
+  gives-no-brace e = record { look = sym (ap (signatureAt l) e); lies = nothing-lies (length l) }
+
+  module _ (k : lineOf l ≡ kinds.Comment brace) {start : ℕ} (e : brace ≡ At start) {p : Span} (t : p ≡ trimBoth l) where
+    inside : start < p .«end»
+    inside = rw t (brace-inside l (k ∙ ap kinds.Comment e))
+
+    pub json-order : start ≤ p .«end»
+    json-order = let h = inside in omega arith
+
+    pub json-inside : p .«end» ≤ length l
+    json-inside = rw t (trim-lies l .within)
+
+    module _ (q : Place) (g : placeLook (take (p .«end» - start) (drop start l)) q ≡ signatureOf (take (p .«end» - start) (drop start l))) where
+      read : signatureAt l brace ≡ placeLook (take (p .«end» - start) (drop start l)) q
+      read = ap (signatureAt l) e ∙ ap (λ x. signatureOf (partOf l (span start (x .«end»)))) (sym t) ∙ sym g
+
+      pub gives-nothing : q ≡ Nowhere → Gives l Nothing (signatureAt l brace)
+      gives-nothing z = record { look = sym (read ∙ ap (placeLook (take (p .«end» - start) (drop start l))) z); lies = nothing-lies (length l) }
+
+      pub gives-text : {string : ℕ} → q ≡ At string → Gives l (Text start (p .«end») string) (signatureAt l brace)
+      gives-text z = record {
+        look = sym (read ∙ ap (placeLook (take (p .«end» - start) (drop start l))) z);
+        lies = record { order = json-order; within = json-inside };
+      }
+
+pub ruleset giving = (gives-no-brace, json-order, json-inside, gives-nothing, gives-text, needs)
+
+-- Whether there is one.
+module _ (l : List ℕ) (brace : Place) (r : Residual) (g : Gives l r (signatureAt l brace)) where
+  pub gives-one : {a e p : ℕ} → r ≡ Text a e p → true ≡ isKnown (signatureAt l brace)
+  gives-one f = ap isKnown (sym (ap (residualLook l) f) ∙ g .look)
+
+  pub gives-none : r ≡ Nothing → false ≡ isKnown (signatureAt l brace)
+  gives-none f = ap isKnown (sym (ap (residualLook l) f) ∙ g .look)
+
+pub ruleset given-ones = (gives-one, gives-none, needs)
+
+-- The later of two.
+module _ (before : Residual) (by : ℕ) {line : Residual} where
+  module _ {a e p : ℕ} (f : line ≡ Text a e p) where
+    module _ (h : Lies (shift by (jsonPart line)) largest) where
+      moved : Lies (shift by (span a e)) largest
+      moved = rw f at h
+
+      pub later-start : Fits w64 (by + a)
+      later-start = let o = moved .order in let w = moved .within in omega arith
+
+      pub later-end : Fits w64 (by + e)
+      later-end = let w = moved .within in omega arith
+
+    pub later-text : Text (by + a) (by + e) p ≡ laterOf before by line
+    later-text = sym (ap (laterOf before by) f)
+
+  pub later-before : line ≡ Nothing → before ≡ laterOf before by line
+  later-before f = sym (ap (laterOf before by) f)
+
+pub ruleset later-ones = (later-start, later-end, later-text, later-before, needs)

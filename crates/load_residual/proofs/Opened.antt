@@ -1,0 +1,93 @@
+-- What a line opens with. Assumes nothing.
+use mathlib.Core.Path.{_≡_, refl, sym, _∙_, ap}
+use mathlib.Core.Bool.{Bool, true, false}
+use mathlib.Core.List.{List}
+use Prim.Native.Nat.{ℕ, _+_, _-_, _<_}
+use lib.ListN.{length, getD}
+use borrow.Author.Needs.{needs}
+use Rattle.text_places.specs.declared.find.Place.{Place}
+use Rattle.text_places.specs.declared.find.Place.the-variants.{At, Nowhere}
+use Rattle.text_places.specs.Places.{firstWhere, starts}
+use Rattle.text_white.specs.declared.trim.Span.{Span}
+use Rattle.text_white.specs.Trim.{trimBoth, startsWhite}
+use Rattle.line_parts.specs.declared.arrow.Arrow.{Arrow}
+use Rattle.line_parts.specs.declared.arrow.Arrow.the-variants.{Sides, NoArrow}
+use Rattle.line_parts.specs.declared.field.Field as field
+use Rattle.line_parts.specs.declared.field.Field.the-variants as fields
+use Rattle.line_parts.specs.declared.method.Method.{Method}
+use Rattle.line_parts.specs.declared.method.MethodParts as method
+use Rattle.line_parts.specs.declared.method.MethodParts.the-variants as methods
+use Rattle.line.specs.declared.line.Line.{Line}
+use Rattle.line.specs.declared.line.Line.the-variants as kinds
+use Rattle.line_parts.specs.Spans.{shift, partOf}
+use Rattle.line_parts.specs.Arrows.{arrowOf, classSides}
+use Rattle.line_parts.specs.Fields.{fieldOf}
+use Rattle.line_parts.specs.Methods.{methodOf}
+use Rattle.line.specs.Kinds.{classBy, classAt, methodBy, fieldBy, bySide, memberBy, memberAt, lineOf}
+use Rattle.line.proofs.Kinding.{line-blank, line-first, line-member, line-class}
+use Rattle.load_residual.specs.declared.residual.Opening.the-variants.{Blank, Comment, Other}
+use Rattle.load_residual.specs.Residuals.{openingOf}
+
+-- Class lines and member lines, faulty ones too, are neither blank nor comments.
+class-other : (by : ℕ) (s : List ℕ) → openingOf (classAt by s) ≡ Other
+class-other by s = go (classSides s)
+  where
+    go : (a : Arrow) → openingOf (classBy by a) ≡ Other
+    go NoArrow = refl
+    go (Sides l r) = refl
+
+member-other : (by : ℕ) (s : List ℕ) → openingOf (memberAt by s) ≡ Other
+member-other by s = go (arrowOf s)
+  where
+    fielded : (by : ℕ) (raw : Span) (f : field.Field) → openingOf (fieldBy by raw f) ≡ Other
+    fielded by raw fields.NoField = refl
+    fielded by raw (fields.Parts d n) = refl
+
+    called : (by : ℕ) (raw : Span) (m : method.MethodParts) → openingOf (methodBy by raw m) ≡ Other
+    called by raw methods.NoMethod = refl
+    called by raw (methods.Parts m) = refl
+
+    sided : (by : ℕ) (raw : Span) (left : List ℕ) (p : Place) → openingOf (bySide by raw left p) ≡ Other
+    sided by raw left Nowhere = fielded by raw (fieldOf left)
+    sided by raw left (At i) = called by raw (methodOf left)
+
+    go : (a : Arrow) → openingOf (memberBy by s a) ≡ Other
+    go NoArrow = refl
+    go (Sides l r) = sided (by + l .start) (shift by r) (partOf s l) (firstWhere (starts 0x28) (partOf s l))
+
+module _ (s : List ℕ) {p : Span} (e : p ≡ trimBoth s) where
+  pub opens-blank : p .start ≡ p .«end» → Blank ≡ openingOf (lineOf s)
+  opens-blank z = ap openingOf (line-blank s e z)
+
+  module _ (n : p .start ≡ p .«end» → ⊥) where
+    pub opens-inside : p .start < length s
+    opens-inside = line-first s e n
+
+    pub opens-other : (getD s (p .start) 0 ≡ 0x23 → ⊥) → Other ≡ openingOf (lineOf s)
+    opens-other c = go (startsWhite s) refl
+      where
+        go : (b : Bool) → b ≡ startsWhite s → Other ≡ openingOf (lineOf s)
+        go true w = sym (member-other (p .start) (partOf s p)) ∙ ap openingOf (line-member s e n c w refl refl)
+        go false w = sym (class-other (p .start) (partOf s p)) ∙ ap openingOf (line-class s e n c w refl refl)
+
+-- Any other line is what it was read as.
+module _ (s : List ℕ) {t : Line} (e : t ≡ lineOf s) where
+  pub read-blank : t ≡ kinds.Blank → Blank ≡ openingOf (lineOf s)
+  read-blank f = ap openingOf (sym f ∙ e)
+
+  pub read-comment : {brace : Place} → t ≡ kinds.Comment brace → Comment brace ≡ openingOf (lineOf s)
+  read-comment f = ap openingOf (sym f ∙ e)
+
+  pub read-class : {d r : Span} → t ≡ kinds.Class d r → Other ≡ openingOf (lineOf s)
+  read-class f = ap openingOf (sym f ∙ e)
+
+  pub read-field : {d n r : Span} → t ≡ kinds.Field d n r → Other ≡ openingOf (lineOf s)
+  read-field f = ap openingOf (sym f ∙ e)
+
+  pub read-method : {m : Method} {r : Span} → t ≡ kinds.Method m r → Other ≡ openingOf (lineOf s)
+  read-method f = ap openingOf (sym f ∙ e)
+
+  pub read-refused : {k : ℕ} → t ≡ kinds.Refused k → Other ≡ openingOf (lineOf s)
+  read-refused f = ap openingOf (sym f ∙ e)
+
+pub ruleset opened = (opens-blank, opens-inside, opens-other, read-blank, read-comment, read-class, read-field, read-method, read-refused, needs)

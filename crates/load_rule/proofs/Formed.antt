@@ -1,0 +1,238 @@
+-- Document 01, refusal 14, "tables malformed": never of what an accepted load leaves. Assumes nothing.
+use mathlib.Core.Path.{_≡_, refl, sym, _∙_, ap}
+use mathlib.Core.Bool.{true, false}
+use mathlib.Core.List.{List, [], _∷_, _++_}
+use mathlib.Core.Logic.{_⊎_, inl, inr}
+use Prim.Native.Nat.{ℕ, _+_, _-_, _≤_, _<_}
+use native.Mathlib.Omega.{arith}
+use lib.ListN.{length, replicate, length-append, length-replicate}
+use borrow.Author.Tests.{eq-eqb}
+use Rattle.ground.proofs.Cases.{le-or-lt}
+use Rattle.text_utf8.specs.Grammar.{UTF8-octets}
+use Rattle.text_utf8.proofs.Boundaries.{Texts}
+use Rattle.text_utf8.proofs.Grammatical.{valid-iff}
+use Rattle.line.specs.declared.line.Line.{Line}
+use Rattle.line.specs.declared.line.Line.the-variants.{Blank, Comment, Class, Field, Method, Refused}
+use Rattle.line.specs.Kinds.{lineOf}
+use Rattle.descriptor_pieces.specs.Pieces.{Pair, Look, join}
+use Rattle.descriptor.proofs.Octets.{Pairs, no-pair, a-pair}
+use Rattle.table_rows.specs.declared.rows.Ranges.{Ranges}
+use Rattle.table_rows.specs.declared.rows.Ranges.the-variants.{None, Display, Both}
+use Rattle.tables.specs.declared.check.Used.{Used}
+use Rattle.table_rows.specs.Rows.{flagOf, zeroClass, zeroMember}
+use Rattle.tables.specs.Check.{allOf, classFine, memberFine, wellFormed}
+use Rattle.tables.proofs.Checking.{all-none, all-cons, FineCounts, class-fine, member-fine, well-formed-rows}
+use Rattle.tables.proofs.Holding.{Holds, holds-all, holds-as, holds-first, holds-second, holds-fine, nothing-fine}
+use Rattle.load_rule.specs.declared.Fates.{Fates}
+use Rattle.load_rule.specs.declared.Load.the-variants.{Loaded}
+use Rattle.load_rule.specs.Comments.{residualIn}
+use Rattle.load_rule.specs.Fates.{fatesFrom, ownerless, faultOf, classLine}
+use Rattle.load_rule.specs.Classes.{classesOf, classText, classPool, classRow, classRows}
+use Rattle.load_rule.specs.Members.{Entry, field, method, Under, under, underAfter, entryIn, entriesFrom, entryText, entryPool, entryRow, entryRows}
+use Rattle.load_rule.specs.Loading.{Lent, entriesOf, poolOf, classRowsOf, memberRowsOf, answerOf, linesStr, linesParse, classesLeft, membersLeft, poolLeft}
+use Rattle.load_rule.proofs.Appended.{class-rows-length, entry-rows-length}
+use Rattle.load_rule.proofs.Sums.{fates-sum, class-count, member-count}
+use Rattle.load_rule.proofs.First.{Clean, sound-clean, classes-cons}
+use Rattle.load_rule.proofs.Exactly.{Fitted, loaded-iff, loaded-leaves}
+use Rattle.load_rule.proofs.Octets.{EntryOctets, Entries, no-entry, an-entry, str-texts, parse-texts, pool-texts}
+
+-- A member's class row: a member line is sound only behind a class line.
+classNumber : Entry → ℕ
+classNumber (field c r d n) = c
+classNumber (method c r d n o g) = c
+
+data Below (count : ℕ) : List Entry → Type 0 where
+  none-below : Below count []
+  below : {e : Entry} {es : List Entry} → classNumber e < count → Below count es → Below count (e ∷ es)
+
+append-below : {count : ℕ} {a b : List Entry} → Below count a → Below count b → Below count (a ++ b)
+append-below none-below q = q
+append-below (below h p) q = below h (append-below p q)
+
+below-as : {m n : ℕ} {es : List Entry} → m ≡ n → Below m es → Below n es
+below-as e b = rw e at b
+
+owned : (classes : ℕ) → ownerless classes 0 ≡ 0 → 0 < classes
+owned classes e = go (le-or-lt classes 0)
+  where
+    go : (classes ≤ 0) ⊎ (0 < classes) → 0 < classes
+    go (inl h) = absurd (let z : classes ≡ 0 = omega arith in let f = rw (eq-eqb classes 0 z) at e in omega arith)
+    go (inr h) = h
+
+entry-below : (cs : List Pair) (u : Under) (g : Look) (l : List ℕ) (k : Line) (count : ℕ) → faultOf (u .count) k ≡ 0 → u .count ≤ count → Below count (entryIn cs u g l k)
+unfolding classNumber
+entry-below cs u g l Blank count e h = none-below
+entry-below cs u g l (Comment brace) count e h = none-below
+entry-below cs u g l (Class display raw) count e h = none-below
+entry-below cs u g l (Field declared name raw) count e h = let o = owned (u .count) e in let less : u .count - 1 < count = omega arith in below less none-below
+entry-below cs u g l (Method m raw) count e h = let o = owned (u .count) e in let less : u .count - 1 < count = omega arith in below less none-below
+entry-below cs u g l (Refused number) count e h = none-below
+
+count-after : (u : Under) (l : List ℕ) (k : Line) → underAfter u l k .count ≡ u .count + classLine k
+count-after u l Blank = omega arith
+count-after u l (Comment brace) = omega arith
+count-after u l (Class display raw) = refl
+count-after u l (Field declared name raw) = omega arith
+count-after u l (Method m raw) = omega arith
+count-after u l (Refused number) = omega arith
+
+clean-as : {m n : ℕ} (ls : List (List ℕ)) → m ≡ n → Clean m ls → Clean n ls
+clean-as ls e c = rw e at c
+
+entries-below : (cs : List Pair) (u : Under) (ls : List (List ℕ)) → Clean (u .count) ls → Below (u .count + length (classesOf ls)) (entriesFrom cs u ls)
+unfolding entriesFrom Clean
+entries-below cs u [] c = none-below
+entries-below cs u (l ∷ ls) (e, c) =
+    let after : Under = underAfter u l (lineOf l) in
+    let n = count-after u l (lineOf l) in
+    let m = classes-cons l ls in
+    let total : after .count + length (classesOf ls) ≡ u .count + length (classesOf (l ∷ ls)) = omega arith in
+    append-below (entry-below cs u (residualIn ls) l (lineOf l) (u .count + length (classesOf (l ∷ ls))) e (omega arith))
+    (below-as total (entries-below cs after ls (clean-as ls (sym n) c)))
+
+-- Rows over a pool that holds their texts.
+module _ (pool : List ℕ) (used : Used) where
+  class-row-fine : (p : ℕ) (c : Pair) → UTF8-octets (c .raw) → UTF8-octets (c .display) → Holds pool used p (classText c) → classFine pool used (classRow p c) ≡ true
+  class-row-fine p c r d h =
+      class-fine pool used (classRow p c)
+      (record { raw = holds-fine (holds-first (c .raw) (c .display) h) r; display = holds-fine (holds-second (c .raw) (c .display) h) d })
+
+  class-rows-fine : {cs : List Pair} → Pairs cs → (p : ℕ) → Holds pool used p (classPool cs) → allOf (classFine pool used) (classRows p cs) ≡ true
+  unfolding classRows join
+  class-rows-fine no-pair p h = all-none (classFine pool used)
+  class-rows-fine (a-pair {c} {cs} r d ps) p h =
+      all-cons (classFine pool used) (classRow p c) (classRows (p + length (classText c)) cs)
+      (class-row-fine p c r d (holds-first (classText c) (classPool cs) h))
+      (class-rows-fine ps (p + length (classText c)) (holds-second (classText c) (classPool cs) h))
+
+  field-row-fine : (p c : ℕ) (r d n : List ℕ) → c < used .classes → EntryOctets (field c r d n) → Holds pool used p (r ++ (d ++ n)) →
+      memberFine pool used (entryRow p (field c r d n)) ≡ true
+  field-row-fine p c r d n l (a, b, e) h =
+      let rest = holds-second r (d ++ n) h in
+      member-fine pool used (entryRow p (field c r d n))
+      (record {
+        class-row = l;
+        kind = omega arith;
+        flag = omega arith;
+        raw-name = holds-fine (holds-first r (d ++ n) h) a;
+        descriptor = holds-fine (holds-first d n rest) b;
+        name = holds-fine (holds-second d n rest) e;
+        owner = nothing-fine;
+      })
+
+  flag-fine : (p c : ℕ) (r d n o : List ℕ) (g : Ranges) → flagOf (entryRow p (method c r d n o g)) ≤ 2
+  flag-fine p c r d n o None = omega arith
+  flag-fine p c r d n o (Display a e) = omega arith
+  flag-fine p c r d n o (Both q b a e) = omega arith
+
+  method-row-fine : (p c : ℕ) (r d n o : List ℕ) (g : Ranges) → c < used .classes → EntryOctets (method c r d n o g) → Holds pool used p (r ++ (d ++ (n ++ o))) →
+      memberFine pool used (entryRow p (method c r d n o g)) ≡ true
+  method-row-fine p c r d n o g l (a, b, e, f) h =
+      let rest = holds-second r (d ++ (n ++ o)) h in
+      let last = holds-second d (n ++ o) rest in
+      member-fine pool used (entryRow p (method c r d n o g))
+      (record {
+        class-row = l;
+        kind = omega arith;
+        flag = flag-fine p c r d n o g;
+        raw-name = holds-fine (holds-first r (d ++ (n ++ o)) h) a;
+        descriptor = holds-fine (holds-first d (n ++ o) rest) b;
+        name = holds-fine (holds-first n o last) e;
+        owner = holds-fine (holds-second n o last) f;
+      })
+
+  entry-row-fine : (p : ℕ) (e : Entry) → classNumber e < used .classes → EntryOctets e → Holds pool used p (entryText e) → memberFine pool used (entryRow p e) ≡ true
+  unfolding classNumber
+  entry-row-fine p (field c r d n) l o h = field-row-fine p c r d n l o h
+  entry-row-fine p (method c r d n w g) l o h = method-row-fine p c r d n w g l o h
+
+  entry-rows-fine : {es : List Entry} → Entries es → Below (used .classes) es → (p : ℕ) → Holds pool used p (entryPool es) →
+      allOf (memberFine pool used) (entryRows p es) ≡ true
+  unfolding entryRows join
+  entry-rows-fine no-entry none-below p h = all-none (memberFine pool used)
+  entry-rows-fine (an-entry {e} {es} o q) (below l b) p h =
+      all-cons (memberFine pool used) (entryRow p e) (entryRows (p + length (entryText e)) es)
+      (entry-row-fine p e l o (holds-first (entryText e) (entryPool es) h))
+      (entry-rows-fine q b (p + length (entryText e)) (holds-second (entryText e) (entryPool es) h))
+
+-- what is lent, filled up with zeros
+filled-length : {A : Type 0} (z : A) (used : List A) (n : ℕ) → length used ≤ n → length (used ++ replicate (n - length used) z) ≡ n
+filled-length z used n h = let a = length-append used (replicate (n - length used) z) in let b = length-replicate (n - length used) z in omega arith
+
+texts-as : {a b : List (List ℕ)} → a ≡ b → Texts a → Texts b
+texts-as e t = rw e at t
+
+-- what an accepted load uses
+abbrev pub usedOf : Fates → ℕ → Used
+usedOf f names = record { classes = f .class; members = f .field + f .method; pool = names }
+
+module _ (s : List ℕ) (ls : List (List ℕ)) (n : Lent) {f : Fates} {names : ℕ} (e : answerOf s ls n ≡ Loaded f names) where
+  fitted : Fitted s ls n f names
+  fitted = loaded-iff s ls n f names .0 e
+
+  class-total : f .class ≡ length (classesOf ls)
+  class-total = ap (λ x. x .class) (fates-sum ls (fitted .passed .sound) .is) ∙ class-count false ls
+
+  member-total : f .field + f .method ≡ length (entriesOf ls)
+  member-total = ap (λ x. x .field + x .method) (fates-sum ls (fitted .passed .sound) .is) ∙ member-count false (classesOf ls) (under 0 []) ls
+
+  class-rows-total : length (classRowsOf ls) ≡ f .class
+  class-rows-total = class-rows-length 0 (classesOf ls) ∙ sym class-total
+
+  member-rows-total : length (memberRowsOf ls) ≡ f .field + f .method
+  member-rows-total = entry-rows-length (length (classPool (classesOf ls))) (entriesOf ls) ∙ sym member-total
+
+  under-classes : Below (f .class) (entriesOf ls)
+  under-classes =
+      let c = sound-clean (fatesFrom false ls) 1 0 ls (fitted .passed .sound) in
+      let t = class-total in
+      below-as (omega arith) (entries-below (classesOf ls) (under 0 []) ls c)
+
+  module _ (rest : List ℕ) where
+    whole : Holds (poolOf ls ++ rest) (usedOf f names) 0 (poolOf ls)
+    whole = holds-all (poolOf ls) rest (usedOf f names) (fitted .named)
+
+    classes-fine : Pairs (classesOf ls) → allOf (classFine (poolOf ls ++ rest) (usedOf f names)) (classRowsOf ls) ≡ true
+    classes-fine p = class-rows-fine (poolOf ls ++ rest) (usedOf f names) p 0 (holds-first (classPool (classesOf ls)) (entryPool (entriesOf ls)) whole)
+
+    members-fine : Entries (entriesOf ls) → allOf (memberFine (poolOf ls ++ rest) (usedOf f names)) (memberRowsOf ls) ≡ true
+    members-fine q =
+        entry-rows-fine (poolOf ls ++ rest) (usedOf f names) q under-classes (length (classPool (classesOf ls)))
+        (holds-as (omega arith) (holds-second (classPool (classesOf ls)) (entryPool (entriesOf ls)) whole))
+
+  counts-fine :
+      FineCounts (length (classRowsOf ls ++ replicate (n .classes - length (classRowsOf ls)) zeroClass))
+      (length (memberRowsOf ls ++ replicate (n .members - length (memberRowsOf ls)) zeroMember))
+      (length (poolOf ls ++ replicate (n .pool - length (poolOf ls)) 0)) (usedOf f names)
+  counts-fine =
+      let k = fitted in
+      let a = k .class-rows in
+      let b = k .member-rows in
+      let c = k .pool-bytes in
+      let d = k .named in
+      let x = class-rows-total in
+      let y = member-rows-total in
+      let classes = filled-length zeroClass (classRowsOf ls) (n .classes) (omega arith) in
+      let members = filled-length zeroMember (memberRowsOf ls) (n .members) (omega arith) in
+      let pool = filled-length 0 (poolOf ls) (n .pool) (omega arith) in
+      record { class-rows = rw classes a; member-rows = rw members b; pool-bytes = rw (pool, d) c }
+
+  -- where the lines are well formed
+  lines-formed : Texts ls → wellFormed (classesLeft s ls n) (membersLeft s ls n) (poolLeft s ls n) (usedOf f names) ≡ true
+  lines-formed t =
+      let (a, b, c) = loaded-leaves s ls n e in
+      let (p, q) = pool-texts t in
+      let rest : List ℕ = replicate (n .pool - length (poolOf ls)) 0 in
+      rw (a, b, c)
+      (well-formed-rows (classRowsOf ls) (replicate (n .classes - length (classRowsOf ls)) zeroClass)
+      (memberRowsOf ls) (replicate (n .members - length (memberRowsOf ls)) zeroMember)
+      (poolOf ls ++ rest) (usedOf f names) class-rows-total member-rows-total counts-fine (classes-fine rest p) (members-fine rest q))
+
+  octets : UTF8-octets s
+  octets = valid-iff s .0 (fitted .passed .valid)
+
+-- the rows and the pool of an accepted load are never refused with 14, be it by `parse_str` or by `parse`
+pub never-malformed : (s : List ℕ) (ls : List (List ℕ)) (n : Lent) {f : Fates} {names : ℕ} → (ls ≡ linesStr s) ⊎ (ls ≡ linesParse s) → answerOf s ls n ≡ Loaded f names →
+    wellFormed (classesLeft s ls n) (membersLeft s ls n) (poolLeft s ls n) (usedOf f names) ≡ true
+never-malformed s ls n {f} {names} (inl q) e = lines-formed s ls n e (texts-as (sym q) (str-texts (octets s ls n e)))
+never-malformed s ls n {f} {names} (inr q) e = lines-formed s ls n e (texts-as (sym q) (parse-texts (octets s ls n e)))

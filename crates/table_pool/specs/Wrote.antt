@@ -1,0 +1,19 @@
+-- What writing says of the pool.
+use mathlib.Core.Path.{_≡_}
+use mathlib.Core.List.{List}
+use Prim.Native.Nat.{ℕ, _+_, _≤_, _<_}
+use lib.ListN.{length}
+use Rattle.ground.specs.Put.{put}
+use Rattle.table_pool.specs.declared.write.Wrote.{Wrote}
+use Rattle.table_pool.specs.declared.write.Wrote.the-variants.{Done, NoRoom}
+
+-- the bytes `b` are written into the pool `d` at the place `at`: `q` is the place after them
+pub record Written (q : ℕ) (d : List ℕ) (at : ℕ) (b d₁ : List ℕ) : Type 0 where
+  pub past : q ≡ at + length b
+  pub room : at + length b ≤ length d
+  pub is : d₁ ≡ put d at b
+
+-- the answer `r` says whether the bytes `b` fit into the pool `d` at the place `at`, and `d₁` is the pool with them if so
+abbrev pub WroteBy : Wrote → List ℕ → ℕ → List ℕ → List ℕ → Type 0
+WroteBy (Done q) d at b d₁ = Written q d at b d₁
+WroteBy NoRoom d at b d₁ = length d < at + length b

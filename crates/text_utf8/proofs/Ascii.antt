@@ -1,0 +1,65 @@
+-- Runs of ASCII, by blocks and by bytes. Assumes nothing.
+use mathlib.Core.Path.{_≡_}
+use mathlib.Core.List.{List}
+use mathlib.Core.Logic.{_⊎_, inl, inr}
+use Prim.Native.Nat.{ℕ, _+_, _-_, _≤_, _<_, max}
+use native.Mathlib.Nat.{le-trans}
+use native.Mathlib.Omega.{arith}
+use lib.ListN.{length, getD}
+use borrow.Author.Needs.{needs}
+use Rattle.ground.proofs.Cases.{le-or-lt}
+use Rattle.text_utf8.specs.Utf8.{AsciiTo}
+
+pub greater-second : (a b : ℕ) → a < b → b ≡ max a b
+greater-second a b h = omega arith
+
+pub greater-first : (a b : ℕ) → b ≤ a → a ≡ max a b
+greater-first a b h = omega arith
+
+pub ruleset greater-of = (greater-second, greater-first, needs)
+
+-- a bound of the bytes of a block that were passed
+pub record Bounded (s : List ℕ) (at greatest i : ℕ) : Type 0 where
+  pub few : i ≤ 16
+  pub small : greatest < 256
+  pub bounds : (k : ℕ) → k < i → getD s (at + k) 0 ≤ greatest
+
+pub bounded-none : (s : List ℕ) (at : ℕ) → Bounded s at 0 0
+bounded-none s at = record { few = omega arith; small = omega arith; bounds = λ k h. absurd (omega arith) }
+
+module _ {s : List ℕ} {at greatest i : ℕ} (b : Bounded s at greatest i) where
+  pub bounded-more : i < 16 → {r : ℕ} → r < 256 → r ≡ max greatest (getD s (at + i) 0) → Bounded s at r (i + 1)
+  bounded-more h {r} f e = record { few = omega arith; small = f; bounds = λ k l. go k l (le-or-lt i k) }
+    where
+      go : (k : ℕ) → k < i + 1 → (i ≤ k) ⊎ (k < i) → getD s (at + k) 0 ≤ r
+      go k l (inl g) = let q : k ≡ i = omega arith in rw q (omega arith)
+      go k l (inr g) = let p = b .bounds k g in omega arith
+
+  pub bounded-all : 16 ≤ i → (k : ℕ) → k < 16 → getD s (at + k) 0 ≤ greatest
+  bounded-all h k l = b .bounds k (omega arith)
+
+pub ruleset bounding = (bounded-none, bounded-more, bounded-all, needs)
+
+pub ascii-none : (s : List ℕ) (at : ℕ) → at ≤ length s → AsciiTo s at at
+ascii-none s at h = record { goes = omega arith; inside = h; ascii = λ i l u. absurd (omega arith) }
+
+module _ {s : List ℕ} {at to : ℕ} (a : AsciiTo s at to) where
+  pub ascii-byte : to < length s → getD s to 0 ≤ 0x7F → AsciiTo s at (to + 1)
+  ascii-byte h b = record { goes = omega (arith, a .goes); inside = omega arith; ascii = λ i l u. go i l u (le-or-lt to i) }
+    where
+      go : (i : ℕ) → at ≤ i → i < to + 1 → (to ≤ i) ⊎ (i < to) → getD s i 0 ≤ 0x7F
+      go i l u (inl g) = let q : i ≡ to = omega arith in rw q b
+      go i l u (inr g) = a .ascii i l g
+
+  module _ (h : 16 ≤ length s - to) {r : ℕ} (f : (k : ℕ) → k < 16 → getD s (to + k) 0 ≤ r) (b : r ≤ 0x7F) where
+    pub ascii-block : AsciiTo s at (to + 16)
+    ascii-block = record { goes = omega (arith, a .goes); inside = omega (arith, a .inside); ascii = λ i l u. go i l u (le-or-lt to i) }
+      where
+        go : (i : ℕ) → at ≤ i → i < to + 16 → (to ≤ i) ⊎ (i < to) → getD s i 0 ≤ 0x7F
+        go i l u (inl g) = let q : to + (i - to) ≡ i = omega arith in let p = f (i - to) (omega arith) in rw q at (le-trans p b)
+        go i l u (inr g) = a .ascii i l g
+
+  pub block-inside : 16 ≤ length s - to → to + 16 ≤ length s
+  block-inside h = omega (arith, a .inside)
+
+pub ruleset ascii-runs = (ascii-none, ascii-byte, ascii-block, block-inside, needs)

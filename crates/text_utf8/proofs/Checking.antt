@@ -1,0 +1,85 @@
+-- The check of a whole text: what is found from here on is what is found of the whole. Assumes nothing.
+use mathlib.Core.Path.{_≡_, refl, sym, _∙_}
+use mathlib.Core.List.{List}
+use Prim.Native.Nat.{ℕ, zero, suc, _+_, _-_, _^_, _≤_, _<_}
+use native.Mathlib.Omega.{arith}
+use mathlib.Core.Logic.{_⊎_, inl, inr}
+use lib.ListN.{length, getD, drop}
+use mir.Val.{Fits}
+use mir.Syntax.{w64}
+use borrow.Author.Needs.{needs}
+use Rattle.ground.proofs.Cases.{le-or-lt}
+use Rattle.text_utf8.specs.declared.sequence.Sequence.{Sequence}
+use Rattle.text_utf8.specs.declared.sequence.Sequence.the-variants.{End, Good, Bad}
+use Rattle.text_utf8.specs.declared.check.Check.the-variants.{Valid, Broken}
+use Rattle.text_utf8.specs.Utf8.{sequenceOf, pieces, checkFrom, checkOf, AsciiTo}
+use Rattle.text_utf8.proofs.Sequences.{sequence-ascii, end-empty}
+use Rattle.text_utf8.proofs.Pieces.{pieces-none, pieces-past, pieces-on, pieces-bad, good-inside}
+
+pub record Checked (s : List ℕ) (at : ℕ) : Type 0 where
+  pub inside : at ≤ length s
+  pub decides : checkFrom at (pieces (drop at s)) ≡ checkOf s
+
+pub checked-none : (s : List ℕ) → Checked s 0
+checked-none s = record { inside = omega arith; decides = refl }
+
+module _ {s : List ℕ} {at : ℕ} (c : Checked s at) where
+  pub checked-all : length s ≤ at → Valid ≡ checkOf s
+  unfolding checkFrom
+  checked-all h = rw (pieces-past s at h) at (c .decides)
+
+  module _ {t : Sequence} (e : t ≡ sequenceOf (drop at s)) where
+    pub checked-good : {d m : ℕ} → t ≡ Good d m → Checked s (at + m)
+    unfolding checkFrom
+    checked-good g = record {
+      inside = good-inside s at (sym e ∙ g) .1;
+      decides = rw (pieces-on s at (sym e ∙ g)) at (c .decides);
+    }
+
+    pub checked-end : t ≡ End → Valid ≡ checkOf s
+    unfolding checkFrom
+    checked-end g = rw (pieces-none (drop at s) (end-empty (drop at s) (sym e ∙ g))) at (c .decides)
+
+    pub checked-bad : {m : ℕ} → t ≡ Bad m → Broken at m ≡ checkOf s
+    unfolding checkFrom
+    checked-bad g = rw (pieces-bad (drop at s) (sym e ∙ g)) at (c .decides)
+
+    pub checked-fits : {d m : ℕ} → length s < 2 ^ 64 → t ≡ Good d m → Fits w64 (at + m)
+    checked-fits b g = let i = good-inside s at (sym e ∙ g) in omega arith
+
+    pub checked-falls : {d m : ℕ} → t ≡ Good d m → length s - (at + m) < length s - at
+    checked-falls g = let i = good-inside s at (sym e ∙ g) in omega arith
+
+  pub checked-ascii : at < length s → getD s at 0 < 0x80 → Checked s (at + 1)
+  checked-ascii h a = checked-good refl (sym (sequence-ascii s at h a))
+
+-- a run of ASCII, byte by byte
+checked-steps : (n : ℕ) {s : List ℕ} {at to : ℕ} → to - at ≤ n → Checked s at → AsciiTo s at to → Checked s to
+checked-steps zero {s} {at} {to} b c a = let q : at ≡ to = omega (arith, a .goes) in rw q at c
+checked-steps (suc n) {s} {at} {to} b c a = go (le-or-lt to at) (λ d e. checked-steps n (omega arith) d e)
+  where
+    go : (to ≤ at) ⊎ (at < to) → (Checked s (at + 1) → AsciiTo s (at + 1) to → Checked s to) → Checked s to
+    go (inl g) again = let q : at ≡ to = omega (arith, a .goes) in rw q at c
+    go (inr g) again =
+        again
+        (checked-ascii c (omega (arith, a .inside)) (let l = a .ascii at (omega arith) g in omega arith))
+        (record { goes = omega arith; inside = a .inside; ascii = λ i l u. a .ascii i (omega arith) u })
+
+pub checked-run : {s : List ℕ} {at to : ℕ} → Checked s at → AsciiTo s at to → Checked s to
+checked-run {s} {at} {to} c a = checked-steps (to - at) (omega arith) c a
+
+pub checked-first : {s : List ℕ} {to : ℕ} → AsciiTo s 0 to → Checked s to
+checked-first {s} a = checked-run (checked-none s) a
+
+-- an ASCII byte, a run of blocks after it, and a run of bytes after that
+module _ {s : List ℕ} {at blocks to : ℕ} (c : Checked s at) (h : at < length s) (b : getD s at 0 < 0x80) (a : AsciiTo s (at + 1) blocks) (e : AsciiTo s blocks to) where
+  pub checked-runs : Checked s to
+  checked-runs = checked-run (checked-run (checked-ascii c h b) a) e
+
+  pub runs-fall : length s - to < length s - at
+  runs-fall = omega (arith, a .goes, e .goes)
+
+pub run-inside : {s : List ℕ} {at to : ℕ} → AsciiTo s at to → to ≤ length s
+run-inside a = a .inside
+
+pub ruleset checking = (checked-first, checked-runs, runs-fall, run-inside, checked-all, checked-good, checked-bad, checked-end, checked-fits, checked-falls, needs)

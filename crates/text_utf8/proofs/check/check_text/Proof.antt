@@ -1,0 +1,91 @@
+-- `utf8::check::check_text` meets its contract, by the laws of Checking and an invariant that says: the rest decides as the whole does.
+use Rattle.text_utf8.proofs.Checking.{checking, Checked}
+use Prim.Native.Nat.{_-_}
+use lib.ListN.{length}
+use Rattle.text_utf8.proofs.check.check_text.Statement.{statement}
+use Rattle.text_utf8.proofs.check.check_text.Tie as tie
+
+abbrev Inv-loop : tie.InvT-loop
+Inv-loop s at₀ at = Checked s at
+
+abbrev μ-loop : tie.MeasureT-loop
+μ-loop s at₀ at = length s - at
+
+ascii-blocks-requires : tie.Need-ascii-blocks-requires Inv-loop μ-loop
+ascii-blocks-requires c κs = search checking
+
+loop-holds : tie.Need-loop-holds Inv-loop μ-loop
+loop-holds c = search checking
+
+shared-slice-read-if1 : tie.Need-shared-slice-read-if1 Inv-loop μ-loop
+shared-slice-read-if1 c = search checking
+
+add-ascii-blocks : tie.Need-add-ascii-blocks Inv-loop μ-loop
+add-ascii-blocks c = search checking
+
+ascii-blocks-requires-2 : tie.Need-ascii-blocks-requires-2 Inv-loop μ-loop
+ascii-blocks-requires-2 c κs = search checking
+
+ascii-bytes-requires : tie.Need-ascii-bytes-requires Inv-loop μ-loop
+ascii-bytes-requires c κs = search checking
+
+loop-less : tie.Need-loop-less Inv-loop μ-loop
+loop-less c = search checking
+
+loop-again : tie.Need-loop-again Inv-loop μ-loop
+loop-again c = search checking
+
+sequence-at-requires : tie.Need-sequence-at-requires Inv-loop μ-loop
+sequence-at-requires c κs = search checking
+
+enum-told : tie.Need-enum-told Inv-loop μ-loop
+enum-told c = search checking
+
+returns : tie.Need-returns Inv-loop μ-loop
+returns c = search checking
+
+enum-known-length : tie.Need-enum-known-length Inv-loop μ-loop
+enum-known-length c = search checking
+
+add-at : tie.Need-add-at Inv-loop μ-loop
+add-at c = search checking
+
+loop-less-2 : tie.Need-loop-less-2 Inv-loop μ-loop
+loop-less-2 c = search checking
+
+loop-again-2 : tie.Need-loop-again-2 Inv-loop μ-loop
+loop-again-2 c = search checking
+
+enum-known-length-2 : tie.Need-enum-known-length-2 Inv-loop μ-loop
+enum-known-length-2 c = search checking
+
+returns-2 : tie.Need-returns-2 Inv-loop μ-loop
+returns-2 c = search checking
+
+returns-3 : tie.Need-returns-3 Inv-loop μ-loop
+returns-3 c = search checking
+
+pub check-text-spec : {M : Type 1} → statement M
+check-text-spec =
+    tie.close
+    (tie.spec
+    Inv-loop
+    μ-loop
+    ascii-blocks-requires
+    loop-holds
+    shared-slice-read-if1
+    add-ascii-blocks
+    ascii-blocks-requires-2
+    ascii-bytes-requires
+    loop-less
+    loop-again
+    sequence-at-requires
+    enum-told
+    returns
+    enum-known-length
+    add-at
+    loop-less-2
+    loop-again-2
+    enum-known-length-2
+    returns-2
+    returns-3)

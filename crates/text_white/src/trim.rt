@@ -1,0 +1,197 @@
+// White space at the ends of a text and in it.
+use crate::white::is_white;
+use text_places::Place;
+use text_utf8::Sequence;
+use text_utf8::sequence_at;
+ghost use mathlib.Core.Path.{_≡_};
+ghost use lib.ListN.{drop};
+ghost use Rattle.ground.specs.Choice.{within};
+ghost use Rattle.text_white.specs.Trim.{trimStart, trimEnd, trimBoth, afterMarks, startsWhite, firstWhite, lastWhite, whiteLength, Before};
+
+// A part of a text: where it starts and where it ends.
+pub struct Span {
+    pub start: usize,
+    pub end: usize,
+}
+
+// Whether a byte alone tells that no white space stands there, and that none ends there: an ASCII character above the space.
+fn is_ink(b: u8) -> bool
+    ensures { λ r. ⌜ r ≡ within 0x21 0x7F b ⌝ }
+{
+    if b < 0x21 {
+        return false;
+    }
+    if 0x7F < b {
+        return false;
+    }
+    true
+}
+
+// Whether a white space character stands at a place.
+fn white_at(s: &[u8], at: usize) -> bool
+    ensures { λ r. ⌜ r ≡ startsWhite (drop at (now (s .entry))) ⌝ }
+{
+    if s.len() <= at {
+        return false;
+    }
+    if is_ink(s[at]) {
+        return false;
+    }
+    match sequence_at(s, at) {
+        Sequence::End => false,
+        Sequence::Good { code, length: _ } => is_white(code),
+        Sequence::Bad { length: _ } => false,
+    }
+}
+
+// Whether the first character of a text is white space.
+pub fn starts_white(s: &[u8]) -> bool
+    ensures { λ r. ⌜ r ≡ startsWhite (now (s .entry)) ⌝ }
+{
+    white_at(s, 0)
+}
+
+// Where a text starts without the white space at its start.
+pub fn trim_start(s: &[u8]) -> usize
+    ensures { λ r. ⌜ r ≡ trimStart (now (s .entry)) ⌝ }
+{
+    let mut at = 0;
+    while at < s.len() {
+        if is_ink(s[at]) {
+            return at;
+        }
+        match sequence_at(s, at) {
+            Sequence::End => {
+                return at;
+            }
+            Sequence::Good { code, length } => {
+                if is_white(code) {
+                    at += length;
+                    continue;
+                }
+                return at;
+            }
+            Sequence::Bad { length: _ } => {
+                return at;
+            }
+        }
+    }
+    at
+}
+
+// Where a text starts without every leading U+FEFF.
+pub fn after_marks(s: &[u8]) -> usize
+    ensures { λ r. ⌜ r ≡ afterMarks (now (s .entry)) ⌝ }
+{
+    let mut at = 0;
+    while at < s.len() {
+        match sequence_at(s, at) {
+            Sequence::End => {
+                return at;
+            }
+            Sequence::Good { code, length } => {
+                if code == 0xFEFF {
+                    at += length;
+                    continue;
+                }
+                return at;
+            }
+            Sequence::Bad { length: _ } => {
+                return at;
+            }
+        }
+    }
+    at
+}
+
+// The length of the white space character at a place, 0 where there is none.
+fn white_length(s: &[u8], at: usize) -> usize
+    ensures { λ r. ⌜ r ≡ whiteLength (drop at (now (s .entry))) ⌝ }
+{
+    match sequence_at(s, at) {
+        Sequence::End => 0,
+        Sequence::Good { code, length } => {
+            if is_white(code) {
+                return length;
+            }
+            0
+        }
+        Sequence::Bad { length: _ } => 0,
+    }
+}
+
+// The length of the white space character that ends at `end`, 0 where there is none.
+fn white_before(s: &[u8], end: usize) -> usize
+    ensures { λ r. ⌜ Before (now (s .entry)) end r ⌝ }
+{
+    let mut length = 1;
+    while length <= 4 {
+        if end < length {
+            return 0;
+        }
+        if white_length(s, end - length) == length {
+            return length;
+        }
+        length += 1;
+    }
+    0
+}
+
+// Where a text ends without the white space at its end.
+pub fn trim_end(s: &[u8]) -> usize
+    ensures { λ r. ⌜ r ≡ trimEnd (now (s .entry)) ⌝ }
+{
+    let mut end = s.len();
+    while 0 < end {
+        if is_ink(s[end - 1]) {
+            return end;
+        }
+        let length = white_before(s, end);
+        if length == 0 {
+            return end;
+        }
+        end -= length;
+    }
+    end
+}
+
+// Where a text starts and ends without the white space at both ends.
+pub fn trim_both(s: &[u8]) -> Span
+    ensures { λ r. ⌜ r ≡ trimBoth (now (s .entry)) ⌝ }
+{
+    let start = trim_start(s);
+    let length = trim_end(&s[start..]);
+    Span {
+        start,
+        end: start + length,
+    }
+}
+
+// The place of the first white space character.
+pub fn first_white(s: &[u8]) -> Place
+    ensures { λ r. ⌜ r ≡ firstWhite (now (s .entry)) ⌝ }
+{
+    let mut at = 0;
+    while at < s.len() {
+        if white_at(s, at) {
+            return Place::At(at);
+        }
+        at += 1;
+    }
+    Place::Nowhere
+}
+
+// The place of the last white space character.
+pub fn last_white(s: &[u8]) -> Place
+    ensures { λ r. ⌜ r ≡ lastWhite (now (s .entry)) ⌝ }
+{
+    let mut end = s.len();
+    while 0 < end {
+        let at = end - 1;
+        if white_at(s, at) {
+            return Place::At(at);
+        }
+        end = at;
+    }
+    Place::Nowhere
+}
