@@ -2,3 +2,4 @@
 pub mod Typing
 pub mod Settling
 pub mod Octets
+pub mod Turning

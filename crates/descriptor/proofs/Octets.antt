@@ -19,14 +19,18 @@ use Rattle.text_places.proofs.PlaceLaws.{last-inside}
 use Rattle.text_places.proofs.Holds.{last-is}
 use Rattle.text_utf8.specs.Grammar.{UTF8-octets}
 use Rattle.text_utf8.proofs.Boundaries.{octets-as, append-octets, ascii-octets, cons-octets, snoc-octets, replicate-octets, Texts, no-text, text, Fresh, at-low, fresh-end, fresh-ascii, fresh-after, after-octets, take-octets, tail-octets, cut-octets, map-octets}
-use Rattle.text_white.specs.declared.trim.Span.{Span}
+use Rattle.text_places.specs.declared.spans.Span.{Span}
 use Rattle.text_white.specs.Trim.{trimBoth}
 use Rattle.text_white.proofs.Cuts.{trim-octets}
 use Rattle.descriptor.specs.declared.types.Base.the-variants.{Letter, Kept, Named}
 use Rattle.table_pool.specs.Names.{slash, slashed, classDescriptor}
-use Rattle.descriptor.specs.Types.{partOf, bracketsAt, baseEnd, bracketCount, wordLetter, keptText, baseOf, baseBytes, typeDescriptor}
+use Rattle.ground.specs.Put.{between}
+use Rattle.descriptor.specs.Types.{bracketsAt, baseEnd, bracketCount, wordLetter, keptText, baseOf, baseBytes, typeDescriptor}
 use Rattle.descriptor.specs.Signatures.{rawKept, rawType, afterClose, rawSignature}
-use Rattle.descriptor_pieces.specs.Pieces.{byte, piece, partsFrom, Look, known, unknown, lookOr, turned, join, turn, Pair, orLook, shown, swapped, back}
+use Rattle.ground.specs.Look.{Look, known, unknown, lookOr, orLook}
+use Rattle.ground.specs.Join.{join}
+use Rattle.table_rows.specs.Classes.{Pair, shown, swapped, back}
+use Rattle.descriptor.specs.Pieces.{byte, piece, partsFrom, turned, turn}
 
 -- Names.
 slash-low : (x : ℕ) → x < 0x80 → slash x < 0x80
@@ -100,12 +104,12 @@ base-octets {s} o = go (eqb (wordLetter s) 0) (keptText s)
 pub type-octets : {s : List ℕ} → UTF8-octets s → UTF8-octets (typeDescriptor s)
 type-octets {s} o =
     let p : Span = trimBoth s in
-    let b : List ℕ = partOf s (p .start) (p .«end») in
+    let b : List ℕ = between s (p .start) (p .«end») in
     let e : ℕ = baseEnd b (length b) in
     let few = base-end-le b (length b) in
     let size = length-take (p .«end» - p .start) (drop (p .start) s) in
     let same-size : p .start + e - p .start ≡ e = omega arith in
-    let base : take e b ≡ partOf s (p .start) (p .start + e) =
+    let base : take e b ≡ between s (p .start) (p .start + e) =
     take-take e (p .«end» - p .start) (drop (p .start) s) (omega arith) ∙ ap (λ n. take n (drop (p .start) s)) (sym same-size) in
     append-octets (replicate-octets (bracketCount b (length b)) 0x5B (omega arith)) (base-octets (octets-as base (stripped-octets (trim-octets o))))
 

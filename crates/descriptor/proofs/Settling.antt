@@ -13,7 +13,7 @@ use mir.Syntax.{w64}
 use borrow.Author.Tests.{eq-eqb, ne-eqb, eqb-true}
 use borrow.Author.Needs.{needs}
 use Rattle.ground.specs.Choice.{both, either}
-use Rattle.ground.specs.Put.{put}
+use Rattle.ground.specs.Put.{put, between}
 use Rattle.ground.proofs.Cases.{cases}
 use Rattle.ground.proofs.Parts.{drop-take}
 use Rattle.ground.proofs.PutLaws.{put-nothing, put-one, put-put, put-same, put-before, getD-put, length-put}
@@ -23,10 +23,11 @@ use Rattle.text_places.specs.Places.{lastWhere, starts}
 use Rattle.text_places.proofs.PlaceLaws.{last-inside}
 use Rattle.table_pool.specs.declared.write.Wrote.{Wrote}
 use Rattle.table_pool.specs.Names.{slash, slashed, classDescriptor}
-use Rattle.descriptor.specs.Types.{partOf, keptText}
+use Rattle.descriptor.specs.Types.{keptText}
 use Rattle.descriptor.specs.Signatures.{isLetter, rawKept, rawType, afterClose, rawSignature}
 use Rattle.table_pool.specs.Wrote.{Written, WroteBy}
-use Rattle.table_pool.proofs.Writes.{slashed-length, wrote-then}
+use Rattle.table_pool.proofs.Naming.{slashed-length}
+use Rattle.table_pool.proofs.Writes.{wrote-then}
 
 pub ruleset letters = (cases, needs)
 
@@ -81,29 +82,29 @@ pub ruleset raw-kinds = (raw-empty, raw-bracket, raw-one, raw-long, needs)
 pub record Moving (d : List ℕ) (at «end» : ℕ) (room : List ℕ) (j : ℕ) : Type 0 where
   pub low : at ≤ j
   pub high : j ≤ «end»
-  pub is : room ≡ put d (j + 1) (slashed (partOf d j «end»))
+  pub is : room ≡ put d (j + 1) (slashed (between d j «end»))
   pub size : length room ≡ length d
 
-part-size : (d : List ℕ) (a e : ℕ) → a ≤ e → e ≤ length d → length (partOf d a e) ≡ e - a
+part-size : (d : List ℕ) (a e : ℕ) → a ≤ e → e ≤ length d → length (between d a e) ≡ e - a
 part-size d a e i h = omega (arith, length-take (e - a) (drop a d), length-drop a d)
 
-part-none : (d : List ℕ) (e : ℕ) → partOf d e e ≡ []
+part-none : (d : List ℕ) (e : ℕ) → between d e e ≡ []
 part-none d e = let z : e - e ≡ 0 = omega arith in rw z
 
-part-cons : (d : List ℕ) (a e : ℕ) → a < e → e ≤ length d → partOf d a e ≡ getD d a 0 ∷ partOf d (a + 1) e
+part-cons : (d : List ℕ) (a e : ℕ) → a < e → e ≤ length d → between d a e ≡ getD d a 0 ∷ between d (a + 1) e
 part-cons d a e h i =
     let z : e - a ≡ suc (e - (a + 1)) = omega arith in
     rw (z, drop-cons d a 0 (omega arith), add-one a)
 
 module _ (d : List ℕ) (at «end» : ℕ) (i : at ≤ «end») (h : «end» ≤ length d) where
-  name-length : length (classDescriptor (partOf d at «end»)) ≡ «end» - at + 2
+  name-length : length (classDescriptor (between d at «end»)) ≡ «end» - at + 2
   name-length =
-      let a = length-append (slashed (partOf d at «end»)) (0x3B ∷ []) in
-      let b = slashed-length (partOf d at «end») in
+      let a = length-append (slashed (between d at «end»)) (0x3B ∷ []) in
+      let b = slashed-length (between d at «end») in
       let c = part-size d at «end» i h in
       omega arith
 
-  pub name-no-room : length d - «end» < 2 → length d < at + length (classDescriptor (partOf d at «end»))
+  pub name-no-room : length d - «end» < 2 → length d < at + length (classDescriptor (between d at «end»))
   name-no-room k = omega (arith, name-length)
 
   module _ (k : 2 ≤ length d - «end») where
@@ -127,14 +128,14 @@ module _ (d : List ℕ) (at «end» : ℕ) (i : at ≤ «end») (h : «end» ≤
       moving-more l {x} f =
           let up : j - 1 + 1 ≡ j = omega arith in
           let old : getD room (j - 1) 0 ≡ getD d (j - 1) 0 =
-          ap (λ r. getD r (j - 1) 0) (w .is) ∙ getD-put d (j + 1) (slashed (partOf d j «end»)) (j - 1) 0 (omega arith) (omega (arith, w .high)) in
-          let next : partOf d (j - 1) «end» ≡ getD d (j - 1) 0 ∷ partOf d j «end» = part-cons d (j - 1) «end» (omega (arith, w .high)) h ∙ ap (λ n. getD d (j - 1) 0 ∷ partOf d n «end») up in
+          ap (λ r. getD r (j - 1) 0) (w .is) ∙ getD-put d (j + 1) (slashed (between d j «end»)) (j - 1) 0 (omega arith) (omega (arith, w .high)) in
+          let next : between d (j - 1) «end» ≡ getD d (j - 1) 0 ∷ between d j «end» = part-cons d (j - 1) «end» (omega (arith, w .high)) h ∙ ap (λ n. getD d (j - 1) 0 ∷ between d n «end») up in
           record {
             low = omega arith;
             high = omega (arith, w .high);
             is =
-                ap (λ r. set r j x) (w .is) ∙ put-before d j (slashed (partOf d j «end»)) x 0 (omega (arith, w .high))
-                ∙ ap (λ y. put d j (y ∷ slashed (partOf d j «end»))) (f ∙ ap slash old) ∙ ap (λ n. put d n (slash (getD d (j - 1) 0) ∷ slashed (partOf d j «end»))) (sym up)
+                ap (λ r. set r j x) (w .is) ∙ put-before d j (slashed (between d j «end»)) x 0 (omega (arith, w .high))
+                ∙ ap (λ y. put d j (y ∷ slashed (between d j «end»))) (f ∙ ap slash old) ∙ ap (λ n. put d n (slash (getD d (j - 1) 0) ∷ slashed (between d j «end»))) (sym up)
                 ∙ ap (λ n. put d (j - 1 + 1) (slashed n)) (sym next);
             size = length-set room j x ∙ w .size;
           }
@@ -145,13 +146,13 @@ module _ (d : List ℕ) (at «end» : ℕ) (i : at ≤ «end») (h : «end» ≤
       pub name-end : j ≤ at → «end» + 1 < length (set room at 0x4C)
       name-end l = omega (arith, w .size, length-set room at 0x4C)
 
-      pub name-done : j ≤ at → Written («end» + 2) d at (classDescriptor (partOf d at «end»)) (set (set room at 0x4C) («end» + 1) 0x3B)
+      pub name-done : j ≤ at → Written («end» + 2) d at (classDescriptor (between d at «end»)) (set (set room at 0x4C) («end» + 1) 0x3B)
       name-done l =
           let here : j ≡ at = omega (arith, w .low) in
-          let n : List ℕ = slashed (partOf d at «end») in
-          let size-n : length n ≡ «end» - at = slashed-length (partOf d at «end») ∙ part-size d at «end» i h in
+          let n : List ℕ = slashed (between d at «end») in
+          let size-n : length n ≡ «end» - at = slashed-length (between d at «end») ∙ part-size d at «end» i h in
           let first : set room at 0x4C ≡ put d at (0x4C ∷ n) =
-          ap (λ r. set r at 0x4C) (w .is ∙ ap (λ m. put d (m + 1) (slashed (partOf d m «end»))) here) ∙ put-before d at n 0x4C 0 (omega arith) in
+          ap (λ r. set r at 0x4C) (w .is ∙ ap (λ m. put d (m + 1) (slashed (between d m «end»))) here) ∙ put-before d at n 0x4C 0 (omega arith) in
           let place : at + length (0x4C ∷ n) ≡ «end» + 1 = omega arith in
           let long : at + length (0x4C ∷ n) ≤ length d = omega arith in
           let whole-size = length-put d at (0x4C ∷ n) long in
@@ -168,31 +169,31 @@ pub ruleset moving = (name-no-room, moving-starts, name-fits, name-fits-one, mov
 -- Types and signatures.
 module _ (d : List ℕ) (at «end» : ℕ) (i : at ≤ «end») (h : «end» ≤ length d) where
   -- what is kept is written already
-  kept-written : Written «end» d at (partOf d at «end») d
+  kept-written : Written «end» d at (between d at «end») d
   kept-written =
       let n = part-size d at «end» i h in
       record { past = omega arith; room = omega arith; is = sym (put-same d at («end» - at) (omega arith)) }
 
-  module _ {b : Bool} (k : b ≡ rawKept (partOf d at «end»)) where
-    pub type-kept : b ≡ true → Written «end» d at (rawType (partOf d at «end»)) d
-    type-kept t = let e : rawType (partOf d at «end») ≡ partOf d at «end» = rw (← k, t) in rw e kept-written
+  module _ {b : Bool} (k : b ≡ rawKept (between d at «end»)) where
+    pub type-kept : b ≡ true → Written «end» d at (rawType (between d at «end»)) d
+    type-kept t = let e : rawType (between d at «end») ≡ between d at «end» = rw (← k, t) in rw e kept-written
 
-    pub type-named : b ≡ false → (r : Wrote) (d₁ : List ℕ) → WroteBy r d at (classDescriptor (partOf d at «end»)) d₁ → WroteBy r d at (rawType (partOf d at «end»)) d₁
-    type-named t r d₁ w = let e : rawType (partOf d at «end») ≡ classDescriptor (partOf d at «end») = rw (← k, t) in rw e w
+    pub type-named : b ≡ false → (r : Wrote) (d₁ : List ℕ) → WroteBy r d at (classDescriptor (between d at «end»)) d₁ → WroteBy r d at (rawType (between d at «end»)) d₁
+    type-named t r d₁ w = let e : rawType (between d at «end») ≡ classDescriptor (between d at «end») = rw (← k, t) in rw e w
 
-  pub signature-field : {m : Bool} → m ≡ false → (r : Wrote) (d₁ : List ℕ) → WroteBy r d at (rawType (partOf d at «end»)) d₁ → WroteBy r d at (rawSignature m (partOf d at «end»)) d₁
+  pub signature-field : {m : Bool} → m ≡ false → (r : Wrote) (d₁ : List ℕ) → WroteBy r d at (rawType (between d at «end»)) d₁ → WroteBy r d at (rawSignature m (between d at «end»)) d₁
   signature-field e r d₁ w = rw e w
 
-  module _ {m : Bool} (e : m ≡ true) {p : Place} (f : p ≡ lastWhere (starts 0x29) (partOf d at «end»)) where
-    whole : {x : Place} → p ≡ x → rawSignature m (partOf d at «end») ≡ afterClose (partOf d at «end») x
-    whole g = rw e (ap (afterClose (partOf d at «end»)) (sym f ∙ g))
+  module _ {m : Bool} (e : m ≡ true) {p : Place} (f : p ≡ lastWhere (starts 0x29) (between d at «end»)) where
+    whole : {x : Place} → p ≡ x → rawSignature m (between d at «end») ≡ afterClose (between d at «end») x
+    whole g = rw e (ap (afterClose (between d at «end»)) (sym f ∙ g))
 
-    pub signature-open : p ≡ Nowhere → Written «end» d at (rawSignature m (partOf d at «end»)) d
+    pub signature-open : p ≡ Nowhere → Written «end» d at (rawSignature m (between d at «end»)) d
     signature-open g = rw (whole g) kept-written
 
     module _ {close : ℕ} (g : p ≡ At close) where
       inside : at + close + 1 ≤ «end»
-      inside = let n = part-size d at «end» i h in let j = last-inside (starts 0x29) (partOf d at «end») (sym f ∙ g) in omega arith
+      inside = let n = part-size d at «end» i h in let j = last-inside (starts 0x29) (between d at «end») (sym f ∙ g) in omega arith
 
       pub signature-after : at + close + 1 ≤ «end»
       signature-after = inside
@@ -204,17 +205,17 @@ module _ (d : List ℕ) (at «end» : ℕ) (i : at ≤ «end») (h : «end» ≤
       signature-fits-close z = let j = inside in omega arith
 
       -- the arguments stay, and what follows is a type
-      pub signature-method : (r : Wrote) (d₁ : List ℕ) → WroteBy r d (at + close + 1) (rawType (partOf d (at + close + 1) «end»)) d₁ → WroteBy r d at (rawSignature m (partOf d at «end»)) d₁
+      pub signature-method : (r : Wrote) (d₁ : List ℕ) → WroteBy r d (at + close + 1) (rawType (between d (at + close + 1) «end»)) d₁ → WroteBy r d at (rawSignature m (between d at «end»)) d₁
       signature-method r d₁ w =
           let j = inside in
-          let front : take (close + 1) (partOf d at «end») ≡ take (close + 1) (drop at d) = take-take (close + 1) («end» - at) (drop at d) (omega arith) in
+          let front : take (close + 1) (between d at «end») ≡ take (close + 1) (drop at d) = take-take (close + 1) («end» - at) (drop at d) (omega arith) in
           let n : length (take (close + 1) (drop at d)) ≡ close + 1 = length-take-le (close + 1) (drop at d) (omega (arith, length-drop at d)) in
-          let kept : Written (at + close + 1) d at (take (close + 1) (partOf d at «end»)) d =
+          let kept : Written (at + close + 1) d at (take (close + 1) (between d at «end»)) d =
           rw front (record { past = omega arith; room = omega arith; is = sym (put-same d at (close + 1) (omega arith)) }) in
-          let back : drop (close + 1) (partOf d at «end») ≡ partOf d (at + close + 1) «end» = drop-part close in
-          rw (whole g, back) (wrote-then r (rawType (partOf d (at + close + 1) «end»)) d₁ kept w)
+          let back : drop (close + 1) (between d at «end») ≡ between d (at + close + 1) «end» = drop-part close in
+          rw (whole g, back) (wrote-then r (rawType (between d (at + close + 1) «end»)) d₁ kept w)
         where
-          drop-part : (c : ℕ) → drop (c + 1) (partOf d at «end») ≡ partOf d (at + c + 1) «end»
+          drop-part : (c : ℕ) → drop (c + 1) (between d at «end») ≡ between d (at + c + 1) «end»
           drop-part c =
               let a : «end» - at - (c + 1) ≡ «end» - (at + c + 1) = omega arith in
               let b : at + (c + 1) ≡ at + c + 1 = omega arith in

@@ -13,19 +13,15 @@ use borrow.Author.Needs.{needs}
 use Rattle.ground.specs.Ascii.{ascii}
 use Rattle.ground.specs.Choice.{pick, both}
 use Rattle.text_places.specs.Places.{same}
-use Rattle.text_white.specs.declared.trim.Span.{Span}
+use Rattle.text_places.specs.declared.spans.Span.{Span}
 use Rattle.text_white.specs.Trim.{trimBoth}
 use Rattle.text_white.proofs.TrimLaws.{trim-inside, trim-order}
 use Rattle.descriptor.specs.declared.types.Stripped.{Stripped}
 use Rattle.descriptor.specs.declared.types.Base.{Base}
 use Rattle.descriptor.specs.declared.types.Base.the-variants.{Letter, Kept, Named}
 use Rattle.descriptor.specs.declared.types.TypeShape.{TypeShape}
-use Rattle.table_pool.specs.declared.write.Wrote.{Wrote}
-use Rattle.table_pool.specs.declared.write.Wrote.the-variants.{Done, NoRoom}
-use Rattle.table_pool.specs.Names.{classDescriptor}
-use Rattle.descriptor.specs.Types.{partOf, bracketsAt, baseEnd, bracketCount, strippedOf, wordLetter, keptText, baseOf, baseBytes, shapeIn, shapeOf, shapeBytes, typeDescriptor}
-use Rattle.table_pool.specs.Wrote.{WroteBy}
-use Rattle.table_pool.proofs.Writes.{wrote-told, wrote-none, wrote-then, none-then}
+use Rattle.ground.specs.Put.{between}
+use Rattle.descriptor.specs.Types.{bracketsAt, baseEnd, bracketCount, strippedOf, wordLetter, keptText, baseOf, shapeIn, shapeOf}
 
 -- The nine words.
 module _ (s : List ℕ) where
@@ -233,12 +229,12 @@ module _ (s : List ℕ) {p : Span} (e : p ≡ trimBoth s) where
   shape-inside = rw e (trim-inside s)
 
   module _ {c : Stripped} (f : c ≡ strippedOf (take (p .«end» - p .start) (drop (p .start) s))) where
-    cut-end : c .«end» ≡ baseEnd (partOf s (p .start) (p .«end»)) (length (partOf s (p .start) (p .«end»)))
+    cut-end : c .«end» ≡ baseEnd (between s (p .start) (p .«end»)) (length (between s (p .start) (p .«end»)))
     cut-end = ap (λ x. x .«end») f
 
     cut-inside : p .start + c .«end» ≤ p .«end»
     cut-inside =
-        let a = base-le (partOf s (p .start) (p .«end»)) (length (partOf s (p .start) (p .«end»))) in
+        let a = base-le (between s (p .start) (p .«end»)) (length (between s (p .start) (p .«end»))) in
         let b = length-take (p .«end» - p .start) (drop (p .start) s) in
         let o = shape-order in
         omega (arith, cut-end)
@@ -255,37 +251,24 @@ module _ (s : List ℕ) {p : Span} (e : p ≡ trimBoth s) where
     pub shape-read : {b : Base} → b ≡ baseOf (take (p .start + c .«end» - p .start) (drop (p .start) s)) →
         _≡_ {A = TypeShape} (record { brackets = c .brackets; start = p .start; «end» = p .start + c .«end»; base = b }) (shapeOf s)
     shape-read {b} g =
-        let n : c .brackets ≡ bracketCount (partOf s (p .start) (p .«end»)) (length (partOf s (p .start) (p .«end»))) = ap (λ x. x .brackets) f in
+        let n : c .brackets ≡ bracketCount (between s (p .start) (p .«end»)) (length (between s (p .start) (p .«end»))) = ap (λ x. x .brackets) f in
         let here : _≡_ {A = TypeShape} (record { brackets = c .brackets; start = p .start; «end» = p .start + c .«end»; base = b }) (shapeIn s p) = shape-as g n cut-end in
         here ∙ ap (shapeIn s) e
       where
-        shape-as : b ≡ baseOf (partOf s (p .start) (p .start + c .«end»)) → c .brackets ≡ bracketCount (partOf s (p .start) (p .«end»)) (length (partOf s (p .start) (p .«end»))) →
-            c .«end» ≡ baseEnd (partOf s (p .start) (p .«end»)) (length (partOf s (p .start) (p .«end»))) →
+        shape-as : b ≡ baseOf (between s (p .start) (p .start + c .«end»)) → c .brackets ≡ bracketCount (between s (p .start) (p .«end»)) (length (between s (p .start) (p .«end»))) →
+            c .«end» ≡ baseEnd (between s (p .start) (p .«end»)) (length (between s (p .start) (p .«end»))) →
             _≡_ {A = TypeShape} (record { brackets = c .brackets; start = p .start; «end» = p .start + c .«end»; base = b }) (shapeIn s p)
         shape-as h i j =
             ap (λ x. record { brackets = x; start = p .start; «end» = p .start + c .«end»; base = b }) i
-            ∙ ap (λ x. record { brackets = bracketCount (partOf s (p .start) (p .«end»)) (length (partOf s (p .start) (p .«end»))); start = p .start; «end» = p .start + c .«end»; base = x }) h
-            ∙ ap (λ x. record { brackets = bracketCount (partOf s (p .start) (p .«end»)) (length (partOf s (p .start) (p .«end»))); start = p .start; «end» = p .start + x; base = baseOf (partOf s (p .start) (p .start + x)) }) j
+            ∙ ap (λ x. record { brackets = bracketCount (between s (p .start) (p .«end»)) (length (between s (p .start) (p .«end»))); start = p .start; «end» = p .start + c .«end»; base = x }) h
+            ∙ ap (λ x. record { brackets = bracketCount (between s (p .start) (p .«end»)) (length (between s (p .start) (p .«end»))); start = p .start; «end» = p .start + x; base = baseOf (between s (p .start) (p .start + x)) }) j
 
 pub ruleset shaping = (shape-order, shape-inside, base-fits, base-order, base-inside, shape-read, needs)
-
--- The descriptor.
-module _ (r : Wrote) (d : List ℕ) (at : ℕ) (text d₁ : List ℕ) (base : Base) where
-  pub base-letter-put : {x : ℕ} → base ≡ Letter x → WroteBy r d at (replicate 1 x) d₁ → WroteBy r d at (baseBytes base text) d₁
-  base-letter-put e w = rw e w
-
-  pub base-kept-put : base ≡ Kept → WroteBy r d at text d₁ → WroteBy r d at (baseBytes base text) d₁
-  base-kept-put e w = rw e w
-
-  pub base-named-put : base ≡ Named → WroteBy r d at (classDescriptor text) d₁ → WroteBy r d at (baseBytes base text) d₁
-  base-named-put e w = rw e w
-
-pub ruleset base-puts = (base-letter-put, base-kept-put, base-named-put, needs)
 
 -- a shape lies in its text
 shape-lies : (s : List ℕ) → (shapeOf s .start ≤ shapeOf s .«end») × (shapeOf s .«end» ≤ length s)
 shape-lies s =
-    let a = base-le (partOf s (trimBoth s .start) (trimBoth s .«end»)) (length (partOf s (trimBoth s .start) (trimBoth s .«end»))) in
+    let a = base-le (between s (trimBoth s .start) (trimBoth s .«end»)) (length (between s (trimBoth s .start) (trimBoth s .«end»))) in
     let b = length-take (trimBoth s .«end» - trimBoth s .start) (drop (trimBoth s .start) s) in
     let o = trim-order s in
     let w = trim-inside s in
@@ -297,23 +280,3 @@ module _ (text : List ℕ) {t : TypeShape} (e : t ≡ shapeOf text) where
 
   pub type-inside : t .«end» ≤ length text
   type-inside = rw e (shape-lies text .1)
-
-module _ (d : List ℕ) (at : ℕ) (text : List ℕ) {t : TypeShape} (e : t ≡ shapeOf text) (r : Wrote) (d₁ : List ℕ) (w : WroteBy r d at (replicate (t .brackets) 0x5B) d₁) where
-  whole : typeDescriptor text ≡ shapeBytes t text
-  whole = ap (λ x. shapeBytes x text) (sym e)
-
-  wrote-as : (q : Wrote) (b : List ℕ) (d₂ : List ℕ) {c : List ℕ} → b ≡ c → WroteBy q d at b d₂ → WroteBy q d at c d₂
-  wrote-as q b d₂ f v = rw (← f) v
-
-  pub type-no-room : r ≡ NoRoom → length d < at + length (typeDescriptor text)
-  type-no-room g =
-      let h = none-then d at (replicate (t .brackets) 0x5B) (baseBytes (t .base) (partOf text (t .start) (t .«end»))) (wrote-none r d at (replicate (t .brackets) 0x5B) d₁ w g) in
-      wrote-as NoRoom (shapeBytes t text) d₁ (sym whole) h
-
-  pub type-put : {q : ℕ} → r ≡ Done q → (v : Wrote) (d₂ : List ℕ) → WroteBy v d₁ q (baseBytes (t .base) (take (t .«end» - t .start) (drop (t .start) text))) d₂ →
-      WroteBy v d at (typeDescriptor text) d₂
-  type-put g v d₂ u =
-      wrote-as v (shapeBytes t text) d₂ (sym whole)
-      (wrote-then v (baseBytes (t .base) (partOf text (t .start) (t .«end»))) d₂ (wrote-told r d at (replicate (t .brackets) 0x5B) d₁ w g) u)
-
-pub ruleset type-puts = (type-no-room, type-order, type-inside, type-put, needs)

@@ -1,23 +1,20 @@
 -- Document 01 "Descriptors": types.
 use mathlib.Core.Bool.{Bool, false}
 use mathlib.Core.List.{List, [], _∷_, _++_}
-use Prim.Native.Nat.{ℕ, zero, suc, _+_, _-_}
+use Prim.Native.Nat.{ℕ, zero, suc, _+_}
 use lib.Dec.{eqb}
-use lib.ListN.{length, getD, take, drop, replicate}
+use lib.ListN.{length, getD, replicate}
 use Rattle.ground.specs.Ascii.{ascii}
 use Rattle.ground.specs.Choice.{pick, both}
+use Rattle.ground.specs.Put.{between}
 use Rattle.text_places.specs.Places.{same}
-use Rattle.text_white.specs.declared.trim.Span.{Span}
+use Rattle.text_places.specs.declared.spans.Span.{Span}
 use Rattle.text_white.specs.Trim.{trimBoth}
 use Rattle.descriptor.specs.declared.types.Stripped.{Stripped}
 use Rattle.descriptor.specs.declared.types.Base.{Base}
 use Rattle.descriptor.specs.declared.types.Base.the-variants.{Letter, Kept, Named}
 use Rattle.descriptor.specs.declared.types.TypeShape.{TypeShape}
 use Rattle.table_pool.specs.Names.{classDescriptor}
-
--- the bytes of a part
-abbrev pub partOf : List ℕ → ℕ → ℕ → List ℕ
-partOf s a e = take (e - a) (drop a s)
 
 -- "each `[]` at its end": whether one stands before the place two after `e`
 abbrev pub bracketsAt : List ℕ → ℕ → Bool
@@ -66,15 +63,15 @@ baseBytes Named s = classDescriptor s
 -- "A type is trimmed, then each `[]` at its end becomes a leading `[`; no second trim": `b` is the trimmed text, and `e` the place at which it ends without its `[]`s
 abbrev pub shapeIn : List ℕ → Span → TypeShape
 shapeIn s p =
-    let b : List ℕ = partOf s (p .start) (p .«end») in
+    let b : List ℕ = between s (p .start) (p .«end») in
     let e : ℕ = p .start + baseEnd b (length b) in
-    record { brackets = bracketCount b (length b); start = p .start; «end» = e; base = baseOf (partOf s (p .start) e) }
+    record { brackets = bracketCount b (length b); start = p .start; «end» = e; base = baseOf (between s (p .start) e) }
 
 abbrev pub shapeOf : List ℕ → TypeShape
 shapeOf s = shapeIn s (trimBoth s)
 
 abbrev pub shapeBytes : TypeShape → List ℕ → List ℕ
-shapeBytes t s = replicate (t .brackets) 0x5B ++ baseBytes (t .base) (partOf s (t .start) (t .«end»))
+shapeBytes t s = replicate (t .brackets) 0x5B ++ baseBytes (t .base) (between s (t .start) (t .«end»))
 
 abbrev pub typeDescriptor : List ℕ → List ℕ
 typeDescriptor s = shapeBytes (shapeOf s) s

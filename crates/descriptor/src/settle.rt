@@ -8,7 +8,7 @@ ghost use mathlib.Core.Path.{_≡_};
 ghost use Prim.Native.Nat.{_≤_};
 ghost use lib.ListN.{length};
 ghost use Rattle.table_pool.specs.Names.{classDescriptor};
-ghost use Rattle.descriptor.specs.Types.{partOf};
+ghost use Rattle.ground.specs.Put.{between};
 ghost use Rattle.descriptor.specs.Signatures.{isLetter, rawKept, rawType, rawSignature};
 ghost use Rattle.table_pool.specs.Wrote.{WroteBy};
 
@@ -62,7 +62,7 @@ fn is_descriptor(s: &[u8]) -> bool
 // The bytes from `at` to `end` are a class name and become its descriptor: they move by one.
 fn name_in_place(pool: &mut [u8], at: usize, end: usize) -> Wrote
     requires { ⌜ (at ≤ «end») × («end» ≤ length (now pool)) ⌝ }
-    ensures { λ r. ⌜ WroteBy r (now (pool .entry)) at (classDescriptor (partOf (now (pool .entry)) at «end»)) (now (pool .exit)) ⌝ }
+    ensures { λ r. ⌜ WroteBy r (now (pool .entry)) at (classDescriptor (between (now (pool .entry)) at «end»)) (now (pool .exit)) ⌝ }
 {
     if pool.len() - end < 2 {
         return Wrote::NoRoom;
@@ -81,7 +81,7 @@ fn name_in_place(pool: &mut [u8], at: usize, end: usize) -> Wrote
 // The bytes from `at` to `end` are a raw type.
 fn settle_type(pool: &mut [u8], at: usize, end: usize) -> Wrote
     requires { ⌜ (at ≤ «end») × («end» ≤ length (now pool)) ⌝ }
-    ensures { λ r. ⌜ WroteBy r (now (pool .entry)) at (rawType (partOf (now (pool .entry)) at «end»)) (now (pool .exit)) ⌝ }
+    ensures { λ r. ⌜ WroteBy r (now (pool .entry)) at (rawType (between (now (pool .entry)) at «end»)) (now (pool .exit)) ⌝ }
 {
     if is_descriptor(&pool[at..end]) {
         return Wrote::Done(end);
@@ -92,7 +92,7 @@ fn settle_type(pool: &mut [u8], at: usize, end: usize) -> Wrote
 // The bytes from `at` to `end` are a raw signature, of a method or of a field.
 pub fn settle_signature(pool: &mut [u8], at: usize, end: usize, method: bool) -> Wrote
     requires { ⌜ (at ≤ «end») × («end» ≤ length (now pool)) ⌝ }
-    ensures { λ r. ⌜ WroteBy r (now (pool .entry)) at (rawSignature method (partOf (now (pool .entry)) at «end»)) (now (pool .exit)) ⌝ }
+    ensures { λ r. ⌜ WroteBy r (now (pool .entry)) at (rawSignature method (between (now (pool .entry)) at «end»)) (now (pool .exit)) ⌝ }
 {
     if method {
         let Place::At(close) = last_byte(&pool[at..end], b')') else {

@@ -1,13 +1,8 @@
-// Types and their descriptors.
-use table_pool::Wrote;
-use table_pool::put_bytes;
-use table_pool::put_class;
-use table_pool::put_text;
+// Types, and what their descriptors are made of.
 use text_places::same_bytes;
 use text_white::trim_both;
 ghost use mathlib.Core.Path.{_≡_};
-ghost use Rattle.descriptor.specs.Types.{strippedOf, wordLetter, keptText, baseOf, baseBytes, shapeOf, typeDescriptor};
-ghost use Rattle.table_pool.specs.Wrote.{WroteBy};
+ghost use Rattle.descriptor.specs.Types.{strippedOf, wordLetter, keptText, baseOf, shapeOf};
 
 // Where a type ends without the `[]`s at its end, and how many they are.
 pub struct Stripped {
@@ -127,29 +122,4 @@ pub fn type_shape(s: &[u8]) -> TypeShape
         end,
         base: base_kind(&s[start..end]),
     }
-}
-
-// The descriptor of a type without its `[]`s.
-fn put_base(pool: &mut [u8], at: usize, text: &[u8], base: Base) -> Wrote
-    ensures { λ r. ⌜ WroteBy r (now (pool .entry)) at (baseBytes base (now (text .entry))) (now (pool .exit)) ⌝ }
-{
-    match base {
-        Base::Letter(letter) => put_bytes(pool, at, letter, 1),
-        Base::Kept => put_text(pool, at, text),
-        Base::Named => put_class(pool, at, text),
-    }
-}
-
-// The descriptor of a type.
-pub fn put_type(pool: &mut [u8], at: usize, text: &[u8]) -> Wrote
-    ensures { λ r. ⌜ WroteBy r (now (pool .entry)) at (typeDescriptor (now (text .entry))) (now (pool .exit)) ⌝ }
-{
-    let shape = type_shape(text);
-    let start = shape.start;
-    let end = shape.end;
-    let base = shape.base;
-    let Wrote::Done(after) = put_bytes(pool, at, b'[', shape.brackets) else {
-        return Wrote::NoRoom;
-    };
-    put_base(pool, after, &text[start..end], base)
 }

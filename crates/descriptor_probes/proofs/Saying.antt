@@ -9,12 +9,12 @@ use borrow.Author.Tests.{lt-ltb, le-ltb}
 use borrow.Author.Needs.{needs}
 use Rattle.table_pool.specs.declared.write.Wrote.{Wrote}
 use Rattle.table_pool.specs.declared.write.Wrote.the-variants.{Done, NoRoom}
-use Rattle.descriptor_pieces.specs.declared.pieces.Part as parts
-use Rattle.descriptor_pieces.specs.declared.pieces.Part.the-variants.{Piece, Plain, End}
-use Rattle.descriptor.specs.Types.{partOf}
+use Rattle.ground.specs.Put.{between}
+use Rattle.descriptor.specs.declared.types.TypeShape.{TypeShape}
+use Rattle.descriptor.specs.Types.{shapeOf}
 use Rattle.descriptor.specs.Signatures.{rawSignature}
 use Rattle.table_pool.specs.Wrote.{WroteBy}
-use Rattle.descriptor_probes.specs.Answers.{wroteNumbers, partNumbers, Said, SaidWithin}
+use Rattle.descriptor_probes.specs.Answers.{wroteNumbers, baseNumber, baseLetter, shapeNumbers, Said, SaidWithin}
 
 pub done-numbers : (w : Wrote) {q : ℕ} → w ≡ Done q → 1 ∷ q ∷ [] ≡ wroteNumbers w
 done-numbers w e = sym (ap wroteNumbers e)
@@ -24,17 +24,15 @@ none-numbers w e = sym (ap wroteNumbers e)
 
 pub ruleset wrote-saying = (done-numbers, none-numbers, needs)
 
-module _ (p : parts.Part) {t : parts.Part} (e : t ≡ p) where
-  pub piece-numbers : {q : ℕ} → t ≡ Piece q → 1 ∷ q ∷ [] ≡ partNumbers p
-  piece-numbers f = sym (ap partNumbers (sym e ∙ f))
+-- the shape of a type
+pub shape-numbers : (s : List ℕ) {t : TypeShape} → t ≡ shapeOf s → {n l : ℕ} → n ≡ baseNumber (t .base) → l ≡ baseLetter (t .base) →
+    t .brackets ∷ t .start ∷ t .«end» ∷ n ∷ l ∷ [] ≡ shapeNumbers (shapeOf s)
+shape-numbers s {t} e {n} {l} f g =
+    ap (λ k. t .brackets ∷ t .start ∷ t .«end» ∷ k ∷ l ∷ []) f
+    ∙ ap (λ k. t .brackets ∷ t .start ∷ t .«end» ∷ baseNumber (t .base) ∷ k ∷ []) g
+    ∙ ap shapeNumbers e
 
-  pub plain-numbers : {q : ℕ} → t ≡ Plain q → 2 ∷ q ∷ [] ≡ partNumbers p
-  plain-numbers f = sym (ap partNumbers (sym e ∙ f))
-
-  pub end-numbers : t ≡ End → 0 ∷ 0 ∷ [] ≡ partNumbers p
-  end-numbers f = sym (ap partNumbers (sym e ∙ f))
-
-pub ruleset part-saying = (piece-numbers, plain-numbers, end-numbers, needs)
+pub ruleset shape-saying = (shape-numbers, needs)
 
 pub said : (d : List ℕ) (at : ℕ) (b d₁ : List ℕ) (w : Wrote) → WroteBy w d at b d₁ → {numbers : List ℕ} → numbers ≡ wroteNumbers w → Said numbers d at b d₁
 said d at b d₁ w k e = record { answer = w; are = e; wrote = k }
@@ -50,7 +48,7 @@ module _ (d : List ℕ) (at e method : ℕ) where
     pub said-past : length d < e → SaidWithin (2 ∷ 0 ∷ []) d at e method d
     said-past h = rw (le-ltb e at i, lt-ltb (length d) e h) (refl, refl)
 
-    pub said-signature : e ≤ length d → (d₁ : List ℕ) (w : Wrote) → WroteBy w d at (rawSignature (not (eqb method 0)) (partOf d at e)) d₁ →
+    pub said-signature : e ≤ length d → (d₁ : List ℕ) (w : Wrote) → WroteBy w d at (rawSignature (not (eqb method 0)) (between d at e)) d₁ →
         {numbers : List ℕ} → numbers ≡ wroteNumbers w → SaidWithin numbers d at e method d₁
     said-signature h d₁ w k f = rw (le-ltb e at i, le-ltb (length d) e h) (record { answer = w; are = f; wrote = k })
 

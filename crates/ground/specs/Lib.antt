@@ -2,4 +2,6 @@
 pub mod Abnf
 pub mod Ascii
 pub mod Choice
+pub mod Join
+pub mod Look
 pub mod Put

@@ -20,7 +20,7 @@ use Rattle.text_places.proofs.Holds.{first-is, last-is, pair-inside}
 use Rattle.text_places.proofs.Found.{pair-stands}
 use Rattle.text_utf8.specs.Grammar.{UTF8-octets}
 use Rattle.text_utf8.proofs.Boundaries.{octets-as, Texts, no-text, text, Fresh, fresh-as, octets-fresh, fresh-ascii, fresh-after, after-octets, take-octets, drop-octets, part-octets}
-use Rattle.text_white.specs.declared.trim.Span.{Span}
+use Rattle.text_places.specs.declared.spans.Span.{Span}
 use Rattle.text_white.specs.Trim.{trimBoth, startsWhite, firstWhite, lastWhite}
 use Rattle.text_white.proofs.Cuts.{trim-octets, first-white-fresh, last-white-fresh, Splitting, split-texts}
 use Rattle.number.specs.declared.read.Number.{Number}
@@ -41,11 +41,11 @@ use Rattle.line_parts.specs.declared.method.LineRange.{LineRange}
 use Rattle.line_parts.specs.declared.method.LineRange.the-variants.{Lines, NoLines}
 use Rattle.line_parts.specs.declared.method.Method.{Method}
 use Rattle.line_parts.specs.declared.method.MethodParts.the-variants.{Parts}
-use Rattle.line_parts.specs.Spans.{span, shift, isEmpty, partOf, Lies, NameIn}
-use Rattle.line_arguments.specs.Arguments.{commaParts, filled, argumentsOf}
+use Rattle.text_places.specs.Spans.{span, shift, isEmpty, partOf, Lies}
+use Rattle.line_parts.specs.Signatures.{NameIn, qualifiedAt, qualifiedOf, linesAfter, methodSignatureAt, methodSignature}
+use Rattle.line_parts.specs.Arguments.{commaParts, filled, argumentsOf}
 use Rattle.line_parts.specs.Arrows.{sidesOf, splitAt, arrowOf, classSides}
 use Rattle.line_parts.specs.Fields.{fieldSplit, fieldOf}
-use Rattle.line_parts.specs.Signatures.{qualifiedAt, qualifiedOf, linesAfter, methodSignatureAt, methodSignature}
 use Rattle.line_parts.specs.Methods.{shiftName, shiftMethod, MethodIn, settledOf, withSignature, typeAt, methodFrom, methodAfter, methodOf}
 use Rattle.line_parts.proofs.Lying.{trim-lies, part-length, arrow-lies, signature-lies, shift-lies}
 

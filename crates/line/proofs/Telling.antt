@@ -14,7 +14,7 @@ use Rattle.text_places.proofs.PlaceLaws.{first-inside}
 use Rattle.text_places.proofs.Holds.{first-is}
 use Rattle.text_utf8.specs.Grammar.{UTF8-octets}
 use Rattle.text_utf8.proofs.Boundaries.{octets-as, fresh-ascii, drop-octets}
-use Rattle.text_white.specs.declared.trim.Span.{Span}
+use Rattle.text_places.specs.declared.spans.Span.{Span}
 use Rattle.text_white.specs.Trim.{trimBoth, startsWhite}
 use Rattle.text_white.proofs.Cuts.{trim-octets}
 use Rattle.line_parts.specs.declared.arrow.Arrow.{Arrow}
@@ -25,7 +25,7 @@ use Rattle.line_parts.specs.declared.method.MethodParts as method
 use Rattle.line_parts.specs.declared.method.MethodParts.the-variants as methods
 use Rattle.line.specs.declared.line.Line.{Line}
 use Rattle.line.specs.declared.line.Line.the-variants.{Blank, Comment, Class, Field, Method, Refused}
-use Rattle.line_parts.specs.Spans.{span, shift, isEmpty, partOf, Lies}
+use Rattle.text_places.specs.Spans.{span, shift, isEmpty, partOf, Lies}
 use Rattle.line_parts.specs.Arrows.{arrowOf, classSides}
 use Rattle.line_parts.specs.Fields.{fieldOf}
 use Rattle.line_parts.specs.Methods.{methodOf}

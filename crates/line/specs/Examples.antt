@@ -12,9 +12,9 @@ use Rattle.number.specs.Numbers.{digitsFrom, plain, numberOf}
 use Rattle.line_parts.specs.declared.signature.Qualified.the-variants.{Owned, Plain}
 use Rattle.line_parts.specs.declared.method.LineRange.the-variants.{Lines, NoLines}
 use Rattle.line.specs.declared.line.Line.the-variants.{Blank, Comment, Class, Field, Method, Refused}
-use Rattle.line_arguments.specs.Arguments.{commaParts, filled, argumentsOf}
+use Rattle.line_parts.specs.Arguments.{commaParts, filled, argumentsOf}
 use Rattle.line.specs.Kinds.{lineOf}
-use Rattle.line_parts.specs.Spans.{span}
+use Rattle.text_places.specs.Spans.{span}
 
 examples :
     -- the five lines of document 01's example

@@ -6,18 +6,18 @@ use line_parts::MethodParts;
 use line_parts::class_sides;
 use line_parts::field_parts;
 use line_parts::method_parts;
-use line_parts::shifted;
 use line_parts::shifted_method;
 use line_parts::split_arrow;
 use text_places::Place;
+use text_places::Span;
 use text_places::first_byte;
-use text_white::Span;
+use text_places::shifted;
 use text_white::starts_white;
 use text_white::trim_both;
 ghost use mathlib.Core.Path.{_≡_};
 ghost use Prim.Native.Nat.{_+_, _≤_};
 ghost use lib.ListN.{length};
-ghost use Rattle.line_parts.specs.Spans.{largest};
+ghost use Rattle.text_places.specs.Spans.{largest};
 ghost use Rattle.line.specs.Kinds.{lineOf, commentAt, classAt, memberAt, methodAt, fieldAt};
 
 pub enum Line {

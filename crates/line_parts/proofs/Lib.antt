@@ -3,3 +3,4 @@ pub mod Splits
 pub mod Members
 pub mod Lying
 pub mod Methods
+pub mod Listed

@@ -13,7 +13,7 @@ use Rattle.text_places.specs.declared.find.Place.the-variants.{At, Nowhere}
 use Rattle.text_places.specs.Places.{firstWhere, lastWhere, starts, startsPair}
 use Rattle.text_places.proofs.PlaceLaws.{first-inside, last-inside}
 use Rattle.text_places.proofs.Holds.{first-is, last-is, pair-inside}
-use Rattle.text_white.specs.declared.trim.Span.{Span}
+use Rattle.text_places.specs.declared.spans.Span.{Span}
 use Rattle.text_white.specs.Trim.{trimBoth, startsWhite, lastWhite}
 use Rattle.number.specs.declared.range.TrailingRange.{TrailingRange}
 use Rattle.line_parts.specs.declared.arrow.Arrow.the-variants.{Sides, NoArrow}
@@ -21,10 +21,10 @@ use Rattle.line_parts.specs.declared.field.Field.the-variants as field
 use Rattle.line_parts.specs.declared.signature.Qualified.{Qualified}
 use Rattle.line_parts.specs.declared.signature.Qualified.the-variants.{Owned, Plain}
 use Rattle.line_parts.specs.declared.signature.Signature.the-variants.{Parts, NoSignature}
-use Rattle.line_parts.specs.Spans.{span, shift, isEmpty, partOf, Lies, NameIn}
+use Rattle.text_places.specs.Spans.{span, shift, isEmpty, partOf, Lies}
+use Rattle.line_parts.specs.Signatures.{NameIn, qualifiedAt, qualifiedOf, linesAfter, methodSignatureAt, methodSignature}
 use Rattle.line_parts.specs.Arrows.{sidesOf, splitAt, arrowOf, classSides}
 use Rattle.line_parts.specs.Fields.{fieldSplit, fieldOf}
-use Rattle.line_parts.specs.Signatures.{qualifiedAt, qualifiedOf, linesAfter, methodSignatureAt, methodSignature}
 use Rattle.line_parts.specs.Methods.{shiftName}
 use Rattle.text_white.proofs.TrimLaws.{trim-inside, trim-order}
 

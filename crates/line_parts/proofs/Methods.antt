@@ -13,7 +13,7 @@ use Rattle.ground.proofs.Parts.{take-rest}
 use Rattle.text_places.specs.declared.find.Place.{Place}
 use Rattle.text_places.specs.declared.find.Place.the-variants.{At, Nowhere}
 use Rattle.text_places.proofs.PlaceLaws.{first-inside}
-use Rattle.text_white.specs.declared.trim.Span.{Span}
+use Rattle.text_places.specs.declared.spans.Span.{Span}
 use Rattle.text_white.specs.Trim.{trimBoth, startsWhite, firstWhite}
 use Rattle.number.specs.declared.range.LeadingRange.{LeadingRange}
 use Rattle.number.specs.declared.range.LeadingRange.the-variants as leading
@@ -30,8 +30,8 @@ use Rattle.line_parts.specs.declared.method.LineRange.the-variants.{Line
 use Rattle.line_parts.specs.declared.method.Method.{Method}
 use Rattle.line_parts.specs.declared.method.MethodParts.{MethodParts}
 use Rattle.line_parts.specs.declared.method.MethodParts.the-variants.{Parts, NoMethod}
-use Rattle.line_parts.specs.Spans.{span, shift, partOf, Lies, NameIn, largest}
-use Rattle.line_parts.specs.Signatures.{methodSignature}
+use Rattle.text_places.specs.Spans.{span, shift, partOf, Lies, largest}
+use Rattle.line_parts.specs.Signatures.{NameIn, methodSignature}
 use Rattle.line_parts.specs.Methods.{shiftName, shiftMethod, MethodIn, settledOf, withSignature, typeAt, methodFrom, methodAfter, methodOf}
 use Rattle.text_white.proofs.TrimLaws.{trim-inside, trim-order}
 use Rattle.line_parts.proofs.Lying.{part-length, trim-lies, signature-lies, shift-lies, shift-name-lies}

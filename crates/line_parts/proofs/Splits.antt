@@ -13,12 +13,12 @@ use Rattle.text_places.specs.declared.find.Place.{Place}
 use Rattle.text_places.specs.declared.find.Place.the-variants.{At, Nowhere}
 use Rattle.text_places.specs.Places.{firstWhere, startsPair}
 use Rattle.text_places.proofs.Holds.{pair-inside}
-use Rattle.text_white.specs.declared.trim.Span.{Span}
+use Rattle.text_places.specs.declared.spans.Span.{Span}
 use Rattle.text_white.specs.Trim.{trimBoth}
 use Rattle.text_white.proofs.TrimLaws.{trim-inside, trim-order}
 use Rattle.line_parts.specs.declared.arrow.Arrow.{Arrow}
 use Rattle.line_parts.specs.declared.arrow.Arrow.the-variants.{Sides, NoArrow}
-use Rattle.line_parts.specs.Spans.{shift, Lies, largest}
+use Rattle.text_places.specs.Spans.{shift, Lies, largest}
 use Rattle.line_parts.specs.Arrows.{sidesOf, splitAt, arrowOf, classSides}
 
 -- Both sides.

@@ -7,11 +7,11 @@ use Rattle.ground.specs.Choice.{pick}
 use Rattle.text_places.specs.declared.find.Place.{Place}
 use Rattle.text_places.specs.declared.find.Place.the-variants.{At, Nowhere}
 use Rattle.text_places.specs.Places.{firstWhere, startsPair}
-use Rattle.text_white.specs.declared.trim.Span.{Span}
+use Rattle.text_places.specs.declared.spans.Span.{Span}
 use Rattle.text_white.specs.Trim.{trimBoth}
 use Rattle.line_parts.specs.declared.arrow.Arrow.{Arrow}
 use Rattle.line_parts.specs.declared.arrow.Arrow.the-variants.{Sides, NoArrow}
-use Rattle.line_parts.specs.Spans.{shift, isEmpty}
+use Rattle.text_places.specs.Spans.{shift, isEmpty}
 
 -- "both sides .. are not empty"; the right one stands in what starts at the place `after`
 abbrev pub sidesOf : Span → ℕ → Span → Arrow

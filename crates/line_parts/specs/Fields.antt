@@ -7,7 +7,7 @@ use Rattle.text_places.specs.declared.find.Place.the-variants.{At, Nowhere}
 use Rattle.text_white.specs.Trim.{trimBoth, lastWhite}
 use Rattle.line_parts.specs.declared.field.Field.{Field}
 use Rattle.line_parts.specs.declared.field.Field.the-variants.{Parts, NoField}
-use Rattle.line_parts.specs.Spans.{shift}
+use Rattle.text_places.specs.Spans.{shift}
 
 -- type and name, trimmed
 abbrev pub fieldSplit : List ℕ → Place → Field

@@ -1,6 +1,6 @@
 -- The parts of a line: the written rules, from document 01 "Text and lines".
-pub mod Spans
 pub mod Arrows
 pub mod Fields
 pub mod Signatures
 pub mod Methods
+pub mod Arguments

@@ -5,7 +5,7 @@ use Prim.Native.Nat.{ℕ, _+_}
 use lib.ListN.{drop}
 use Rattle.text_places.specs.declared.find.Place.{Place}
 use Rattle.text_places.specs.declared.find.Place.the-variants.{At, Nowhere}
-use Rattle.text_white.specs.declared.trim.Span.{Span}
+use Rattle.text_places.specs.declared.spans.Span.{Span}
 use Rattle.text_white.specs.Trim.{trimBoth, firstWhite}
 use Rattle.number.specs.declared.range.LeadingRange.{LeadingRange}
 use Rattle.number.specs.declared.range.LeadingRange.the-variants as leading
@@ -21,8 +21,8 @@ use Rattle.line_parts.specs.declared.method.LineRange.the-variants.{Line
 use Rattle.line_parts.specs.declared.method.Method.{Method}
 use Rattle.line_parts.specs.declared.method.MethodParts.{MethodParts}
 use Rattle.line_parts.specs.declared.method.MethodParts.the-variants.{Parts, NoMethod}
-use Rattle.line_parts.specs.Spans.{span, shift, partOf, Lies, NameIn}
-use Rattle.line_parts.specs.Signatures.{methodSignature}
+use Rattle.text_places.specs.Spans.{span, shift, partOf, Lies}
+use Rattle.line_parts.specs.Signatures.{NameIn, methodSignature}
 
 abbrev pub shiftName : ℕ → Qualified → Qualified
 shiftName by (Owned owner name) = Owned (shift by owner) (shift by name)

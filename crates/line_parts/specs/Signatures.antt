@@ -14,7 +14,7 @@ use Rattle.line_parts.specs.declared.signature.Qualified.{Qualified}
 use Rattle.line_parts.specs.declared.signature.Qualified.the-variants.{Owned, Plain}
 use Rattle.line_parts.specs.declared.signature.Signature.{Signature}
 use Rattle.line_parts.specs.declared.signature.Signature.the-variants.{Parts, NoSignature}
-use Rattle.line_parts.specs.Spans.{span, partOf}
+use Rattle.text_places.specs.Spans.{span, partOf, Lies}
 
 -- "Before `(`: owner and name split at the last dot; no dot, the owner is this class line's display."
 abbrev pub qualifiedAt : List ℕ → Place → Qualified
@@ -37,3 +37,8 @@ methodSignatureAt s (At opened) (At close) =
 
 abbrev pub methodSignature : List ℕ → Signature
 methodSignature s = methodSignatureAt s (firstWhere (starts 0x28) s) (lastWhere (starts 0x29) s)
+
+-- a name and its owner lie in the first `n` bytes
+abbrev pub NameIn : Qualified → ℕ → Type 0
+NameIn (Owned owner name) n = Lies owner n × Lies name n
+NameIn (Plain name) n = Lies name n

@@ -1,8 +1,8 @@
 // The arrow of a class or member line, and class lines.
-use crate::spans::shifted;
 use text_places::Place;
+use text_places::Span;
 use text_places::first_pair;
-use text_white::Span;
+use text_places::shifted;
 use text_white::trim_both;
 ghost use mathlib.Core.Path.{_≡_};
 ghost use Rattle.line_parts.specs.Arrows.{arrowOf, classSides};

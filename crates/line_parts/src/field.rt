@@ -1,7 +1,7 @@
 // The left side of a field.
-use crate::spans::shifted;
 use text_places::Place;
-use text_white::Span;
+use text_places::Span;
+use text_places::shifted;
 use text_white::last_white;
 use text_white::trim_both;
 ghost use mathlib.Core.Path.{_≡_};

@@ -1,10 +1,12 @@
 // The parts of a class line and of a member line: both sides of the arrow, a field, a method. Every public function but those that only move places takes any bytes.
+mod arguments;
 mod arrow;
 mod field;
 mod method;
 mod signature;
-mod spans;
 
+pub use arguments::NextArgument;
+pub use arguments::next_argument;
 pub use arrow::Arrow;
 pub use arrow::class_sides;
 pub use arrow::split_arrow;
@@ -18,4 +20,3 @@ pub use method::shifted_method;
 pub use signature::Qualified;
 pub use signature::Signature;
 pub use signature::signature_parts;
-pub use spans::shifted;

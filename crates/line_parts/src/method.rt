@@ -2,18 +2,19 @@
 use crate::signature::Qualified;
 use crate::signature::Signature;
 use crate::signature::signature_parts;
-use crate::spans::shifted;
 use number::LeadingRange;
 use number::TrailingRange;
 use number::leading_range;
 use text_places::Place;
-use text_white::Span;
+use text_places::Span;
+use text_places::shifted;
 use text_white::first_white;
 use text_white::trim_both;
 ghost use mathlib.Core.Path.{_≡_};
 ghost use Prim.Native.Nat.{_≤_};
 ghost use lib.ListN.{length};
-ghost use Rattle.line_parts.specs.Spans.{NameIn, largest};
+ghost use Rattle.text_places.specs.Spans.{largest};
+ghost use Rattle.line_parts.specs.Signatures.{NameIn};
 ghost use Rattle.line_parts.specs.Methods.{shiftName, shiftMethod, MethodIn, settledOf, methodFrom, methodOf};
 
 // A range of line numbers, if there is one.

@@ -1,11 +1,11 @@
 // A method's name, its arguments, and what follows its `)`.
-use crate::spans::shifted;
 use number::TrailingRange;
 use number::trailing_range;
 use text_places::Place;
+use text_places::Span;
 use text_places::first_byte;
 use text_places::last_byte;
-use text_white::Span;
+use text_places::shifted;
 use text_white::trim_both;
 ghost use mathlib.Core.Path.{_≡_};
 ghost use Prim.Native.Nat.{_+_, _<_};

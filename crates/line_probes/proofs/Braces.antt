@@ -10,7 +10,7 @@ use Rattle.text_places.specs.declared.find.Place.{Place}
 use Rattle.text_places.specs.declared.find.Place.the-variants.{At, Nowhere}
 use Rattle.text_places.specs.Places.{firstWhere, starts, placeNumber}
 use Rattle.text_places.proofs.PlaceLaws.{first-inside}
-use Rattle.text_white.specs.declared.trim.Span.{Span}
+use Rattle.text_places.specs.declared.spans.Span.{Span}
 use Rattle.text_white.specs.Trim.{trimBoth, startsWhite}
 use Rattle.line_parts.specs.declared.arrow.Arrow.{Arrow}
 use Rattle.line_parts.specs.declared.arrow.Arrow.the-variants.{Sides, NoArrow}
@@ -20,7 +20,7 @@ use Rattle.line_parts.specs.declared.method.MethodParts.{MethodParts}
 use Rattle.line_parts.specs.declared.method.MethodParts.the-variants as methods
 use Rattle.line.specs.declared.line.Line.{Line}
 use Rattle.line.specs.declared.line.Line.the-variants as lines
-use Rattle.line_parts.specs.Spans.{isEmpty, partOf}
+use Rattle.text_places.specs.Spans.{isEmpty, partOf}
 use Rattle.line_parts.specs.Arrows.{arrowOf, classSides}
 use Rattle.line_parts.specs.Fields.{fieldOf}
 use Rattle.line_parts.specs.Methods.{methodOf}

@@ -10,17 +10,16 @@ use Rattle.ground.specs.Choice.{bit}
 use Rattle.text_places.specs.Places.{placeNumber}
 use Rattle.text_places.specs.declared.find.Place.{Place}
 use Rattle.text_places.specs.declared.find.Place.the-variants.{At, Nowhere}
-use Rattle.text_white.specs.declared.trim.Span.{Span}
-use Rattle.line_arguments.specs.declared.arguments.NextArgument.{NextArgument}
-use Rattle.line_arguments.specs.declared.arguments.NextArgument.the-variants.{Argument, NoArgument}
+use Rattle.text_places.specs.declared.spans.Span.{Span}
+use Rattle.line_parts.specs.declared.arguments.NextArgument.{NextArgument}
+use Rattle.line_parts.specs.declared.arguments.NextArgument.the-variants.{Argument, NoArgument}
 use Rattle.line_parts.specs.declared.signature.Qualified.{Qualified}
 use Rattle.line_parts.specs.declared.signature.Qualified.the-variants.{Owned, Plain}
 use Rattle.line_parts.specs.declared.method.Method.{Method}
 use Rattle.line.specs.declared.line.Line.{Line}
 use Rattle.line.specs.declared.line.Line.the-variants as lines
-use Rattle.line_parts.specs.Spans.{span}
-use Rattle.line_probes.specs.LineAnswers.{owned, ownerSpan, nameSpan, lined, firstLine, lastLine}
-use Rattle.line_probes.specs.LineAnswers.{sevenNumbers, commentLineNumbers, classNumbers, fieldNumbers, methodNumbers, lineKindNumbers, argumentNumbers}
+use Rattle.text_places.specs.Spans.{span}
+use Rattle.line_probes.specs.LineAnswers.{owned, ownerSpan, nameSpan, lined, firstLine, lastLine, sevenNumbers, commentLineNumbers, classNumbers, fieldNumbers, methodNumbers, lineKindNumbers, argumentNumbers}
 use Rattle.line_probes.proofs.Braces.{brace-counts}
 
 module _ {t x : Line} (e : t ≡ x) where

@@ -4,9 +4,9 @@ use Prim.Native.Nat.{ℕ}
 use Rattle.ground.specs.Choice.{bit}
 use Rattle.text_places.specs.declared.find.Place.{Place}
 use Rattle.text_places.specs.Places.{placeNumber}
-use Rattle.text_white.specs.declared.trim.Span.{Span}
-use Rattle.line_arguments.specs.declared.arguments.NextArgument.{NextArgument}
-use Rattle.line_arguments.specs.declared.arguments.NextArgument.the-variants.{Argument, NoArgument}
+use Rattle.text_places.specs.declared.spans.Span.{Span}
+use Rattle.line_parts.specs.declared.arguments.NextArgument.{NextArgument}
+use Rattle.line_parts.specs.declared.arguments.NextArgument.the-variants.{Argument, NoArgument}
 use Rattle.line_parts.specs.declared.signature.Qualified.{Qualified}
 use Rattle.line_parts.specs.declared.signature.Qualified.the-variants.{Owned, Plain}
 use Rattle.line_parts.specs.declared.method.LineRange.{LineRange}
@@ -14,7 +14,7 @@ use Rattle.line_parts.specs.declared.method.LineRange.the-variants.{Lines, NoLi
 use Rattle.line_parts.specs.declared.method.Method.{Method}
 use Rattle.line.specs.declared.line.Line.{Line}
 use Rattle.line.specs.declared.line.Line.the-variants as lines
-use Rattle.line_parts.specs.Spans.{span}
+use Rattle.text_places.specs.Spans.{span}
 
 -- 1 for a name with an owner
 abbrev pub owned : Qualified → ℕ

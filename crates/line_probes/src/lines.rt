@@ -1,14 +1,14 @@
 // What a line is, and the arguments of a method.
 use crate::methods::method_numbers;
 use line::Line;
-use line_arguments::NextArgument;
+use line_parts::NextArgument;
 use text_places::Place;
-use text_white::Span;
+use text_places::Span;
 ghost use mathlib.Core.Path.{_≡_};
 ghost use Prim.Native.Nat.{_<_, _^_};
 ghost use Rattle.text_places.specs.Places.{placeNumber};
 ghost use Rattle.line.specs.Kinds.{lineOf};
-ghost use Rattle.line_arguments.specs.Arguments.{nextArgument};
+ghost use Rattle.line_parts.specs.Arguments.{nextArgument};
 ghost use Rattle.line_probes.specs.LineAnswers.{sevenNumbers, commentLineNumbers, classNumbers, fieldNumbers, lineKindNumbers, argumentNumbers};
 
 // An answer of at most seven numbers.
@@ -112,7 +112,7 @@ pub extern "C" fn clumarief_probe_line_parts(text: &[u8], answer: &mut [u64; 20]
 pub extern "C" fn clumarief_probe_argument(text: &[u8], at: usize, answer: &mut [u64; 4])
     ensures { λ _. ⌜ now (answer .exit) ≡ argumentNumbers (nextArgument (now (text .entry)) at) ⌝ }
 {
-    match line_arguments::next_argument(text, at) {
+    match line_parts::next_argument(text, at) {
         NextArgument::Argument { start, end, next } => {
             *answer = [1, start as u64, end as u64, next as u64];
         }

@@ -2,7 +2,7 @@
 use line_parts::LineRange;
 use line_parts::Method;
 use line_parts::Qualified;
-use text_white::Span;
+use text_places::Span;
 ghost use mathlib.Core.Path.{_≡_};
 ghost use Rattle.ground.specs.Choice.{bit};
 ghost use Rattle.line_probes.specs.LineAnswers.{owned, ownerSpan, nameSpan, lined, firstLine, lastLine, methodNumbers};

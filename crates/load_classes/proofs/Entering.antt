@@ -8,7 +8,7 @@ use borrow.Author.Needs.{needs}
 use Rattle.table_pool.specs.declared.write.Wrote.{Wrote}
 use Rattle.table_pool.specs.declared.write.Wrote.the-variants as wrote
 use Rattle.table_pool.specs.Names.{classDescriptor}
-use Rattle.descriptor_pieces.specs.Pieces.{Pair}
+use Rattle.table_rows.specs.Classes.{Pair}
 use Rattle.table_pool.specs.Wrote.{Written, WroteBy}
 use Rattle.table_pool.proofs.Writes.{wrote-told, wrote-none, wrote-then, none-then}
 use Rattle.table_rows.specs.Rows.{text, packClass}

@@ -11,7 +11,7 @@ use Rattle.text_places.specs.declared.find.Place.{Place}
 use Rattle.text_places.specs.declared.find.Place.the-variants.{At, Nowhere}
 use Rattle.text_places.specs.Places.{firstWhere, starts}
 use Rattle.text_utf8.specs.Utf8.{leadOf, tails, afterLead, sequenceOf, piecesFrom}
-use Rattle.text_white.specs.declared.trim.Span.{Span}
+use Rattle.text_places.specs.declared.spans.Span.{Span}
 use Rattle.text_white.specs.White.{whiteRanges, inRanges, isWhite}
 use Rattle.text_white.specs.Trim.{runOf, trimEnd, trimBoth, startsWhite}
 use Rattle.line_parts.specs.declared.arrow.Arrow.{Arrow}
@@ -20,7 +20,7 @@ use Rattle.line_parts.specs.declared.field.Field as field
 use Rattle.line_parts.specs.declared.field.Field.the-variants as fields
 use Rattle.line_parts.specs.declared.method.MethodParts as method
 use Rattle.line_parts.specs.declared.method.MethodParts.the-variants as methods
-use Rattle.line_parts.specs.Spans.{shift, isEmpty, partOf}
+use Rattle.text_places.specs.Spans.{shift, isEmpty, partOf}
 use Rattle.line_parts.specs.Arrows.{arrowOf}
 use Rattle.line_parts.specs.Fields.{fieldOf}
 use Rattle.line_parts.specs.Methods.{methodOf}

@@ -13,17 +13,17 @@ use Rattle.text_places.specs.declared.lines.NextLine.{NextLine}
 use Rattle.text_places.specs.declared.lines.NextLine.the-variants.{Line, NoLine}
 use Rattle.text_places.specs.Lines.{lines, nextLine}
 use Rattle.text_places.proofs.Taking.{Taken, line-taken, none-taken, end-taken}
-use Rattle.line_parts.specs.Spans.{Lies}
+use Rattle.text_places.specs.Spans.{Lies}
 use Rattle.line.specs.Kinds.{lineOf}
 use Rattle.table_pool.specs.declared.write.Wrote.{Wrote}
 use Rattle.table_pool.specs.declared.write.Wrote.the-variants.{Done, NoRoom}
-use Rattle.descriptor_pieces.specs.Pieces.{Pair, join}
+use Rattle.ground.specs.Join.{join}
+use Rattle.table_rows.specs.Classes.{Pair}
 use Rattle.table_pool.specs.Wrote.{Written}
-use Rattle.table_pool.proofs.Writes.{written-length, wrote-then}
+use Rattle.table_pool.proofs.Writes.{written-length, wrote-then, wrote-as}
 use Rattle.tables.specs.Back.{readBack}
 use Rattle.load_raw_types.specs.Marks.{markOf, chained, Indexed}
 use Rattle.load_raw_types.proofs.Indexing.{indexed-none, indexed-class, read-back-class}
-use Rattle.load_raw_types.proofs.Writing.{wrote-as}
 use Rattle.load_rule.specs.Classes.{classIn, classesOf, classText, classPool, classRow, classRows}
 use Rattle.load_rule.proofs.Appended.{join-more, join-append, class-rows-length, class-rows-more}
 use Rattle.load_classes.specs.declared.names.ClassNames.{ClassNames}

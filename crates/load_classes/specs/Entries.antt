@@ -5,7 +5,7 @@ use Prim.Native.Nat.{ℕ, _+_, _<_}
 use lib.ListN.{length, set}
 use Rattle.table_pool.specs.declared.write.Wrote.{Wrote}
 use Rattle.table_pool.specs.declared.write.Wrote.the-variants as wrote
-use Rattle.descriptor_pieces.specs.Pieces.{Pair}
+use Rattle.table_rows.specs.Classes.{Pair}
 use Rattle.table_pool.specs.Wrote.{Written}
 use Rattle.load_raw_types.specs.Marks.{markOf, chained}
 use Rattle.load_rule.specs.Classes.{classText, classRow}

@@ -3,11 +3,11 @@ use mathlib.Core.Path.{_≡_}
 use mathlib.Core.List.{List, [], _∷_}
 use Prim.Native.Nat.{ℕ}
 use lib.ListN.{length}
-use Rattle.line_parts.specs.Spans.{partOf, Lies}
+use Rattle.text_places.specs.Spans.{partOf, Lies}
 use Rattle.line.specs.Kinds.{lineOf}
 use Rattle.table_pool.specs.Names.{classDescriptor}
-use Rattle.descriptor_pieces.specs.Pieces.{Pair}
-use Rattle.load_rule.specs.Classes.{pair, classIn}
+use Rattle.table_rows.specs.Classes.{Pair, pair}
+use Rattle.load_rule.specs.Classes.{classIn}
 use Rattle.load_classes.specs.declared.names.ClassNames.{ClassNames}
 use Rattle.load_classes.specs.declared.names.ClassLine.{ClassLine}
 use Rattle.load_classes.specs.declared.names.ClassLine.the-variants.{Names, Other}

@@ -10,7 +10,7 @@ use table_rows::pack_class;
 ghost use mathlib.Core.Path.{_≡_};
 ghost use Prim.Native.Nat.{_≤_, _<_, _-_};
 ghost use lib.ListN.{length};
-ghost use Rattle.line_parts.specs.Spans.{Lies};
+ghost use Rattle.text_places.specs.Spans.{Lies};
 ghost use Rattle.table_pool.specs.Names.{classDescriptor};
 ghost use Rattle.table_rows.specs.Rows.{text, packClass};
 ghost use Rattle.load_classes.specs.Entries.{PairBy, EnteredClassBy};

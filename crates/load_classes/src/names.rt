@@ -1,7 +1,7 @@
 // The names of a class line.
 use line::Line;
 use line::read_line;
-use text_white::Span;
+use text_places::Span;
 ghost use Rattle.load_classes.specs.Names.{NamedBy};
 
 pub struct ClassNames {

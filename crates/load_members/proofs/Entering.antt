@@ -9,19 +9,21 @@ use lib.Dec.{eqb}
 use lib.ListN.{length}
 use borrow.Author.Tests.{eqb-false}
 use Rattle.ground.specs.Choice.{pick}
-use Rattle.text_white.specs.declared.trim.Span.{Span}
+use Rattle.text_places.specs.declared.spans.Span.{Span}
 use Rattle.text_white.specs.Trim.{trimBoth}
 use Rattle.line_parts.specs.declared.signature.Qualified.{Qualified}
 use Rattle.line_parts.specs.declared.signature.Qualified.the-variants.{Owned, Plain}
 use Rattle.line_parts.specs.declared.method.Method as method
 use Rattle.line.specs.declared.line.Line.{Line}
 use Rattle.line.specs.declared.line.Line.the-variants as kinds
-use Rattle.line_parts.specs.Spans.{partOf, Lies, NameIn}
-use Rattle.line_arguments.specs.Arguments.{argumentsOf}
+use Rattle.text_places.specs.Spans.{partOf, Lies}
+use Rattle.line_parts.specs.Signatures.{NameIn}
+use Rattle.line_parts.specs.Arguments.{argumentsOf}
 use Rattle.line.specs.Kinds.{lineOf}
 use Rattle.line_parts.proofs.Lying.{trim-lies, lies-more, name-more}
 use Rattle.line.proofs.Whole.{LineIn, line-lies}
-use Rattle.descriptor_pieces.specs.Pieces.{Pair, Look, known, unknown}
+use Rattle.ground.specs.Look.{Look, known, unknown}
+use Rattle.table_rows.specs.Classes.{Pair}
 use Rattle.table_rows.specs.declared.rows.Member as rows
 use Rattle.table_rows.specs.Rows.{packMember}
 use Rattle.load_rule.specs.Fates.{ownerless, faultOf, classLine}

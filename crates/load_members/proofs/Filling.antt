@@ -13,17 +13,16 @@ use Rattle.ground.proofs.Parts.{part-part}
 use Rattle.ground.proofs.PutLaws.{put-nothing, put-set}
 use Rattle.text_places.specs.Lines.{lines}
 use Rattle.text_places.proofs.Taking.{Taken, end-taken}
-use Rattle.text_white.specs.declared.trim.Span.{Span}
-use Rattle.line_parts.specs.Spans.{span, partOf, Lies}
+use Rattle.text_places.specs.declared.spans.Span.{Span}
+use Rattle.text_places.specs.Spans.{span, partOf, Lies}
 use Rattle.line.specs.Kinds.{lineOf}
 use Rattle.table_pool.specs.declared.write.Wrote.the-variants.{Done}
-use Rattle.descriptor_pieces.specs.Pieces.{join}
-use Rattle.table_pool.proofs.Writes.{written-length, wrote-then}
+use Rattle.ground.specs.Join.{join}
+use Rattle.table_pool.proofs.Writes.{written-length, wrote-then, wrote-as}
 use Rattle.table_rows.specs.Rows.{packMember}
 use Rattle.tables.specs.Back.{readBack}
 use Rattle.load_raw_types.specs.Marks.{Indexed}
 use Rattle.load_raw_types.proofs.Indexing.{read-back-put, indexed-put}
-use Rattle.load_raw_types.proofs.Writing.{wrote-as}
 use Rattle.load_rule.specs.declared.Fates.{Fates}
 use Rattle.load_rule.specs.declared.Scan.{Scan}
 use Rattle.load_rule.specs.declared.Scan.the-variants as scan

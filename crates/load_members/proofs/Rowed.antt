@@ -5,7 +5,7 @@ use Prim.Native.Nat.{ℕ, _-_, _≤_}
 use native.Mathlib.Omega.{arith}
 use lib.ListN.{length}
 use borrow.Author.Needs.{needs}
-use Rattle.text_white.specs.declared.trim.Span.{Span}
+use Rattle.text_places.specs.declared.spans.Span.{Span}
 use Rattle.line_parts.specs.declared.method.LineRange.{LineRange}
 use Rattle.line_parts.specs.declared.method.LineRange.the-variants.{Lines, NoLines}
 use Rattle.line_parts.specs.declared.method.Method as method

@@ -10,8 +10,8 @@ use mir.Syntax.{w64}
 use borrow.Author.Needs.{needs}
 use Rattle.ground.proofs.Parts.{take-rest}
 use Rattle.text_places.specs.Lines.{lines}
-use Rattle.text_white.specs.declared.trim.Span.{Span}
-use Rattle.line_parts.specs.Spans.{Lies}
+use Rattle.text_places.specs.declared.spans.Span.{Span}
+use Rattle.text_places.specs.Spans.{Lies}
 use Rattle.table_rows.specs.Rows.{packMember}
 use Rattle.tables.specs.Back.{readBack}
 use Rattle.load_raw_types.specs.Marks.{Indexed}

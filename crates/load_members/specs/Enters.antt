@@ -5,9 +5,9 @@ use mathlib.Core.List.{List}
 use Prim.Native.Nat.{ℕ, _+_, _-_, _≤_, _<_}
 use lib.ListN.{length, set, drop}
 use Rattle.text_places.specs.Lines.{lines}
-use Rattle.text_white.specs.declared.trim.Span.{Span}
-use Rattle.line_parts.specs.Spans.{span, partOf, Lies}
-use Rattle.descriptor_pieces.specs.Pieces.{Pair}
+use Rattle.text_places.specs.declared.spans.Span.{Span}
+use Rattle.text_places.specs.Spans.{span, partOf, Lies}
+use Rattle.table_rows.specs.Classes.{Pair}
 use Rattle.table_rows.specs.Rows.{packMember}
 use Rattle.tables.specs.Back.{readBack}
 use Rattle.load_raw_types.specs.Marks.{Indexed}

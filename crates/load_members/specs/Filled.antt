@@ -5,7 +5,7 @@ use mathlib.Core.List.{List, []}
 use Prim.Native.Nat.{ℕ, _+_, _≤_, _<_}
 use lib.ListN.{length}
 use Rattle.ground.specs.Put.{put}
-use Rattle.descriptor_pieces.specs.Pieces.{Pair}
+use Rattle.table_rows.specs.Classes.{Pair}
 use Rattle.table_pool.specs.Wrote.{Written}
 use Rattle.load_rule.specs.declared.Fates.{Fates}
 use Rattle.load_rule.specs.declared.Scan.{Scan}

@@ -1,5 +1,5 @@
 -- What a line is to the rows.
-use Rattle.text_white.specs.declared.trim.Span.{Span}
+use Rattle.text_places.specs.declared.spans.Span.{Span}
 use Rattle.line_parts.specs.declared.signature.Qualified.{Qualified}
 use Rattle.line_parts.specs.declared.signature.Qualified.the-variants.{Owned, Plain}
 use Rattle.line.specs.declared.line.Line.{Line}

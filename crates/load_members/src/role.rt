@@ -3,7 +3,7 @@ use line::Line;
 use line_parts::Qualified;
 use load_texts::Body;
 use load_texts::MemberLine;
-use text_white::Span;
+use text_places::Span;
 ghost use mathlib.Core.Path.{_≡_};
 ghost use Rattle.load_members.specs.Roles.{nameSpan, roleOf};
 

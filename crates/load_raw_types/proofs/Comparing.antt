@@ -13,8 +13,8 @@ use mathlib.Core.Logic.{_⊎_, inl, inr}
 use Rattle.ground.proofs.Cases.{le-or-lt}
 use Rattle.text_places.specs.Places.{same}
 use Rattle.text_places.proofs.PlaceLaws.{matching-uneven, same-equal, same-refl}
-use Rattle.load_raw_types.specs.Raw.{slashIf, nameBytes, classPiece}
-use Rattle.load_raw_types.proofs.Writing.{name-length, name-byte}
+use Rattle.table_pool.specs.Names.{slashIf, nameBytes, classPiece}
+use Rattle.table_pool.proofs.Naming.{name-length, name-byte}
 
 -- Texts that differ at a place.
 differs-at : (s t : List ℕ) (i : ℕ) → (getD s i 0 ≡ getD t i 0 → ⊥) → false ≡ same s t

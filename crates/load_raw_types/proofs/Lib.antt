@@ -1,7 +1,6 @@
 -- Laws of raw descriptors, one file a subject.
 pub mod Pieces
 pub mod Marking
-pub mod Writing
 pub mod Comparing
 pub mod Chains
 pub mod Searching

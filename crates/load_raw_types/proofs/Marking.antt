@@ -13,8 +13,7 @@ use mir.Syntax.{w8, w64}
 use lib.Seq.{drop-cons}
 use borrow.Author.Needs.{needs}
 use Rattle.ground.specs.Choice.{pick}
-use Rattle.table_pool.specs.Names.{slash, classDescriptor}
-use Rattle.load_raw_types.specs.Raw.{slashIf, nameBytes, classPiece}
+use Rattle.table_pool.specs.Names.{slash, classDescriptor, slashIf, nameBytes, classPiece}
 use Rattle.load_raw_types.specs.Marks.{markFrom, markOf, chained}
 
 -- a slash is one already

@@ -14,11 +14,10 @@ use Rattle.text_places.specs.declared.find.Place.the-variants.{At, Nowhere}
 use Rattle.text_places.specs.Places.{firstFrom, firstWhere, starts}
 use Rattle.text_places.proofs.PlaceLaws.{first-inside}
 use Rattle.text_places.proofs.Holds.{first-is}
-use Rattle.descriptor_pieces.specs.declared.pieces.Part.the-variants.{Piece, Plain}
-use Rattle.table_pool.specs.Names.{slash}
-use Rattle.descriptor_pieces.specs.Pieces.{Look, lookOr, turn, pieceAt, plainAt, partAt}
-use Rattle.descriptor_pieces.proofs.Turning.{turn-piece, turn-plain, turn-end}
-use Rattle.load_raw_types.specs.Raw.{slashIf, nameBytes, classPiece}
+use Rattle.table_pool.specs.Names.{slash, slashIf, nameBytes, classPiece}
+use Rattle.ground.specs.Look.{Look, lookOr}
+use Rattle.descriptor.specs.Pieces.{turn}
+use Rattle.descriptor.proofs.Turning.{turn-end, piece-step, plain-step, stays-step}
 
 -- Lists that a map goes over.
 pub map-take : (f : ℕ → ℕ) (n : ℕ) (l : List ℕ) → take n (map f l) ≡ map f (take n l)
@@ -93,48 +92,6 @@ stored-keeps b p q false x = refl
 stored-first : (b : ℕ) → eqb 0x2F b ≡ false → eqb 0x2E b ≡ false → (dots : Bool) (at : ℕ) (l : List ℕ) → firstFrom (starts b) at (nameBytes dots l) ≡ firstFrom (starts b) at l
 stored-first b p q dots at l = first-map (slashIf dots) b (stored-keeps b p q dots) at l
 
--- Turning a text that begins with an `L`, by the place of its `;`.
-turn-closed : (look : List ℕ → Look) (l : List ℕ) (i : ℕ) → firstWhere (starts 0x3B) (0x4C ∷ l) ≡ At i →
-    turn look (0x4C ∷ l) ≡ lookOr (take (i + 1) (0x4C ∷ l)) (look (take (i + 1) (0x4C ∷ l))) ++ turn look (drop (i + 1) (0x4C ∷ l))
-turn-closed look l i e =
-    let z : 0 + i + 1 ≡ i + 1 = omega arith in
-    let y : i + 1 - 0 ≡ i + 1 = omega arith in
-    let f : partAt (0x4C ∷ l) 0 ≡ Piece (i + 1) = ap (pieceAt 0 (length (0x4C ∷ l))) e ∙ ap Piece z in
-    rw y at (turn-piece look (0x4C ∷ l) 0 (i + 1) (omega arith) f)
-
--- Turning any text up to its first `L`.
-turn-gap : (look : List ℕ → Look) (l : List ℕ) (i : ℕ) → firstWhere (starts 0x4C) l ≡ At i → turn look l ≡ take i l ++ turn look (drop i l)
-unfolding firstFrom
-turn-gap look [] i e = absurd (let n : _≡_ {A = ℕ} 0 1 = cc in omega arith)
-turn-gap look (x ∷ l) i e = go (eqb x 0x4C) refl
-  where
-    go : (t : Bool) → eqb x 0x4C ≡ t → turn look (x ∷ l) ≡ take i (x ∷ l) ++ turn look (drop i (x ∷ l))
-    go true q = let h : 0 ≡ i = let f : pick true (At 0) (firstFrom (starts 0x4C) 1 l) ≡ At i = rw q at e in cc in rw (← h)
-    go false q =
-        let y : i - 0 ≡ i = omega arith in
-        let g : firstFrom (starts 0x4C) 1 l ≡ At i = rw q at e in
-        let z : 0 + i ≡ i = omega arith in
-        let f : partAt (x ∷ l) 0 ≡ Plain i = rw q (ap (plainAt 0 (length (x ∷ l))) g ∙ ap Plain z) in
-        rw y at (turn-plain look (x ∷ l) 0 i (omega arith) f)
-
-all-plain : (look : List ℕ → Look) (l : List ℕ) → turn look l ≡ take (length l) l ++ turn look (drop (length l) l) → turn look l ≡ l
-all-plain look l e = e ∙ rw (take-length l, drop-length l, turn-end look) (append-nil l)
-
-pub turn-none : (look : List ℕ → Look) (l : List ℕ) → firstWhere (starts 0x4C) l ≡ Nowhere → turn look l ≡ l
-unfolding firstFrom
-turn-none look [] e = turn-end look
-turn-none look (x ∷ l) e = go (eqb x 0x4C) refl
-  where
-    go : (t : Bool) → eqb x 0x4C ≡ t → turn look (x ∷ l) ≡ x ∷ l
-    go true q = absurd (let f : pick true (At 0) (firstFrom (starts 0x4C) 1 l) ≡ Nowhere = rw q at e in let n : _≡_ {A = ℕ} 0 1 = cc in omega arith)
-    go false q =
-        let n : ℕ = length (x ∷ l) in
-        let g : firstFrom (starts 0x4C) 1 l ≡ Nowhere = rw q at e in
-        let z : 0 + n ≡ n = omega arith in
-        let f : partAt (x ∷ l) 0 ≡ Plain n = rw q (ap (plainAt 0 n) g ∙ ap Plain z) in
-        let y : n - 0 ≡ n = omega arith in
-        all-plain look (x ∷ l) (rw y at (turn-plain look (x ∷ l) 0 n (omega arith) f))
-
 -- The text `s` is what stands between an `L` and the last `;`.
 module _ (look : List ℕ → Look) (dots : Bool) (s : List ℕ) where
   whole-size : length (nameBytes dots s) ≡ length s
@@ -147,7 +104,7 @@ module _ (look : List ℕ → Look) (dots : Bool) (s : List ℕ) where
       let m : firstFrom (starts 0x3B) 1 (nameBytes dots s) ≡ Nowhere = stored-first 0x3B refl refl dots 1 s ∙ first-nowhere 0x3B 0 s e in
       let f : firstWhere (starts 0x3B) (classPiece dots s) ≡ At (length (nameBytes dots s) + 1) = first-none 0x3B 1 (nameBytes dots s) (0x3B ∷ []) m in
       let n : length (classPiece dots s) ≡ length (nameBytes dots s) + 1 + 1 = let k = length-append (nameBytes dots s) (0x3B ∷ []) in omega arith in
-      let t = turn-closed look (nameBytes dots s ++ (0x3B ∷ [])) (length (nameBytes dots s) + 1) f in
+      let t = piece-step look 0x4C (nameBytes dots s ++ (0x3B ∷ [])) refl f in
       t ∙ rw (← n, take-all (length (classPiece dots s)) (classPiece dots s) (omega arith), drop-length (classPiece dots s), turn-end look) (append-nil (lookOr (classPiece dots s) (look (classPiece dots s))))
 
   -- a `;` in it: the piece up to there, and what follows
@@ -165,7 +122,7 @@ module _ (look : List ℕ → Look) (dots : Bool) (s : List ℕ) where
       let front : take (suc i) (nameBytes dots s ++ (0x3B ∷ [])) ≡ nameBytes dots (take i s) ++ (0x3B ∷ []) = take-append-le (suc i) (nameBytes dots s) (0x3B ∷ []) (omega arith) ∙ is in
       let back : drop (suc i) (nameBytes dots s ++ (0x3B ∷ [])) ≡ nameBytes dots (drop (i + 1) s) ++ (0x3B ∷ []) =
       drop-append-le (suc i) (nameBytes dots s) (0x3B ∷ []) (omega arith) ∙ ap (λ l. l ++ (0x3B ∷ [])) (map-drop (slashIf dots) (suc i) s ∙ ap (λ n. nameBytes dots (drop n s)) down) in
-      turn-closed look (nameBytes dots s ++ (0x3B ∷ [])) (suc i) f ∙ rw (up, front, back)
+      piece-step look 0x4C (nameBytes dots s ++ (0x3B ∷ [])) refl f ∙ rw (up, front, back)
     where
       semicolon : slashIf dots 0x3B ≡ 0x3B
       semicolon = go dots
@@ -193,10 +150,10 @@ module _ (look : List ℕ → Look) (dots : Bool) (s : List ℕ) where
       let rest : drop i (nameBytes dots s) ≡ 0x4C ∷ nameBytes dots (drop (i + 1) s) =
       drop-cons (nameBytes dots s) i 0 (omega arith) ∙ rw (byte, map-drop (slashIf dots) (suc i) s, ← add-one i) in
       let back : drop i (nameBytes dots s ++ (0x3B ∷ [])) ≡ classPiece dots (drop (i + 1) s) = drop-append-le i (nameBytes dots s) (0x3B ∷ []) (omega arith) ∙ ap (λ l. l ++ (0x3B ∷ [])) rest in
-      turn-gap look (nameBytes dots s ++ (0x3B ∷ [])) i (first-more 0x4C 0 (nameBytes dots s) (0x3B ∷ []) m) ∙ rw (front, back)
+      plain-step look (nameBytes dots s ++ (0x3B ∷ [])) (first-more 0x4C 0 (nameBytes dots s) (0x3B ∷ []) m) ∙ rw (front, back)
 
   pub plain-all : firstWhere (starts 0x4C) s ≡ Nowhere → turn look (nameBytes dots s ++ (0x3B ∷ [])) ≡ nameBytes dots s ++ (0x3B ∷ [])
   unfolding firstFrom
   plain-all e =
       let m : firstWhere (starts 0x4C) (nameBytes dots s) ≡ Nowhere = stored-first 0x4C refl refl dots 0 s ∙ e in
-      turn-none look (nameBytes dots s ++ (0x3B ∷ [])) (first-none 0x4C 0 (nameBytes dots s) (0x3B ∷ []) m)
+      stays-step look (nameBytes dots s ++ (0x3B ∷ [])) (first-none 0x4C 0 (nameBytes dots s) (0x3B ∷ []) m)

@@ -10,49 +10,32 @@ use mir.Val.{Fits}
 use mir.Syntax.{w64}
 use lib.Seq.{drop-cons, getD-drop}
 use borrow.Author.Needs.{needs}
-use Rattle.ground.specs.Choice.{pick}
 use Rattle.ground.proofs.Cases.{le-or-lt}
 use Rattle.text_places.specs.Places.{same}
 use Rattle.text_places.proofs.PlaceLaws.{same-equal}
-use Rattle.table_pool.specs.Names.{classDescriptor}
-use Rattle.descriptor_pieces.specs.Pieces.{known, unknown, orLook, shown, back}
+use Rattle.table_pool.specs.Names.{classDescriptor, classPiece}
 use Rattle.table_rows.specs.Rows.{unpackClass}
-use Rattle.tables.specs.Back.{textIn, readBack}
-use Rattle.load_raw_types.specs.Raw.{classPiece}
+use Rattle.tables.specs.declared.search.Found.the-variants.{Row, Unknown}
+use Rattle.tables.specs.Back.{textIn}
+use Rattle.tables.specs.Search.{lastDisplay}
+use Rattle.tables.proofs.Searching.{Scanning, scanning-from, scanning-found, scanning-ends}
 use Rattle.load_raw_types.specs.Marks.{markOf, rowMark, lastBelow, Indexed}
-use Rattle.load_raw_types.specs.Found.{FoundAt}
 use Rattle.load_raw_types.proofs.Marking.{mark-piece, mark-below}
 use Rattle.load_raw_types.proofs.Chains.{last-inside, last-above, last-mark}
 
-module _ (pool p : List ℕ) where
-  -- whether a class row has the display descriptor `p`
-  abbrev isRow : List ℕ → Bool
-  isRow row = same (textIn pool (unpackClass row .display)) p
-
-  step : (row : List ℕ) (rows : List (List ℕ)) → back (readBack (row ∷ rows) pool) p ≡ orLook (back (readBack rows pool) p) (pick (isRow row) (known (textIn pool (unpackClass row .raw))) unknown)
-  unfolding shown
-  step row rows = refl
-
-  -- no row has it
-  none-known : (rows : List (List ℕ)) → ((i : ℕ) → i < length rows → isRow (getD rows i []) ≡ false) → back (readBack rows pool) p ≡ unknown
-  unfolding shown
-  none-known [] n = refl
-  none-known (row ∷ rows) n = step row rows ∙ rw (none-known rows (λ i h. n (suc i) (omega arith)), n 0 (omega arith))
-
-  -- an answer of the rows behind is that of all
-  known-before : (row : List ℕ) (rows : List (List ℕ)) {q : List ℕ} → back (readBack rows pool) p ≡ known q → back (readBack (row ∷ rows) pool) p ≡ known q
-  known-before row rows e = step row rows ∙ rw e
-
-  known-all : (rows : List (List ℕ)) (i : ℕ) {q : List ℕ} → i ≤ length rows → back (readBack (drop i rows) pool) p ≡ known q → back (readBack rows pool) p ≡ known q
-  known-all rows zero h e = e
-  known-all rows (suc i) {q} h e =
-      known-all rows i (omega arith) (ap (λ l. back (readBack l pool) p) (drop-cons rows i [] h) ∙ known-before (getD rows i []) (drop (suc i) rows) e)
+-- whether a class row has the display descriptor `p`
+abbrev isRow : List ℕ → List ℕ → List ℕ → Bool
+isRow pool p row = same (textIn pool (unpackClass row .display)) p
 
 -- No row from the number `count` on has the display descriptor `p`, and the one before has its mark.
 pub record Behind (rows : List (List ℕ)) (pool p : List ℕ) (count : ℕ) : Type 0 where
   pub inside : count ≤ length rows
   pub none : (i : ℕ) → count ≤ i → i < length rows → isRow pool p (getD rows i []) ≡ false
   pub at-mark : 0 < count → rowMark rows pool (count - 1) ≡ markOf p
+
+-- as a search that asks every row has it
+behind-scanned : {rows : List (List ℕ)} {pool p : List ℕ} {count : ℕ} → Behind rows pool p count → Scanning (isRow pool p) rows count
+behind-scanned {rows} {pool} {p} {count} k = scanning-from (isRow pool p) rows count (k .inside) (k .none)
 
 -- a row of another mark has another display descriptor
 other-mark : (rows : List (List ℕ)) (pool p : List ℕ) (i : ℕ) → (rowMark rows pool i ≡ markOf p → ⊥) → isRow pool p (getD rows i []) ≡ false
@@ -111,19 +94,8 @@ module _ {rows : List (List ℕ)} {pool index : List ℕ} (x : Indexed rows pool
       decided : isRow pool p (getD rows (count - 1) []) ≡ b
       decided = sym (g ∙ rw (e, f))
 
-      here : drop (count - 1) rows ≡ getD rows (count - 1) [] ∷ drop count rows
-      here = let i = k .inside in let up : suc (count - 1) ≡ count = omega arith in drop-cons rows (count - 1) [] (omega arith) ∙ ap (λ j. getD rows (count - 1) [] ∷ drop j rows) up
-
-      none-behind : back (readBack (drop count rows) pool) p ≡ unknown
-      none-behind =
-          none-known pool p (drop count rows)
-          (λ i h. ap (isRow pool p) (getD-drop count rows i []) ∙ k .none (count + i) (omega arith) (let n = length-drop count rows in omega arith))
-
-      stepped : back (readBack (drop (count - 1) rows) pool) p ≡ pick b (known (textIn pool (unpackClass (getD rows (count - 1) []) .raw))) unknown
-      stepped = ap (λ r. back (readBack r pool) p) here ∙ step pool p (getD rows (count - 1) []) (drop count rows) ∙ rw (none-behind, decided)
-
-      pub behind-found : b ≡ true → FoundAt (count - 1) rows pool p
-      behind-found h = record { inside = row-inside; answers = sym (known-all pool p rows (count - 1) (let i = k .inside in omega arith) (stepped ∙ rw h)) }
+      pub behind-found : b ≡ true → Row (count - 1) ≡ lastDisplay rows pool p
+      behind-found h = scanning-found (behind-scanned k) l (decided ∙ h)
 
       pub behind-more : b ≡ false → {next : ℕ} → next ≡ getD index (8192 + (count - 1)) 0 → Behind rows pool p next
       behind-more h {next} o =
@@ -134,7 +106,7 @@ module _ {rows : List (List ℕ)} {pool index : List ℕ} (x : Indexed rows pool
           go j v (inl u) z = k .none j u v
           go j v (inr u) z = let same-row : j ≡ count - 1 = omega arith in ap (λ i. isRow pool p (getD rows i [])) same-row ∙ decided ∙ h
 
-pub behind-none : {rows : List (List ℕ)} {pool p : List ℕ} {count : ℕ} → Behind rows pool p count → count ≤ 0 → unknown ≡ back (readBack rows pool) p
-behind-none {rows} {pool} {p} k h = sym (none-known pool p rows (λ i l. k .none i (omega arith) l))
+pub behind-none : {rows : List (List ℕ)} {pool p : List ℕ} {count : ℕ} → Behind rows pool p count → count ≤ 0 → Unknown ≡ lastDisplay rows pool p
+behind-none k h = scanning-ends (behind-scanned k) h
 
 pub ruleset searching = (mark-in-index, behind-starts, row-inside, display-inside, link-fits, link-in-index, next-less, behind-found, behind-more, behind-none, needs)

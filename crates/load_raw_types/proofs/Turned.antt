@@ -16,28 +16,27 @@ use Rattle.text_places.specs.Places.{firstWhere, starts}
 use Rattle.text_places.proofs.PlaceLaws.{first-inside}
 use Rattle.table_pool.specs.declared.write.Wrote.{Wrote}
 use Rattle.table_pool.specs.declared.write.Wrote.the-variants.{Done, NoRoom}
-use Rattle.descriptor_pieces.specs.Pieces.{Look, unknown, lookOr, turn, back}
+use Rattle.ground.specs.Look.{Look, lookOr}
+use Rattle.table_rows.specs.Classes.{back}
+use Rattle.descriptor.specs.Pieces.{turn}
 use Rattle.table_pool.specs.Wrote.{Written, WroteBy}
-use Rattle.table_pool.proofs.Writes.{wrote-told, none-then, wrote-none}
+use Rattle.table_pool.proofs.Writes.{wrote-told, none-then, wrote-none, wrote-as}
 use Rattle.table_rows.specs.Rows.{unpackClass}
 use Rattle.tables.specs.Back.{textIn, readBack}
-use Rattle.load_raw_types.specs.declared.search.FoundClass.{FoundClass}
-use Rattle.load_raw_types.specs.declared.search.FoundClass.the-variants.{Row, Unknown}
-use Rattle.load_raw_types.specs.Raw.{nameBytes, classPiece}
+use Rattle.tables.specs.declared.search.Found.{Found}
+use Rattle.tables.specs.declared.search.Found.the-variants.{Row, Unknown}
+use Rattle.tables.specs.Search.{lastDisplay}
+use Rattle.tables.proofs.Searching.{display-found, display-unknown}
+use Rattle.table_pool.specs.Names.{nameBytes, classPiece}
 use Rattle.load_raw_types.specs.Marks.{Indexed}
-use Rattle.load_raw_types.specs.Found.{FoundAt, FoundBy}
 use Rattle.load_raw_types.specs.Stretches.{insidePiece, outsidePiece, Stretched}
-use Rattle.load_raw_types.proofs.Writing.{wrote-as}
 use Rattle.load_raw_types.proofs.Pieces.{piece-whole, piece-first, plain-first, plain-all}
 use Rattle.load_raw_types.proofs.Indexing.{indexed-all}
 
 -- One piece.
-module _ (rows : List (List ℕ)) (pool p : List ℕ) (r : FoundClass) (f : FoundBy r rows pool p) where
-  at-row : {i : ℕ} → r ≡ Row i → FoundAt i rows pool p
-  at-row e = rw e at f
-
+module _ (rows : List (List ℕ)) (pool p : List ℕ) (r : Found) (f : r ≡ lastDisplay rows pool p) where
   pub found-inside : {i : ℕ} → r ≡ Row i → i < length rows
-  found-inside e = at-row e .inside
+  found-inside e = display-found rows pool p (sym f ∙ e) .0
 
   pub found-below : {index : List ℕ} {at : ℕ} → Indexed rows pool index at → {i : ℕ} → r ≡ Row i → {a n : ℕ} → a ≡ getD (getD rows i []) 0 0 → n ≡ getD (getD rows i []) 1 0 → a + n ≤ at
   found-below x {i} e g h = let b = x .raw-below i (found-inside e) in omega arith
@@ -46,10 +45,10 @@ module _ (rows : List (List ℕ)) (pool p : List ℕ) (r : FoundClass) (f : Foun
       WroteBy t pool at (lookOr p (back (readBack rows pool) p)) d
   found-put {i} e {a} {n} g h t at d w =
       let is : take n (drop a pool) ≡ textIn pool (unpackClass (getD rows i []) .raw) = rw (g, h) in
-      wrote-as t pool at d (is ∙ ap (lookOr p) (at-row e .answers)) w
+      wrote-as t pool at d (is ∙ ap (lookOr p) (sym (display-found rows pool p (sym f ∙ e) .1))) w
 
   pub unknown-put : r ≡ Unknown → (t : Wrote) (at : ℕ) (d : List ℕ) → WroteBy t pool at p d → WroteBy t pool at (lookOr p (back (readBack rows pool) p)) d
-  unknown-put e t at d w = let u : unknown ≡ back (readBack rows pool) p = rw e at f in wrote-as t pool at d (ap (lookOr p) u) w
+  unknown-put e t at d w = wrote-as t pool at d (ap (lookOr p) (sym (display-unknown rows pool p (sym f ∙ e)))) w
 
 pub ruleset turning-one = (indexed-all, found-inside, found-below, found-put, unknown-put, needs)
 

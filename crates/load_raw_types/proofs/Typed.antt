@@ -19,16 +19,20 @@ use Rattle.table_pool.specs.declared.write.Wrote.the-variants.{Done, NoRoom}
 use Rattle.descriptor.specs.declared.types.Base.{Base}
 use Rattle.descriptor.specs.declared.types.Base.the-variants.{Letter, Kept, Named}
 use Rattle.descriptor.specs.declared.types.TypeShape.{TypeShape}
-use Rattle.descriptor.specs.Types.{partOf, wordLetter, keptText, baseOf, baseBytes, shapeOf, shapeBytes}
-use Rattle.descriptor_pieces.specs.Pieces.{Look, partsFrom, join, turn, back}
+use Rattle.ground.specs.Put.{between}
+use Rattle.descriptor.specs.Types.{wordLetter, keptText, baseOf, baseBytes, shapeOf, shapeBytes}
+use Rattle.ground.specs.Look.{Look}
+use Rattle.ground.specs.Join.{join}
+use Rattle.table_rows.specs.Classes.{back}
+use Rattle.descriptor.specs.Pieces.{partsFrom, turn}
 use Rattle.table_pool.specs.Wrote.{Written, WroteBy}
-use Rattle.table_pool.proofs.Writes.{wrote-told, wrote-none, wrote-then, none-then}
+use Rattle.table_pool.proofs.Writes.{wrote-told, wrote-none, wrote-then, none-then, wrote-as}
 use Rattle.descriptor.proofs.Typing.{type-order, type-inside}
 use Rattle.tables.specs.Back.{readBack}
-use Rattle.load_raw_types.specs.Raw.{nameBytes, classPiece, rawTypeOf}
+use Rattle.descriptor.specs.Raw.{rawTypeOf}
+use Rattle.table_pool.specs.Names.{nameBytes, classPiece}
 use Rattle.load_raw_types.specs.Marks.{Indexed}
-use Rattle.load_raw_types.proofs.Writing.{wrote-as}
-use Rattle.load_raw_types.proofs.Pieces.{turn-none}
+use Rattle.descriptor.proofs.Turning.{stays-step}
 use Rattle.load_raw_types.proofs.Indexing.{indexed-put, read-back-put}
 
 -- None of the nine letters is an `L`.
@@ -63,7 +67,7 @@ unfolding firstFrom
 one-nowhere x e = rw e
 
 turn-letter : (look : List ℕ → Look) (x : ℕ) → eqb x 0x4C ≡ false → turn look (x ∷ []) ≡ x ∷ []
-turn-letter look x e = turn-none look (x ∷ []) (one-nowhere x e)
+turn-letter look x e = stays-step look (x ∷ []) (one-nowhere x e)
 
 -- A text that is kept is a piece.
 map-same : (s : List ℕ) → nameBytes false s ≡ s
@@ -127,12 +131,12 @@ module _ (text : List ℕ) {t : TypeShape} (e : t ≡ shapeOf text) where
   shape-base = rw e
 
 module _ {rows : List (List ℕ)} {pool index : List ℕ} {at : ℕ} (x : Indexed rows pool index at) (text : List ℕ) {t : TypeShape} (e : t ≡ shapeOf text) (r : Wrote) (d : List ℕ) (w : WroteBy r pool at (replicate (t .brackets) 0x5B) d) where
-  whole : rawTypeOf (readBack rows pool) text ≡ replicate (t .brackets) 0x5B ++ turn (back (readBack rows pool)) (baseBytes (t .base) (partOf text (t .start) (t .«end»)))
-  whole = ap (λ s. turn (back (readBack rows pool)) (shapeBytes s text)) (sym e) ∙ turn-brackets (back (readBack rows pool)) (t .brackets) (baseBytes (t .base) (partOf text (t .start) (t .«end»)))
+  whole : rawTypeOf (readBack rows pool) text ≡ replicate (t .brackets) 0x5B ++ turn (back (readBack rows pool)) (baseBytes (t .base) (between text (t .start) (t .«end»)))
+  whole = ap (λ s. turn (back (readBack rows pool)) (shapeBytes s text)) (sym e) ∙ turn-brackets (back (readBack rows pool)) (t .brackets) (baseBytes (t .base) (between text (t .start) (t .«end»)))
 
   pub raw-no-room : r ≡ NoRoom → length pool < at + length (rawTypeOf (readBack rows pool) text)
   raw-no-room f =
-      rw whole (none-then pool at (replicate (t .brackets) 0x5B) (turn (back (readBack rows pool)) (baseBytes (t .base) (partOf text (t .start) (t .«end»))))
+      rw whole (none-then pool at (replicate (t .brackets) 0x5B) (turn (back (readBack rows pool)) (baseBytes (t .base) (between text (t .start) (t .«end»))))
       (wrote-none r pool at (replicate (t .brackets) 0x5B) d w f))
 
   module _ {q : ℕ} (f : r ≡ Done q) where
@@ -145,7 +149,7 @@ module _ {rows : List (List ℕ)} {pool index : List ℕ} {at : ℕ} (x : Indexe
     pub raw-put : (v : Wrote) (d₁ : List ℕ) → WroteBy v d q (turn (back (readBack rows d)) (baseBytes (t .base) (take (t .«end» - t .start) (drop (t .start) text)))) d₁ →
         WroteBy v pool at (rawTypeOf (readBack rows pool) text) d₁
     raw-put v d₁ u =
-        let b : List ℕ = turn (back (readBack rows pool)) (baseBytes (t .base) (partOf text (t .start) (t .«end»))) in
+        let b : List ℕ = turn (back (readBack rows pool)) (baseBytes (t .base) (between text (t .start) (t .«end»))) in
         let same : WroteBy v d q b d₁ = rw (read-back-put x bracketed) at u in
         wrote-as v pool at d₁ (sym whole) (wrote-then v b d₁ bracketed same)
 

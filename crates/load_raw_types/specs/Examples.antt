@@ -10,8 +10,10 @@ use Rattle.text_white.specs.White.{whiteRanges, inRanges, isWhite}
 use Rattle.text_white.specs.Trim.{runOf, allWhite, trimEnd}
 use Rattle.table_pool.specs.Names.{classDescriptor}
 use Rattle.descriptor.specs.Types.{baseEnd, bracketCount}
-use Rattle.descriptor_pieces.specs.Pieces.{Pair, partsFrom, join, shown}
-use Rattle.load_raw_types.specs.Raw.{rawTypeOf}
+use Rattle.ground.specs.Join.{join}
+use Rattle.table_rows.specs.Classes.{Pair, shown}
+use Rattle.descriptor.specs.Pieces.{partsFrom}
+use Rattle.descriptor.specs.Raw.{rawTypeOf}
 use Rattle.load_raw_types.specs.Marks.{markFrom, markOf, lastBelow}
 
 -- three classes, of which two have the same display name

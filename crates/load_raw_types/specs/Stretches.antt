@@ -4,11 +4,12 @@ use mathlib.Core.Bool.{Bool}
 use mathlib.Core.List.{List, [], _∷_, _++_}
 use Prim.Native.Nat.{ℕ, _+_, _≤_, _<_}
 use lib.ListN.{length, drop}
-use Rattle.descriptor_pieces.specs.Pieces.{Look, turn}
+use Rattle.ground.specs.Look.{Look}
+use Rattle.descriptor.specs.Pieces.{turn}
 use Rattle.table_pool.specs.Wrote.{Written}
 use Rattle.load_raw_types.specs.declared.types.Stretch.{Stretch}
 use Rattle.load_raw_types.specs.declared.types.Stretch.the-variants.{More, Last, NoRoom}
-use Rattle.load_raw_types.specs.Raw.{nameBytes, classPiece}
+use Rattle.table_pool.specs.Names.{nameBytes, classPiece}
 
 -- the text from the place `start` on, turned, where an `L` stands before it, and where a `;` does
 abbrev pub insidePiece : (List ℕ → Look) → Bool → List ℕ → ℕ → List ℕ

@@ -2,7 +2,6 @@
 mod index;
 mod search;
 mod types;
-mod write;
 
 pub use index::mark_class;
 pub use types::put_raw_type;

@@ -1,19 +1,15 @@
 // The last class row with a display descriptor: only rows with its mark are looked at, from the last one backwards, link by link.
 use crate::index::mark_of;
-use crate::write::stored_byte;
+use table_pool::stored_byte;
 use table_rows::ClassRow;
+use tables::Found;
 ghost use mathlib.Core.Path.{_≡_};
 ghost use Prim.Native.Nat.{_+_, _≤_};
 ghost use lib.ListN.{length, take, drop};
 ghost use Rattle.text_places.specs.Places.{same};
-ghost use Rattle.load_raw_types.specs.Raw.{classPiece};
+ghost use Rattle.table_pool.specs.Names.{classPiece};
 ghost use Rattle.load_raw_types.specs.Marks.{Indexed};
-ghost use Rattle.load_raw_types.specs.Found.{FoundBy};
-
-pub enum FoundClass {
-    Row(usize),
-    Unknown,
-}
+ghost use Rattle.tables.specs.Search.{lastDisplay};
 
 pub fn wide(x: u32) -> usize
     ensures { λ r. ⌜ r ≡ x ⌝ }
@@ -63,9 +59,9 @@ pub fn last_class(
     index: &[u16],
     name: &[u8],
     dots: bool,
-) -> FoundClass
+) -> Found
     requires { ⌜ Indexed (now classes) (now pool) (now index) (length (now pool)) ⌝ }
-    ensures { λ r. ⌜ FoundBy r (now (classes .entry)) (now (pool .entry)) (classPiece dots (now (name .entry))) ⌝ }
+    ensures { λ r. ⌜ r ≡ lastDisplay (now (classes .entry)) (now (pool .entry)) (classPiece dots (now (name .entry))) ⌝ }
 {
     let mark = mark_of(name);
     let mut count = wide_number(index[mark]);
@@ -74,9 +70,9 @@ pub fn last_class(
         let place = wide(classes[row][2]);
         let size = wide(classes[row][3]);
         if is_piece(pool, place, size, name, dots) {
-            return FoundClass::Row(row);
+            return Found::Row(row);
         }
         count = wide_number(index[8192 + row]);
     }
-    FoundClass::Unknown
+    Found::Unknown
 }

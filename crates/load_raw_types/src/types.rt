@@ -1,26 +1,29 @@
 // Raw descriptors of display types. The descriptor of the display type is written nowhere: its pieces are found in the type's own text.
-use crate::search::FoundClass;
 use crate::search::last_class;
 use crate::search::wide;
-use crate::write::put_closed;
-use crate::write::put_copy;
-use crate::write::put_name;
-use crate::write::put_piece;
 use descriptor::Base;
 use descriptor::type_shape;
 use table_pool::Wrote;
 use table_pool::put_bytes;
+use table_pool::put_closed;
+use table_pool::put_copy;
+use table_pool::put_name;
+use table_pool::put_piece;
 use table_rows::ClassRow;
+use tables::Found;
 use text_places::Place;
 use text_places::first_byte;
 ghost use mathlib.Core.Path.{_≡_};
 ghost use Prim.Native.Nat.{_≤_};
 ghost use lib.ListN.{length};
-ghost use Rattle.descriptor_pieces.specs.Pieces.{lookOr, turn, back};
+ghost use Rattle.ground.specs.Look.{lookOr};
+ghost use Rattle.table_rows.specs.Classes.{back};
+ghost use Rattle.descriptor.specs.Pieces.{turn};
 ghost use Rattle.descriptor.specs.Types.{baseOf, baseBytes};
 ghost use Rattle.table_pool.specs.Wrote.{WroteBy};
 ghost use Rattle.tables.specs.Back.{readBack};
-ghost use Rattle.load_raw_types.specs.Raw.{classPiece, rawTypeOf};
+ghost use Rattle.descriptor.specs.Raw.{rawTypeOf};
+ghost use Rattle.table_pool.specs.Names.{classPiece};
 ghost use Rattle.load_raw_types.specs.Marks.{Indexed};
 ghost use Rattle.load_raw_types.specs.Stretches.{InsideBy, OutsideBy};
 
@@ -37,12 +40,12 @@ fn put_raw_piece(
     ensures { λ r. ⌜ WroteBy r (now (pool .entry)) at (lookOr (classPiece dots (now (name .entry))) (back (readBack (now (classes .entry)) (now (pool .entry))) (classPiece dots (now (name .entry))))) (now (pool .exit)) ⌝ }
 {
     match last_class(classes, pool, index, name, dots) {
-        FoundClass::Row(row) => {
+        Found::Row(row) => {
             let place = wide(classes[row][0]);
             let size = wide(classes[row][1]);
             put_copy(pool, at, place, size)
         }
-        FoundClass::Unknown => put_piece(pool, at, name, dots),
+        Found::Unknown => put_piece(pool, at, name, dots),
     }
 }
 

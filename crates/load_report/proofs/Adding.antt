@@ -8,8 +8,7 @@ use Rattle.ground.proofs.PutLaws.{put-nothing}
 use Rattle.table_pool.specs.declared.write.Wrote.{Wrote}
 use Rattle.table_pool.specs.declared.write.Wrote.the-variants.{Done, NoRoom}
 use Rattle.table_pool.specs.Wrote.{Written, WroteBy}
-use Rattle.table_pool.proofs.Writes.{wrote-told, wrote-none, wrote-then, none-then}
-use Rattle.load_raw_types.proofs.Writing.{wrote-as}
+use Rattle.table_pool.proofs.Writes.{wrote-told, wrote-none, wrote-then, none-then, wrote-as}
 use Rattle.load_report.specs.Adding.{Adds}
 
 module _ {before : Wrote} (out b : List ℕ) where

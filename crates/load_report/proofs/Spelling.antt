@@ -13,7 +13,7 @@ use borrow.Author.Needs.{needs}
 use Rattle.ground.proofs.Parts.{take-rest}
 use Rattle.table_pool.specs.declared.write.Wrote.{Wrote}
 use Rattle.table_pool.specs.Wrote.{WroteBy}
-use Rattle.load_raw_types.proofs.Writing.{wrote-as}
+use Rattle.table_pool.proofs.Writes.{wrote-as}
 use Rattle.load_report.specs.Digits.{decimalFrom, decimal}
 
 pub one-digit : (k n : ℕ) → n ≤ 9 → decimalFrom (suc k) n ≡ (48 + n % 10) ∷ []

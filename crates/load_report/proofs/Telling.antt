@@ -5,7 +5,7 @@ use Prim.Native.Nat.{ℕ}
 use borrow.Author.Needs.{needs}
 use Rattle.table_pool.specs.declared.write.Wrote.{Wrote}
 use Rattle.table_pool.specs.Wrote.{WroteBy}
-use Rattle.load_raw_types.proofs.Writing.{wrote-as}
+use Rattle.table_pool.proofs.Writes.{wrote-as}
 use Rattle.load_rule.specs.declared.Fates.{Fates}
 use Rattle.load_rule.specs.declared.Load.{Load}
 use Rattle.load_rule.specs.declared.Load.the-variants.{Loaded, TooLong, NotUtf8, Faulty, NoClasses, FewClassRows, FewMemberRows, ShortPool}

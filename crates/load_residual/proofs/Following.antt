@@ -14,10 +14,10 @@ use Rattle.text_places.specs.Lines.{lines, nextLine}
 use Rattle.text_places.proofs.Taking.{Taken, line-taken, none-taken, end-taken}
 use Rattle.line.specs.declared.line.Line as line
 use Rattle.line.specs.declared.line.Line.the-variants as kinds
-use Rattle.line_parts.specs.Spans.{shift, Lies, largest}
+use Rattle.text_places.specs.Spans.{shift, Lies, largest}
 use Rattle.line.specs.Kinds.{lineOf}
 use Rattle.line_parts.proofs.Lying.{shift-lies, lies-more}
-use Rattle.descriptor_pieces.specs.Pieces.{Look, known, unknown, orLook}
+use Rattle.ground.specs.Look.{Look, known, unknown, orLook}
 use Rattle.load_rule.specs.Comments.{signatureAt, residualBy, residualIn}
 use Rattle.load_residual.specs.declared.residual.Residual.{Residual}
 use Rattle.load_residual.specs.declared.residual.Residual.the-variants.{Text, Nothing}

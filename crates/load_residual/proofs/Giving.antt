@@ -11,7 +11,7 @@ use borrow.Author.Needs.{needs}
 use Rattle.ground.specs.Choice.{pick}
 use Rattle.text_places.specs.declared.find.Place.{Place}
 use Rattle.text_places.specs.declared.find.Place.the-variants.{At, Nowhere}
-use Rattle.text_white.specs.declared.trim.Span.{Span}
+use Rattle.text_places.specs.declared.spans.Span.{Span}
 use Rattle.text_white.specs.Trim.{trimBoth}
 use Rattle.json_grammar.specs.Reader.{charsFrom}
 use Rattle.json_comment.specs.declared.answer.Stands.{Stands}
@@ -20,13 +20,12 @@ use Rattle.json_comment.specs.declared.answer.Comment as comment
 use Rattle.json_comment.specs.declared.answer.Comment.the-variants.{Unreadable, Readable}
 use Rattle.json_comment.specs.Answer.{commentOf, residualOf}
 use Rattle.line.specs.declared.line.Line.the-variants as kinds
-use Rattle.line_parts.specs.Spans.{span, shift, partOf, Lies, largest}
+use Rattle.text_places.specs.Spans.{span, shift, partOf, Lies, largest}
 use Rattle.line.specs.Kinds.{lineOf}
 use Rattle.line_parts.proofs.Lying.{trim-lies}
 use Rattle.line.proofs.Whole.{brace-inside}
-use Rattle.descriptor_pieces.specs.Pieces.{unknown}
+use Rattle.ground.specs.Look.{unknown, isKnown}
 use Rattle.load_rule.specs.Comments.{saysResidual, stringAt, signatureBy, signatureOf, signatureAt}
-use Rattle.load_rule.specs.Fates.{isKnown}
 use Rattle.load_residual.specs.declared.residual.Residual.{Residual}
 use Rattle.load_residual.specs.declared.residual.Residual.the-variants.{Text, Nothing}
 use Rattle.load_residual.specs.Residuals.{placeLook, jsonPart, residualLook, Gives, laterOf}

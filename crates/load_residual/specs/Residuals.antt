@@ -5,13 +5,13 @@ use Prim.Native.Nat.{ℕ, _+_}
 use lib.ListN.{length, drop}
 use Rattle.text_places.specs.declared.find.Place.{Place}
 use Rattle.text_places.specs.declared.find.Place.the-variants.{At, Nowhere}
-use Rattle.text_white.specs.declared.trim.Span.{Span}
+use Rattle.text_places.specs.declared.spans.Span.{Span}
 use Rattle.json_grammar.specs.Reader.{charsFrom}
 use Rattle.json_decode.specs.Decoded.{decoded}
 use Rattle.line.specs.declared.line.Line.{Line}
 use Rattle.line.specs.declared.line.Line.the-variants as kinds
-use Rattle.line_parts.specs.Spans.{span, partOf, Lies}
-use Rattle.descriptor_pieces.specs.Pieces.{Look, known, unknown}
+use Rattle.text_places.specs.Spans.{span, partOf, Lies}
+use Rattle.ground.specs.Look.{Look, known, unknown}
 use Rattle.load_residual.specs.declared.residual.Residual.{Residual}
 use Rattle.load_residual.specs.declared.residual.Residual.the-variants.{Text, Nothing}
 use Rattle.load_residual.specs.declared.residual.Opening.{Opening}

@@ -16,8 +16,8 @@ ghost use Rattle.text_places.specs.Lines.{lines};
 ghost use Rattle.line.specs.declared.line.Line.the-variants as kinds;
 ghost use Rattle.line.specs.Kinds.{lineOf};
 ghost use Rattle.load_rule.specs.Comments.{signatureOf, signatureAt, residualIn};
-ghost use Rattle.line_parts.specs.Spans.{shift, Lies, largest};
-ghost use Rattle.load_rule.specs.Fates.{isKnown};
+ghost use Rattle.text_places.specs.Spans.{shift, Lies, largest};
+ghost use Rattle.ground.specs.Look.{isKnown};
 ghost use Rattle.load_residual.specs.Residuals.{placeLook, jsonPart, openingOf, laterOf, Gives};
 
 // A string in a text: its JSON runs from `start` to `end`, and its first char stands at the place `string` of the JSON.

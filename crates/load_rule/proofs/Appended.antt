@@ -4,7 +4,8 @@ use mathlib.Core.List.{List, [], _∷_, _++_, map, append-assoc, append-nil}
 use Prim.Native.Nat.{ℕ, suc, _+_}
 use native.Mathlib.Nat.{add-assoc, add-zero}
 use lib.ListN.{length, length-append}
-use Rattle.descriptor_pieces.specs.Pieces.{Pair, join}
+use Rattle.ground.specs.Join.{join}
+use Rattle.table_rows.specs.Classes.{Pair}
 use Rattle.load_rule.specs.Classes.{classText, classPool, classRow, classRows}
 use Rattle.load_rule.specs.Members.{Entry, entryText, entryPool, entryRow, entryRows}
 

@@ -3,7 +3,8 @@ use mathlib.Core.Path.{_≡_, refl}
 use mathlib.Core.List.{List, [], _∷_, _++_}
 use Prim.Native.Nat.{ℕ, _+_}
 use lib.ListN.{length}
-use Rattle.descriptor_pieces.specs.Pieces.{Pair, join}
+use Rattle.ground.specs.Join.{join}
+use Rattle.table_rows.specs.Classes.{Pair}
 use Rattle.tables.specs.declared.check.Used.{Used}
 use Rattle.tables.specs.Back.{pairOf, readBack}
 use Rattle.tables.proofs.Holding.{Holds, holds-all, holds-first, holds-second}

@@ -14,7 +14,9 @@ use Rattle.text_utf8.proofs.Grammatical.{valid-iff}
 use Rattle.line.specs.declared.line.Line.{Line}
 use Rattle.line.specs.declared.line.Line.the-variants.{Blank, Comment, Class, Field, Method, Refused}
 use Rattle.line.specs.Kinds.{lineOf}
-use Rattle.descriptor_pieces.specs.Pieces.{Pair, Look, join}
+use Rattle.ground.specs.Look.{Look}
+use Rattle.ground.specs.Join.{join}
+use Rattle.table_rows.specs.Classes.{Pair}
 use Rattle.descriptor.proofs.Octets.{Pairs, no-pair, a-pair}
 use Rattle.table_rows.specs.declared.rows.Ranges.{Ranges}
 use Rattle.table_rows.specs.declared.rows.Ranges.the-variants.{None, Display, Both}

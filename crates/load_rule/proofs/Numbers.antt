@@ -9,7 +9,7 @@ use Rattle.ground.specs.Choice.{pick}
 use Rattle.text_places.specs.declared.find.Place.{Place}
 use Rattle.text_places.specs.declared.find.Place.the-variants.{At, Nowhere}
 use Rattle.text_places.specs.Places.{firstWhere, starts}
-use Rattle.text_white.specs.declared.trim.Span.{Span}
+use Rattle.text_places.specs.declared.spans.Span.{Span}
 use Rattle.text_white.specs.Trim.{trimBoth, startsWhite}
 use Rattle.line_parts.specs.declared.arrow.Arrow.{Arrow}
 use Rattle.line_parts.specs.declared.arrow.Arrow.the-variants.{Sides, NoArrow}
@@ -19,7 +19,7 @@ use Rattle.line_parts.specs.declared.method.MethodParts as method
 use Rattle.line_parts.specs.declared.method.MethodParts.the-variants as methods
 use Rattle.line.specs.declared.line.Line.{Line}
 use Rattle.line.specs.declared.line.Line.the-variants.{Blank, Comment, Class, Field, Method, Refused}
-use Rattle.line_parts.specs.Spans.{isEmpty, partOf, shift}
+use Rattle.text_places.specs.Spans.{isEmpty, partOf, shift}
 use Rattle.line_parts.specs.Arrows.{arrowOf, classSides}
 use Rattle.line_parts.specs.Fields.{fieldOf}
 use Rattle.line_parts.specs.Methods.{methodOf}

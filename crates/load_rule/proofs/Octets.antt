@@ -23,16 +23,17 @@ use Rattle.line_parts.specs.declared.signature.Qualified.{Qualified}
 use Rattle.line_parts.specs.declared.signature.Qualified.the-variants.{Owned, Plain}
 use Rattle.line.specs.declared.line.Line.{Line}
 use Rattle.line.specs.declared.line.Line.the-variants.{Blank, Comment, Class, Field, Method, Refused}
-use Rattle.line_parts.specs.Spans.{partOf}
-use Rattle.line_arguments.specs.Arguments.{argumentsOf}
+use Rattle.text_places.specs.Spans.{partOf}
+use Rattle.line_parts.specs.Arguments.{argumentsOf}
 use Rattle.line.specs.Kinds.{lineOf}
 use Rattle.line.proofs.Octets.{NameOctets, arguments-texts}
 use Rattle.line.proofs.Telling.{LineOctets, line-octets}
-use Rattle.descriptor_pieces.specs.Pieces.{Pair, Look, known, unknown, orLook}
+use Rattle.ground.specs.Look.{Look, known, unknown, orLook}
+use Rattle.table_rows.specs.Classes.{Pair}
 use Rattle.descriptor.proofs.Octets.{class-octets, type-octets, raw-octets, join-octets, Pairs, no-pair, a-pair, back-octets}
 use Rattle.load_rule.specs.Comments.{saysResidual, stringAt, signatureBy, signatureOf, signatureAt, residualBy, residualIn}
 use Rattle.load_rule.specs.Classes.{classIn, classesOf}
-use Rattle.load_raw_types.specs.Raw.{rawTypeOf}
+use Rattle.descriptor.specs.Raw.{rawTypeOf}
 use Rattle.load_rule.specs.Members.{fieldDescriptor, typesDescriptor, methodDescriptor, Entry, field, method, Under, under, underAfter, nameText, ownerOf, entryIn, entriesFrom}
 use Rattle.load_rule.specs.Loading.{entriesOf, linesStr, linesParse}
 

@@ -11,11 +11,12 @@ use Rattle.ground.specs.Choice.{pick, both}
 use Rattle.line.specs.declared.line.Line.{Line}
 use Rattle.line.specs.declared.line.Line.the-variants.{Blank, Comment, Class, Field, Method, Refused}
 use Rattle.line.specs.Kinds.{lineOf}
-use Rattle.descriptor_pieces.specs.Pieces.{Pair, Look, unknown}
+use Rattle.ground.specs.Look.{Look, unknown, isKnown}
+use Rattle.table_rows.specs.Classes.{Pair}
 use Rattle.load_rule.specs.declared.Fates.{Fates}
 use Rattle.load_rule.specs.declared.Scan.the-variants.{Sound, Faulty}
 use Rattle.load_rule.specs.Comments.{signatureAt, residualIn}
-use Rattle.load_rule.specs.Fates.{isKnown, commentFate, methodFate, fateOf, memberAfter, fatesFrom, faultOf, classLine, faultsFrom, scanOf}
+use Rattle.load_rule.specs.Fates.{commentFate, methodFate, fateOf, memberAfter, fatesFrom, faultOf, classLine, faultsFrom, scanOf}
 use Rattle.load_rule.specs.Classes.{classIn, classesOf}
 use Rattle.load_rule.specs.Members.{Under, under, underAfter, entryIn, entriesFrom}
 use Rattle.load_rule.proofs.Tally.{fate-line}

@@ -9,7 +9,8 @@ use Rattle.line.specs.declared.line.Line.{Line}
 use Rattle.line.specs.declared.line.Line.the-variants.{Blank, Comment, Class, Field, Method, Refused}
 use Rattle.load_rule.specs.declared.Fates.{Fates}
 use Rattle.load_rule.specs.Comments.{signatureAt}
-use Rattle.load_rule.specs.Fates.{noFates, plus, isKnown, commentFate, methodFate, fateOf, classLine}
+use Rattle.ground.specs.Look.{isKnown}
+use Rattle.load_rule.specs.Fates.{noFates, plus, commentFate, methodFate, fateOf, classLine}
 
 pub plus-none : (f : Fates) → plus f noFates ≡ f
 plus-none f = simp add-zero

@@ -4,14 +4,12 @@ use Prim.Native.Nat.{ℕ, _+_}
 use lib.ListN.{length}
 use Rattle.line.specs.declared.line.Line.{Line}
 use Rattle.line.specs.declared.line.Line.the-variants.{Blank, Comment, Class, Field, Method, Refused}
-use Rattle.line_parts.specs.Spans.{partOf}
+use Rattle.text_places.specs.Spans.{partOf}
 use Rattle.line.specs.Kinds.{lineOf}
 use Rattle.table_pool.specs.Names.{classDescriptor}
-use Rattle.descriptor_pieces.specs.Pieces.{Pair, join}
+use Rattle.ground.specs.Join.{join}
+use Rattle.table_rows.specs.Classes.{Pair, pair}
 use Rattle.table_rows.specs.Rows.{text, packClass}
-
-abbrev pub pair : List ℕ → List ℕ → Pair
-pair r d = record { raw = r; display = d }
 
 -- the class of a line, if it is a class line
 abbrev pub classIn : List ℕ → Line → List Pair

@@ -9,12 +9,14 @@ use Rattle.text_utf8.specs.Utf8.{leadOf, tails, afterLead, sequenceOf, piecesFr
 use Rattle.text_white.specs.White.{whiteRanges, inRanges, isWhite}
 use Rattle.text_white.specs.Trim.{runOf, allWhite, trimEnd}
 use Rattle.number.specs.Numbers as numbers
-use Rattle.line_arguments.specs.Arguments.{commaParts, filled}
+use Rattle.line_parts.specs.Arguments.{commaParts, filled}
 use Rattle.json_grammar.specs.Encode.{utf8}
 use Rattle.json_grammar.specs.Members.{lastOf}
 use Rattle.json_grammar.specs.Reader.{andThen, pastAll, structural, past, shortEscape, escape, pieceOf, charsFrom, stringOf, pastWord, flatOf, afterItem, itemsOf, insideOf, enclosedOf, memberOf, nestedOf, valueOf, membersOf}
 use Rattle.descriptor.specs.Types.{baseEnd, bracketCount}
-use Rattle.descriptor_pieces.specs.Pieces.{partsFrom, join, shown}
+use Rattle.ground.specs.Join.{join}
+use Rattle.table_rows.specs.Classes.{shown}
+use Rattle.descriptor.specs.Pieces.{partsFrom}
 use Rattle.load_rule.specs.declared.Load.the-variants.{Loaded}
 use Rattle.load_rule.specs.Comments.{residualIn}
 use Rattle.load_rule.specs.Fates.{fates, fatesFrom, faultsFrom}

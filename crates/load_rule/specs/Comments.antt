@@ -16,9 +16,9 @@ use Rattle.json_comment.specs.declared.answer.Comment.the-variants.{Unreadable,
 use Rattle.json_comment.specs.Answer.{commentOf, residualOf}
 use Rattle.line.specs.declared.line.Line.{Line}
 use Rattle.line.specs.declared.line.Line.the-variants.{Blank, Comment, Class, Field, Method, Refused}
-use Rattle.line_parts.specs.Spans.{span, partOf}
+use Rattle.text_places.specs.Spans.{span, partOf}
 use Rattle.line.specs.Kinds.{lineOf}
-use Rattle.descriptor_pieces.specs.Pieces.{Look, known, unknown, orLook}
+use Rattle.ground.specs.Look.{Look, known, unknown, orLook}
 
 -- "`id` is compared with `com.android.tools.r8.residualsignature`"
 abbrev pub saysResidual : List ℕ → Stands → Bool

@@ -10,9 +10,11 @@ use Rattle.text_utf8.specs.Utf8.{leadOf, tails, afterLead, sequenceOf, piecesFr
 use Rattle.text_white.specs.White.{whiteRanges, inRanges, isWhite}
 use Rattle.text_white.specs.Trim.{runOf, allWhite, trimEnd}
 use Rattle.number.specs.Numbers.{digitsFrom, plain, numberOf}
-use Rattle.line_arguments.specs.Arguments.{commaParts, filled}
+use Rattle.line_parts.specs.Arguments.{commaParts, filled}
 use Rattle.descriptor.specs.Types.{baseEnd, bracketCount}
-use Rattle.descriptor_pieces.specs.Pieces.{partsFrom, join, shown}
+use Rattle.ground.specs.Join.{join}
+use Rattle.table_rows.specs.Classes.{shown}
+use Rattle.descriptor.specs.Pieces.{partsFrom}
 use Rattle.load_rule.specs.declared.Load.{Load}
 use Rattle.load_rule.specs.declared.Load.the-variants.{Loaded, Faulty, NoClasses, FewClassRows, FewMemberRows, ShortPool}
 use Rattle.load_rule.specs.Comments.{residualIn}

@@ -7,7 +7,7 @@ use Rattle.ground.specs.Choice.{pick, both}
 use Rattle.line.specs.declared.line.Line.{Line}
 use Rattle.line.specs.declared.line.Line.the-variants.{Blank, Comment, Class, Field, Method, Refused}
 use Rattle.line.specs.Kinds.{lineOf}
-use Rattle.descriptor_pieces.specs.Pieces.{Look, known, unknown}
+use Rattle.ground.specs.Look.{isKnown}
 use Rattle.load_rule.specs.declared.Fates.{Fates}
 use Rattle.load_rule.specs.declared.Scan.{Scan}
 use Rattle.load_rule.specs.declared.Scan.the-variants.{Sound, Faulty}
@@ -24,10 +24,6 @@ abbrev pub plus : Fates → Fates → Fates
 plus x y =
     fates (x .lines + y .lines) (x .blank + y .blank) (x .applied + y .applied) (x .idle + y .idle)
     (x .class + y .class) (x .field + y .field) (x .method + y .method) (x .short + y .short)
-
-abbrev pub isKnown : Look → Bool
-isKnown (known s) = true
-isKnown unknown = false
 
 -- a comment is applied where it gives a signature and the current class has a last member
 abbrev pub commentFate : Bool → Fates

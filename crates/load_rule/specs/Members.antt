@@ -9,16 +9,18 @@ use Rattle.line_parts.specs.declared.method.LineRange.{LineRange}
 use Rattle.line_parts.specs.declared.method.LineRange.the-variants.{Lines, NoLines}
 use Rattle.line.specs.declared.line.Line.{Line}
 use Rattle.line.specs.declared.line.Line.the-variants.{Blank, Comment, Class, Field, Method, Refused}
-use Rattle.line_parts.specs.Spans.{partOf}
-use Rattle.line_arguments.specs.Arguments.{argumentsOf}
+use Rattle.text_places.specs.Spans.{partOf}
+use Rattle.line_parts.specs.Arguments.{argumentsOf}
 use Rattle.line.specs.Kinds.{lineOf}
 use Rattle.table_pool.specs.Names.{classDescriptor}
 use Rattle.descriptor.specs.Signatures.{rawSignature}
-use Rattle.descriptor_pieces.specs.Pieces.{Pair, Look, known, unknown, join}
+use Rattle.ground.specs.Look.{Look, known, unknown}
+use Rattle.ground.specs.Join.{join}
+use Rattle.table_rows.specs.Classes.{Pair}
 use Rattle.table_rows.specs.declared.rows.Ranges.{Ranges}
 use Rattle.table_rows.specs.declared.rows.Ranges.the-variants.{None, Display, Both}
 use Rattle.table_rows.specs.Rows.{text, packMember}
-use Rattle.load_raw_types.specs.Raw.{rawTypeOf}
+use Rattle.descriptor.specs.Raw.{rawTypeOf}
 use Rattle.load_rule.specs.Comments.{residualIn}
 
 -- the raw descriptor of a field: that of its residual signature, else that of its display type

@@ -9,14 +9,15 @@ use mir.Val.{Fits}
 use mir.Syntax.{w32}
 use borrow.Author.Needs.{needs}
 use Rattle.text_places.specs.declared.find.Place.{Place}
-use Rattle.text_white.specs.declared.trim.Span.{Span}
+use Rattle.text_places.specs.declared.spans.Span.{Span}
 use Rattle.line_parts.specs.declared.method.Method.{Method}
 use Rattle.line.specs.declared.line.Line.{Line}
 use Rattle.line.specs.declared.line.Line.the-variants as kinds
 use Rattle.line.specs.Kinds.{lineOf}
 use Rattle.load_rule.specs.declared.Fates.{Fates}
 use Rattle.load_rule.specs.Comments.{signatureAt}
-use Rattle.load_rule.specs.Fates.{fates, plus, isKnown, commentFate, methodFate, fateOf}
+use Rattle.ground.specs.Look.{isKnown}
+use Rattle.load_rule.specs.Fates.{fates, plus, commentFate, methodFate, fateOf}
 use Rattle.load_scan.specs.Bounds.{Within}
 
 -- Every count has room for one more.

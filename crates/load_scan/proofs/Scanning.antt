@@ -22,7 +22,8 @@ use Rattle.load_rule.specs.declared.Fates.{Fates}
 use Rattle.load_rule.specs.declared.Scan.{Scan}
 use Rattle.load_rule.specs.declared.Scan.the-variants.{Sound, Faulty}
 use Rattle.load_rule.specs.Comments.{signatureAt}
-use Rattle.load_rule.specs.Fates.{fates, plus, isKnown, commentFate, methodFate, fateOf, memberAfter, fatesFrom, faultOf, faultsFrom}
+use Rattle.ground.specs.Look.{isKnown}
+use Rattle.load_rule.specs.Fates.{fates, plus, commentFate, methodFate, fateOf, memberAfter, fatesFrom, faultOf, faultsFrom}
 use Rattle.load_rule.proofs.Tally.{plus-none, plus-plus, fate-line, fate-class}
 use Rattle.load_scan.specs.Bounds.{Within}
 

@@ -24,7 +24,7 @@ use Rattle.table_pool.specs.Names.{slashed, classDescriptor}
 use Rattle.descriptor.specs.Types.{partOf}
 use Rattle.descriptor.specs.Signatures.{rawKept, rawType, afterClose, rawSignature}
 use Rattle.table_pool.specs.Wrote.{Written, WroteBy}
-use Rattle.table_pool.proofs.Writes.{slashed-length}
+use Rattle.table_pool.proofs.Naming.{slashed-length}
 
 -- A signature does not become shorter.
 type-longer : (s : List ℕ) → length s ≤ length (rawType s)

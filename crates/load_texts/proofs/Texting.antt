@@ -7,26 +7,27 @@ use native.Mathlib.Omega.{arith}
 use lib.ListN.{length, take, drop, length-append}
 use borrow.Author.Needs.{needs}
 use Rattle.text_places.specs.Lines.{lines}
-use Rattle.text_white.specs.declared.trim.Span.{Span}
+use Rattle.text_places.specs.declared.spans.Span.{Span}
 use Rattle.json_grammar.specs.Reader.{charsFrom}
 use Rattle.json_decode.specs.Decoded.{decoded}
 use Rattle.line_parts.specs.declared.signature.Qualified.the-variants.{Owned, Plain}
 use Rattle.line_parts.specs.declared.method.Method as method
-use Rattle.line_parts.specs.Spans.{Lies, NameIn}
+use Rattle.text_places.specs.Spans.{Lies}
+use Rattle.line_parts.specs.Signatures.{NameIn}
 use Rattle.line_parts.specs.Methods.{MethodIn}
-use Rattle.line_arguments.specs.Arguments.{argumentsOf}
+use Rattle.line_parts.specs.Arguments.{argumentsOf}
 use Rattle.table_pool.specs.declared.write.Wrote.{Wrote}
 use Rattle.table_pool.specs.declared.write.Wrote.the-variants.{Done, NoRoom}
 use Rattle.table_pool.specs.Names.{classDescriptor}
 use Rattle.descriptor.specs.Signatures.{rawSignature}
-use Rattle.descriptor_pieces.specs.Pieces.{Pair, Look, known, unknown}
+use Rattle.ground.specs.Look.{Look, known, unknown}
+use Rattle.table_rows.specs.Classes.{Pair}
 use Rattle.table_pool.specs.Wrote.{Written, WroteBy}
-use Rattle.table_pool.proofs.Writes.{written-length, wrote-told, wrote-none, wrote-then, none-then}
+use Rattle.table_pool.proofs.Writes.{written-length, wrote-told, wrote-none, wrote-then, none-then, wrote-as}
 use Rattle.tables.specs.Back.{readBack}
-use Rattle.load_raw_types.specs.Raw.{rawTypeOf}
+use Rattle.descriptor.specs.Raw.{rawTypeOf}
 use Rattle.load_raw_types.specs.Marks.{Indexed}
 use Rattle.load_raw_types.proofs.Indexing.{read-back-put}
-use Rattle.load_raw_types.proofs.Writing.{wrote-as}
 use Rattle.load_rule.specs.Comments.{residualIn}
 use Rattle.load_rule.specs.Members.{ownerOf, typesDescriptor}
 use Rattle.load_residual.specs.declared.residual.Residual.{Residual}

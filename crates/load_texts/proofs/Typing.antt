@@ -9,20 +9,20 @@ use borrow.Author.Needs.{needs}
 use Rattle.ground.proofs.PutLaws.{put-nothing}
 use Rattle.text_utf8.specs.Utf8.{piecesFrom}
 use Rattle.text_white.specs.Trim.{runOf, allWhite, trimEnd}
-use Rattle.line_arguments.specs.declared.arguments.NextArgument.{NextArgument}
-use Rattle.line_arguments.specs.declared.arguments.NextArgument.the-variants.{Argument, NoArgument}
-use Rattle.line_arguments.specs.Arguments.{commaParts, filled, argumentsOf, nextArgument}
-use Rattle.line_arguments.proofs.Listed.{Splits, arguments-split, arguments-end}
+use Rattle.line_parts.specs.declared.arguments.NextArgument.{NextArgument}
+use Rattle.line_parts.specs.declared.arguments.NextArgument.the-variants.{Argument, NoArgument}
+use Rattle.line_parts.specs.Arguments.{commaParts, filled, argumentsOf, nextArgument}
+use Rattle.line_parts.proofs.Listed.{Splits, arguments-split, arguments-end}
 use Rattle.table_pool.specs.declared.write.Wrote.{Wrote}
 use Rattle.table_pool.specs.declared.write.Wrote.the-variants.{Done, NoRoom}
-use Rattle.descriptor_pieces.specs.Pieces.{Pair, join}
+use Rattle.ground.specs.Join.{join}
+use Rattle.table_rows.specs.Classes.{Pair}
 use Rattle.table_pool.specs.Wrote.{Written, WroteBy}
-use Rattle.table_pool.proofs.Writes.{written-length, wrote-told, wrote-none, wrote-then, none-then}
+use Rattle.table_pool.proofs.Writes.{written-length, wrote-told, wrote-none, wrote-then, none-then, wrote-as}
 use Rattle.tables.specs.Back.{readBack}
-use Rattle.load_raw_types.specs.Raw.{rawTypeOf}
+use Rattle.descriptor.specs.Raw.{rawTypeOf}
 use Rattle.load_raw_types.specs.Marks.{Indexed}
 use Rattle.load_raw_types.proofs.Indexing.{read-back-put, indexed-put}
-use Rattle.load_raw_types.proofs.Writing.{wrote-as}
 use Rattle.load_rule.specs.Members.{argumentTypes, typesDescriptor}
 use Rattle.load_rule.proofs.Appended.{join-more, join-append}
 

@@ -2,12 +2,13 @@
 use mathlib.Core.Bool.{Bool, true, false}
 use mathlib.Core.List.{List, [], _++_}
 use Prim.Native.Nat.{ℕ}
-use Rattle.line_parts.specs.Spans.{partOf, Lies}
+use Rattle.text_places.specs.Spans.{partOf, Lies}
 use Rattle.line_parts.specs.Methods.{MethodIn}
-use Rattle.line_arguments.specs.Arguments.{argumentsOf}
+use Rattle.line_parts.specs.Arguments.{argumentsOf}
 use Rattle.descriptor.specs.Signatures.{rawSignature}
-use Rattle.descriptor_pieces.specs.Pieces.{Pair, Look, known, unknown}
-use Rattle.load_raw_types.specs.Raw.{rawTypeOf}
+use Rattle.ground.specs.Look.{Look, known, unknown}
+use Rattle.table_rows.specs.Classes.{Pair}
+use Rattle.descriptor.specs.Raw.{rawTypeOf}
 use Rattle.load_rule.specs.Members.{typesDescriptor, ownerOf}
 use Rattle.load_texts.specs.declared.texts.Body.{Body}
 use Rattle.load_texts.specs.declared.texts.Body.the-variants.{Field, Method}

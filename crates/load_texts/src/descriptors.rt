@@ -2,8 +2,8 @@
 use descriptor::settle_signature;
 use json_decode::Written;
 use json_decode::decode_at;
-use line_arguments::NextArgument;
-use line_arguments::next_argument;
+use line_parts::NextArgument;
+use line_parts::next_argument;
 use load_raw_types::put_raw_type;
 use table_pool::Wrote;
 use table_pool::put_text;
@@ -13,11 +13,11 @@ ghost use Prim.Native.Nat.{_≤_};
 ghost use lib.ListN.{length, drop};
 ghost use Rattle.json_grammar.specs.Reader.{charsFrom};
 ghost use Rattle.json_decode.specs.Decoded.{decoded};
-ghost use Rattle.line_arguments.specs.Arguments.{argumentsOf};
+ghost use Rattle.line_parts.specs.Arguments.{argumentsOf};
 ghost use Rattle.descriptor.specs.Signatures.{rawSignature};
 ghost use Rattle.table_pool.specs.Wrote.{WroteBy};
 ghost use Rattle.tables.specs.Back.{readBack};
-ghost use Rattle.load_raw_types.specs.Raw.{rawTypeOf};
+ghost use Rattle.descriptor.specs.Raw.{rawTypeOf};
 ghost use Rattle.load_raw_types.specs.Marks.{Indexed};
 ghost use Rattle.load_rule.specs.Members.{argumentTypes, typesDescriptor};
 

@@ -8,7 +8,9 @@ use Rattle.text_white.specs.White.{whiteRanges, inRanges, isWhite}
 use Rattle.text_white.specs.Trim.{runOf, allWhite, trimEnd}
 use Rattle.number.specs.Numbers.{digitsFrom, plain, numberOf}
 use Rattle.descriptor.specs.Types.{baseEnd, bracketCount}
-use Rattle.descriptor_pieces.specs.Pieces.{partsFrom, join, shown}
+use Rattle.ground.specs.Join.{join}
+use Rattle.table_rows.specs.Classes.{shown}
+use Rattle.descriptor.specs.Pieces.{partsFrom}
 use Rattle.load_rule.specs.Fates.{fatesFrom, faultsFrom}
 use Rattle.load_rule.specs.Classes.{classesOf}
 use Rattle.meaning.specs.Marked.{AllHold, marked}

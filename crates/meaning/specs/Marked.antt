@@ -12,7 +12,8 @@ use Rattle.number.specs.declared.range.TrailingRange.the-variants.{Taken}
 use Rattle.number.specs.Numbers.{numberOf}
 use Rattle.number.specs.Ranges.{trailingRange}
 use Rattle.descriptor.specs.Types.{typeDescriptor}
-use Rattle.descriptor_pieces.specs.Pieces.{Pair, shown, turn}
+use Rattle.table_rows.specs.Classes.{Pair, shown}
+use Rattle.descriptor.specs.Pieces.{turn}
 use Rattle.load_rule.specs.Loading.{Lent, answerOf, linesParse, loadNumbers}
 
 -- "a.Main -> x:", the class of document 01's example

@@ -1,2 +1,4 @@
--- Laws of writing.
+-- Laws of writing into a pool.
 pub mod Writes
+pub mod Naming
+pub mod Copying

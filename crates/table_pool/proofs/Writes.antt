@@ -15,7 +15,6 @@ use Rattle.ground.specs.Put.{put}
 use Rattle.ground.proofs.PutLaws.{paste-put, put-put, length-put}
 use Rattle.table_pool.specs.declared.write.Wrote.{Wrote}
 use Rattle.table_pool.specs.declared.write.Wrote.the-variants.{Done, NoRoom}
-use Rattle.table_pool.specs.Names.{slash, slashed, classDescriptor}
 use Rattle.table_pool.specs.Wrote.{Written, WroteBy}
 
 -- the first `k` of the bytes `b` are written
@@ -65,6 +64,11 @@ module _ (d : List ℕ) (at : ℕ) (text : List ℕ) where
       pub text-fits : length d < 2 ^ 64 → Fits w64 (at + k)
       text-fits z = omega (arith, w .some)
 
+-- the next of the bytes `b`
+pub byte-more : (d : List ℕ) (at : ℕ) (b : List ℕ) → at ≤ length d → length b ≤ length d - at → {room : List ℕ} {k : ℕ} → Pasting d at b room k → k < length b → {x : ℕ} → x ≡ getD b k 0 →
+    Pasting d at b (set room (at + k) x) (k + 1)
+byte-more d at b i h {room} {k} w l e = rw e (text-more d at b i h w l)
+
 pub ruleset texts = (no-room-at, text-no-room, text-starts, text-done, text-inside, text-more, text-fits, needs)
 
 -- One byte so many times.
@@ -97,53 +101,16 @@ module _ (d : List ℕ) (at byte count : ℕ) where
 
 pub ruleset bytes = (bytes-over, bytes-no-room, bytes-starts, bytes-done, bytes-inside, bytes-more, bytes-fits, needs)
 
--- Dots as slashes.
-pub dot-slash : (b : ℕ) → b ≡ 0x2E → 0x2F ≡ slash b
-dot-slash b e = sym (rw (eq-eqb b 0x2E e))
-
-pub other-slash : (b : ℕ) → (b ≡ 0x2E → ⊥) → b ≡ slash b
-other-slash b n = sym (rw (ne-eqb b 0x2E n))
-
-pub ruleset slashing = (dot-slash, other-slash, needs)
-
-pub slashed-length : (s : List ℕ) → length (slashed s) ≡ length s
-slashed-length s = length-map s slash
-
-module _ (d : List ℕ) (at : ℕ) (text : List ℕ) where
-  pub slashed-over : length d < at → length d < at + length (slashed text)
-  slashed-over h = omega arith
-
-  pub slashed-no-room : at ≤ length d → length d - at < length text → length d < at + length (slashed text)
-  slashed-no-room i h = omega (arith, slashed-length text)
-
-  module _ (i : at ≤ length d) (h : length text ≤ length d - at) where
-    pub slashed-starts : Pasting d at (slashed text) d 0
-    slashed-starts = paste-starts d at (slashed text)
-
-    room-slashed : at + length (slashed text) ≤ length d
-    room-slashed = omega (arith, slashed-length text)
-
-    module _ {room : List ℕ} {k : ℕ} (w : Pasting d at (slashed text) room k) where
-      pub slashed-done : length text ≤ k → Written (at + k) d at (slashed text) room
-      slashed-done l = paste-done d at (slashed text) room-slashed w (omega (arith, slashed-length text))
-
-      pub slashed-inside : k < length text → at + k < length room
-      slashed-inside l = omega (arith, w .size)
-
-      pub slashed-more : k < length text → {x : ℕ} → x ≡ slash (getD text k 0) → Pasting d at (slashed text) (set room (at + k) x) (k + 1)
-      slashed-more l f = paste-more d at (slashed text) room-slashed w (omega (arith, slashed-length text)) (f ∙ sym (List·getD-map slash text k 0))
-
-      pub slashed-fits : length d < 2 ^ 64 → Fits w64 (at + k)
-      slashed-fits z = omega (arith, w .some, slashed-length text)
-
-pub ruleset slashes = (slashed-over, slashed-no-room, slashed-starts, slashed-done, slashed-inside, slashed-more, slashed-fits, needs)
-
 -- One after the other.
 pub wrote-told : (r : Wrote) (d : List ℕ) (at : ℕ) (b d₁ : List ℕ) {q : ℕ} → WroteBy r d at b d₁ → r ≡ Done q → Written q d at b d₁
 wrote-told r d at b d₁ w e = rw e at w
 
 pub wrote-none : (r : Wrote) (d : List ℕ) (at : ℕ) (b d₁ : List ℕ) → WroteBy r d at b d₁ → r ≡ NoRoom → length d < at + length b
 wrote-none r d at b d₁ w e = rw e at w
+
+-- the same bytes in other words
+pub wrote-as : (r : Wrote) (d : List ℕ) (at : ℕ) (d₁ : List ℕ) {b c : List ℕ} → b ≡ c → WroteBy r d at b d₁ → WroteBy r d at c d₁
+wrote-as r d at d₁ e w = rw (← e) w
 
 pub written-length : {q : ℕ} {d : List ℕ} {at : ℕ} {b d₁ : List ℕ} → Written q d at b d₁ → length d₁ ≡ length d
 written-length {d = d} {at = at} {b = b} w = ap length (w .is) ∙ length-put d at b (w .room)
@@ -172,20 +139,3 @@ wrote-then NoRoom {a = a} b d₂ w v = let n = length-append a b in let l = writ
 
 pub none-then : (d : List ℕ) (at : ℕ) (a b : List ℕ) → length d < at + length a → length d < at + length (a ++ b)
 none-then d at a b h = omega (arith, length-append a b)
-
--- The descriptor of a class name.
-module _ (d : List ℕ) (at : ℕ) (name : List ℕ) (r : Wrote) (d₁ : List ℕ) (a : WroteBy r d at (replicate 1 0x4C) d₁) where
-  pub class-no-letter : r ≡ NoRoom → length d < at + length (classDescriptor name)
-  class-no-letter e = none-then d at (0x4C ∷ []) (slashed name ++ (0x3B ∷ [])) (wrote-none r d at (replicate 1 0x4C) d₁ a e)
-
-  module _ {named : ℕ} (e : r ≡ Done named) (s : Wrote) (d₂ : List ℕ) (b : WroteBy s d₁ named (slashed name) d₂) where
-    first : WroteBy s d at (0x4C ∷ slashed name) d₂
-    first = wrote-then s (slashed name) d₂ (wrote-told r d at (replicate 1 0x4C) d₁ a e) b
-
-    pub class-no-name : s ≡ NoRoom → length d < at + length (classDescriptor name)
-    class-no-name f = none-then d at (0x4C ∷ slashed name) (0x3B ∷ []) (wrote-none s d at (0x4C ∷ slashed name) d₂ first f)
-
-    pub class-done : {ended : ℕ} → s ≡ Done ended → (t : Wrote) (d₃ : List ℕ) → WroteBy t d₂ ended (replicate 1 0x3B) d₃ → WroteBy t d at (classDescriptor name) d₃
-    class-done f t d₃ c = wrote-then t (0x3B ∷ []) d₃ (wrote-told s d at (0x4C ∷ slashed name) d₂ first f) c
-
-pub ruleset classing = (class-no-letter, class-no-name, class-done, needs)

@@ -1,2 +1,3 @@
 -- Rows: the written rules, from document 01 "Rows and names".
 pub mod Rows
+pub mod Classes

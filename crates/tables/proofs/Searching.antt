@@ -9,7 +9,8 @@ use lib.Seq.{drop-cons, drop-length}
 use borrow.Author.Needs.{needs}
 use Rattle.ground.specs.Choice.{pick}
 use Rattle.text_places.specs.Places.{same}
-use Rattle.descriptor_pieces.specs.Pieces.{Pair, Look, known, unknown, orLook, shown, swapped, back}
+use Rattle.ground.specs.Look.{Look, known, unknown, orLook}
+use Rattle.table_rows.specs.Classes.{Pair, shown, swapped, back}
 use Rattle.table_rows.specs.declared.rows.Text.{Text}
 use Rattle.table_rows.specs.declared.rows.Class.{Class}
 use Rattle.tables.specs.declared.search.Found.{Found}
@@ -60,6 +61,19 @@ module _ {p : List ℕ → Bool} {rows : List (List ℕ)} {«end» : ℕ} (k : S
 
     pub scanning-more : p (getD rows («end» - 1) []) ≡ false → Scanning p rows («end» - 1)
     scanning-more e = record { inside = omega (arith, k .inside); none = rw (before, e) }
+
+-- where no row from a place on is the one
+pub scanning-from : (p : List ℕ → Bool) (rows : List (List ℕ)) («end» : ℕ) → «end» ≤ length rows →
+    ((i : ℕ) → «end» ≤ i → i < length rows → p (getD rows i []) ≡ false) → Scanning p rows «end»
+scanning-from p rows «end» h none = go (length rows - «end») «end» (omega arith) none
+  where
+    go : (k e : ℕ) → e + k ≡ length rows → ((i : ℕ) → e ≤ i → i < length rows → p (getD rows i []) ≡ false) → Scanning p rows e
+    go zero e q n = let z : e ≡ length rows = omega arith in rw z (scanning-starts p rows)
+    go (suc k) e q n =
+        let later : Scanning p rows (suc e) = go k (suc e) (omega arith) (λ i a b. n i (omega arith) b) in
+        let z : suc e - 1 ≡ e = omega arith in
+        let here : p (getD rows (suc e - 1) []) ≡ false = rw z (n e (omega arith) (omega arith)) in
+        rw z at (scanning-more later (omega arith) here)
 
 -- The test of a row, as the code makes it.
 pub side-told : (side : Side) (pool name row : List ℕ) {c : Class} → c ≡ unpackClass row → {t : Text} → t ≡ textOn side c → {s : List ℕ} → s ≡ textIn pool t →

@@ -2,7 +2,7 @@
 use mathlib.Core.List.{List, map}
 use Prim.Native.Nat.{ℕ}
 use lib.ListN.{take, drop}
-use Rattle.descriptor_pieces.specs.Pieces.{Pair}
+use Rattle.table_rows.specs.Classes.{Pair}
 use Rattle.table_rows.specs.declared.rows.Text.{Text}
 use Rattle.table_rows.specs.Rows.{unpackClass}
 

@@ -1,5 +1,6 @@
 -- Places and lines: the written rules, from document 01 "Text and lines".
 pub mod Places
 pub mod Lines
+pub mod Spans
 pub mod Blocks
 pub mod Examples

@@ -1,7 +1,8 @@
-// Places of bytes in a text, its lines, and whether two texts are the same. Every function takes any bytes.
+// Places of bytes in a text, its parts and its lines, and whether two texts are the same. Every function takes any bytes but `shifted`, which moves a part.
 mod blocks;
 mod find;
 mod lines;
+mod spans;
 
 pub use find::Place;
 pub use find::first_byte;
@@ -10,3 +11,5 @@ pub use find::last_byte;
 pub use find::same_bytes;
 pub use lines::NextLine;
 pub use lines::next_line;
+pub use spans::Span;
+pub use spans::shifted;

@@ -9,7 +9,7 @@ use Rattle.ground.specs.Choice.{pick, both}
 use Rattle.text_places.specs.declared.find.Place.{Place}
 use Rattle.text_utf8.specs.declared.sequence.Sequence.{Sequence}
 use Rattle.text_utf8.specs.declared.sequence.Sequence.the-variants.{End, Good, Bad}
-use Rattle.text_white.specs.declared.trim.Span.{Span}
+use Rattle.text_places.specs.declared.spans.Span.{Span}
 use Rattle.text_utf8.specs.Utf8.{sequenceOf, pieces}
 use Rattle.text_white.specs.White.{isWhite}
 use Rattle.text_places.specs.Places.{firstWhere, lastWhere}

@@ -4,7 +4,6 @@
 mod trim;
 mod white;
 
-pub use trim::Span;
 pub use trim::after_marks;
 pub use trim::first_white;
 pub use trim::last_white;

@@ -1,18 +1,13 @@
 // White space at the ends of a text and in it.
 use crate::white::is_white;
 use text_places::Place;
+use text_places::Span;
 use text_utf8::Sequence;
 use text_utf8::sequence_at;
 ghost use mathlib.Core.Path.{_≡_};
 ghost use lib.ListN.{drop};
 ghost use Rattle.ground.specs.Choice.{within};
 ghost use Rattle.text_white.specs.Trim.{trimStart, trimEnd, trimBoth, afterMarks, startsWhite, firstWhite, lastWhite, whiteLength, Before};
-
-// A part of a text: where it starts and where it ends.
-pub struct Span {
-    pub start: usize,
-    pub end: usize,
-}
 
 // Whether a byte alone tells that no white space stands there, and that none ends there: an ASCII character above the space.
 fn is_ink(b: u8) -> bool

@@ -1,8 +1,7 @@
 -- `json::flat::word_at` meets its contract, by the laws of Flats and an invariant that says: the rest decides as the whole does.
-use Rattle.json.proofs.Flats.{wording}
+use Rattle.json.proofs.Flats.{wording, Wording}
 use Prim.Native.Nat.{_-_}
 use lib.ListN.{length}
-use Rattle.json.proofs.Flats.{Wording}
 use Rattle.json.proofs.flat.word_at.Statement.{statement}
 use Rattle.json.proofs.flat.word_at.Tie as tie
 

@@ -1,7 +1,6 @@
 -- `json_string::string::hex4_at` meets its contract, by the laws of Hex.
 use denote.Ref.{now}
-use Rattle.json_string.proofs.Hex.{four-read}
-use Rattle.json_string.proofs.Hex.{hex-four}
+use Rattle.json_string.proofs.Hex.{four-read, hex-four}
 use Rattle.json_string.proofs.string.hex4_at.Statement.{statement}
 use Rattle.json_string.proofs.string.hex4_at.Tie as tie
 

@@ -1,8 +1,7 @@
 -- `json_string::string::string_end` meets its contract, by the laws of Strings and an invariant that says: the rest decides as the whole does.
-use Rattle.json_string.proofs.Strings.{stringing}
+use Rattle.json_string.proofs.Strings.{stringing, Stringing}
 use Prim.Native.Nat.{_-_}
 use lib.ListN.{length}
-use Rattle.json_string.proofs.Strings.{Stringing}
 use Rattle.json_string.proofs.string.string_end.Statement.{statement}
 use Rattle.json_string.proofs.string.string_end.Tie as tie
 

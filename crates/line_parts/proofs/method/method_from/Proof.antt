@@ -1,8 +1,7 @@
 -- `parts::method::method_from` meets its contract, by the laws of Methods.
 use denote.Ref.{now}
 use Rattle.line_parts.specs.declared.method.LineRange.the-variants.{NoLines}
-use Rattle.line_parts.proofs.Methods.{end-inside, method-read}
-use Rattle.line_parts.proofs.Methods.{typing}
+use Rattle.line_parts.proofs.Methods.{end-inside, method-read, typing}
 use Rattle.line_parts.proofs.method.method_from.Statement.{statement}
 use Rattle.line_parts.proofs.method.method_from.Tie as tie
 

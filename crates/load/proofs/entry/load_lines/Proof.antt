@@ -1,7 +1,6 @@
 use borrow.Author.Needs.{needs}
-use Rattle.load.proofs.Leaving.{left-loaded, left-refused}
+use Rattle.load.proofs.Leaving.{left-loaded, left-refused, leaving}
 -- `load::entry::load_lines` meets its contract, by the laws of Leaving.
-use Rattle.load.proofs.Leaving.{leaving}
 use Rattle.load.proofs.entry.load_lines.Statement.{statement}
 use Rattle.load.proofs.entry.load_lines.Tie as tie
 

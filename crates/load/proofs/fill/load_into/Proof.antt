@@ -1,6 +1,5 @@
-use Rattle.load.proofs.Writing.{into-pool, into-indexed}
+use Rattle.load.proofs.Writing.{into-pool, into-indexed, into}
 -- `load::fill::load_into` meets its contract, by the laws of Writing.
-use Rattle.load.proofs.Writing.{into}
 use Rattle.load.proofs.fill.load_into.Statement.{statement}
 use Rattle.load.proofs.fill.load_into.Tie as tie
 

@@ -1,6 +1,5 @@
 -- `raw_types::index::mark_of` meets its contract, by the laws of Marking and an invariant that says: the rest decides as the whole does.
-use Rattle.load_raw_types.proofs.Marking.{marking}
-use Rattle.load_raw_types.proofs.Marking.{Marks}
+use Rattle.load_raw_types.proofs.Marking.{marking, Marks}
 use Prim.Native.Nat.{_-_}
 use lib.ListN.{length}
 use Rattle.load_raw_types.proofs.index.mark_of.Statement.{statement}

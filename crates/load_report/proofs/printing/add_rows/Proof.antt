@@ -1,7 +1,6 @@
 -- `report::printing::add_rows` meets its contract, by the laws of Adding.
-use Rattle.load_report.proofs.Adding.{adds-adds}
+use Rattle.load_report.proofs.Adding.{adds-adds, adding}
 use Rattle.ground.specs.Ascii.{ascii}
-use Rattle.load_report.proofs.Adding.{adding}
 use Rattle.load_report.proofs.printing.add_rows.Statement.{statement}
 use Rattle.load_report.proofs.printing.add_rows.Tie as tie
 

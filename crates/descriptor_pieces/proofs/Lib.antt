@@ -1,3 +1,0 @@
--- Laws of class pieces.
-pub mod Parted
-pub mod Turning

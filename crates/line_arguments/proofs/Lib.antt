@@ -1,2 +1,0 @@
--- Laws of arguments.
-pub mod Listed

@@ -1,2 +1,0 @@
--- Arguments: the written rule, from document 01 "Text and lines".
-pub mod Arguments
