@@ -24,6 +24,7 @@ use Rattle.line_parts.specs.declared.field.Field.the-variants as fields
 use Rattle.line_parts.specs.declared.method.Method.{Method}
 use Rattle.line_parts.specs.declared.method.MethodParts.{MethodParts}
 use Rattle.line_parts.specs.declared.method.MethodParts.the-variants as methods
+use Rattle.line.specs.declared.line.Refusal.the-variants as refusal
 use Rattle.line.specs.declared.line.Line.{Line}
 use Rattle.line.specs.declared.line.Line.the-variants as lines
 use Rattle.text_places.specs.Spans.{shift, partOf, Lies, largest}
@@ -51,7 +52,7 @@ pub ruleset commenting = (comment-none, comment-fits, comment-at, needs)
 
 -- Classes.
 module _ (s : List ℕ) (by : ℕ) (h : by + length s ≤ largest) {t : Arrow} (e : t ≡ classSides s) where
-  pub class-none : t ≡ NoArrow → lines.Refused 3 ≡ classAt by s
+  pub class-none : t ≡ NoArrow → lines.Refused refusal.Class ≡ classAt by s
   class-none g = sym (ap (classBy by) (sym e ∙ g))
 
   module _ {l r : Span} (g : t ≡ Sides l r) where
@@ -68,7 +69,7 @@ pub ruleset classing = (class-none, class-left, class-right, class-read, needs)
 
 -- Methods.
 module _ (s : List ℕ) (by : ℕ) (raw : Span) (h : by + length s ≤ largest) {t : MethodParts} (e : t ≡ methodOf s) where
-  pub method-none : t ≡ methods.NoMethod → lines.Refused 6 ≡ methodAt by raw s
+  pub method-none : t ≡ methods.NoMethod → lines.Refused refusal.Method ≡ methodAt by raw s
   method-none g = sym (ap (methodBy by raw) (sym e ∙ g))
 
   module _ {m : Method} (g : t ≡ methods.Parts m) where
@@ -82,7 +83,7 @@ pub ruleset method-lines = (method-none, method-shift, method-line, needs)
 
 -- Fields.
 module _ (s : List ℕ) (by : ℕ) (raw : Span) (h : by + length s ≤ largest) {t : field.Field} (e : t ≡ fieldOf s) where
-  pub field-none : t ≡ fields.NoField → lines.Refused 7 ≡ fieldAt by raw s
+  pub field-none : t ≡ fields.NoField → lines.Refused refusal.Field ≡ fieldAt by raw s
   field-none g = sym (ap (fieldBy by raw) (sym e ∙ g))
 
   module _ {d n : Span} (g : t ≡ fields.Parts d n) where
@@ -99,7 +100,7 @@ pub ruleset field-lines = (field-none, field-declared, field-name, field-line, n
 
 -- Members.
 module _ (s : List ℕ) (by : ℕ) (h : by + length s ≤ largest) {t : Arrow} (e : t ≡ arrowOf s) where
-  pub member-none : t ≡ NoArrow → lines.Refused 5 ≡ memberAt by s
+  pub member-none : t ≡ NoArrow → lines.Refused refusal.Member ≡ memberAt by s
   member-none g = sym (ap (memberBy by s) (sym e ∙ g))
 
   module _ {l r : Span} (g : t ≡ Sides l r) where

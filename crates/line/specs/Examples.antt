@@ -11,6 +11,7 @@ use Rattle.text_white.specs.Trim.{runOf, allWhite, trimEnd}
 use Rattle.number.specs.Numbers.{digitsFrom, plain, numberOf}
 use Rattle.line_parts.specs.declared.signature.Qualified.the-variants.{Owned, Plain}
 use Rattle.line_parts.specs.declared.method.LineRange.the-variants.{Lines, NoLines}
+use Rattle.line.specs.declared.line.Refusal.the-variants as refusal
 use Rattle.line.specs.declared.line.Line.the-variants.{Blank, Comment, Class, Field, Method, Refused}
 use Rattle.line_parts.specs.Arguments.{commaParts, filled, argumentsOf}
 use Rattle.line.specs.Kinds.{lineOf}
@@ -32,13 +33,13 @@ examples :
     ≡ Method (record { returned = span 1 4; named = Owned (span 5 8) (span 9 10); arguments = span 11 14; raw = NoLines; display = Lines 7 7; short = true }) (span 23 24))
     -- a comment with no brace, and the refusals
     × (lineOf (ascii " # compiler: R8") ≡ Comment Nowhere)
-    × (lineOf (ascii "a -> b") ≡ Refused 3)
-    × (lineOf (ascii " int n b") ≡ Refused 5)
+    × (lineOf (ascii "a -> b") ≡ Refused refusal.Class)
+    × (lineOf (ascii " int n b") ≡ Refused refusal.Member)
     × (lineOf (ascii " int run) -> (") ≡ Field (span 1 4) (span 5 9) (span 13 14))
-    × (lineOf (ascii " int )( -> b") ≡ Refused 6)
-    × (lineOf (ascii " n -> b") ≡ Refused 7)
+    × (lineOf (ascii " int )( -> b") ≡ Refused refusal.Method)
+    × (lineOf (ascii " n -> b") ≡ Refused refusal.Field)
     -- a line opened by U+00A0 is a member line
-    × (lineOf (0xC2 ∷ 0xA0 ∷ ascii "n -> b") ≡ Refused 7)
+    × (lineOf (0xC2 ∷ 0xA0 ∷ ascii "n -> b") ≡ Refused refusal.Field)
     -- blank arguments go
     × (argumentsOf (ascii " int, ,a.B ,") ≡ ascii "int" ∷ ascii "a.B" ∷ [])
 unfolding ascii firstFrom lastFrom digitsFrom plain numberOf runOf trimEnd allWhite piecesFrom sequenceOf afterLead leadOf tails isWhite inRanges whiteRanges commaParts filled

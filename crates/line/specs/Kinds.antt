@@ -13,12 +13,21 @@ use Rattle.line_parts.specs.declared.field.Field as field
 use Rattle.line_parts.specs.declared.field.Field.the-variants as fields
 use Rattle.line_parts.specs.declared.method.MethodParts as method
 use Rattle.line_parts.specs.declared.method.MethodParts.the-variants as methods
+use Rattle.line.specs.declared.line.Refusal.{Refusal}
+use Rattle.line.specs.declared.line.Refusal.the-variants as refusal
 use Rattle.line.specs.declared.line.Line.{Line}
 use Rattle.line.specs.declared.line.Line.the-variants.{Blank, Comment, Class, Field, Method, Refused}
 use Rattle.text_places.specs.Spans.{shift, isEmpty, partOf}
 use Rattle.line_parts.specs.Arrows.{arrowOf, classSides}
 use Rattle.line_parts.specs.Fields.{fieldOf}
 use Rattle.line_parts.specs.Methods.{shiftMethod, methodOf}
+
+-- "3 invalid class mapping", "5 invalid member mapping", "6 invalid method mapping", "7 invalid field mapping"; 4 is the loader's
+abbrev pub refusalNumber : Refusal → ℕ
+refusalNumber refusal.Class = 3
+refusalNumber refusal.Member = 5
+refusalNumber refusal.Method = 6
+refusalNumber refusal.Field = 7
 
 -- a place in what starts at the place `by`
 abbrev pub placeFrom : ℕ → Place → Place
@@ -31,7 +40,7 @@ commentAt by s = Comment (placeFrom by (firstWhere (starts 0x7B) s))
 
 -- a class line, else 3
 abbrev pub classBy : ℕ → Arrow → Line
-classBy by NoArrow = Refused 3
+classBy by NoArrow = Refused refusal.Class
 classBy by (Sides display raw) = Class (shift by display) (shift by raw)
 
 abbrev pub classAt : ℕ → List ℕ → Line
@@ -39,7 +48,7 @@ classAt by s = classBy by (classSides s)
 
 -- a method, else 6
 abbrev pub methodBy : ℕ → Span → method.MethodParts → Line
-methodBy by raw methods.NoMethod = Refused 6
+methodBy by raw methods.NoMethod = Refused refusal.Method
 methodBy by raw (methods.Parts m) = Method (shiftMethod by m) raw
 
 abbrev pub methodAt : ℕ → Span → List ℕ → Line
@@ -47,7 +56,7 @@ methodAt by raw left = methodBy by raw (methodOf left)
 
 -- a field, else 7
 abbrev pub fieldBy : ℕ → Span → field.Field → Line
-fieldBy by raw fields.NoField = Refused 7
+fieldBy by raw fields.NoField = Refused refusal.Field
 fieldBy by raw (fields.Parts declared name) = Field (shift by declared) (shift by name) raw
 
 abbrev pub fieldAt : ℕ → Span → List ℕ → Line
@@ -60,7 +69,7 @@ bySide by raw left (At i) = methodAt by raw left
 
 -- "Member: same split", else 5
 abbrev pub memberBy : ℕ → List ℕ → Arrow → Line
-memberBy by s NoArrow = Refused 5
+memberBy by s NoArrow = Refused refusal.Member
 memberBy by s (Sides left raw) = bySide (by + left .start) (shift by raw) (partOf s left) (firstWhere (starts 0x28) (partOf s left))
 
 abbrev pub memberAt : ℕ → List ℕ → Line

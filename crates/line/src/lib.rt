@@ -2,4 +2,6 @@
 mod line;
 
 pub use line::Line;
+pub use line::Refusal;
 pub use line::read_line;
+pub use line::refusal_number;

@@ -18,7 +18,7 @@ ghost use mathlib.Core.Path.{_≡_};
 ghost use Prim.Native.Nat.{_+_, _≤_};
 ghost use lib.ListN.{length};
 ghost use Rattle.text_places.specs.Spans.{largest};
-ghost use Rattle.line.specs.Kinds.{lineOf, commentAt, classAt, memberAt, methodAt, fieldAt};
+ghost use Rattle.line.specs.Kinds.{refusalNumber, lineOf, commentAt, classAt, memberAt, methodAt, fieldAt};
 
 pub enum Line {
     Blank,
@@ -37,8 +37,27 @@ pub enum Line {
         method: Method,
         raw: Span,
     },
-    // The number of the refusal.
-    Refused(u32),
+    Refused(Refusal),
+}
+
+// Why a line is refused: it is no class line, no member line, no method or no field.
+pub enum Refusal {
+    Class,
+    Member,
+    Method,
+    Field,
+}
+
+// The number of a refusal.
+pub fn refusal_number(refusal: Refusal) -> u32
+    ensures { λ r. ⌜ r ≡ refusalNumber refusal ⌝ }
+{
+    match refusal {
+        Refusal::Class => 3,
+        Refusal::Member => 5,
+        Refusal::Method => 6,
+        Refusal::Field => 7,
+    }
 }
 
 fn comment_line(s: &[u8], by: usize) -> Line
@@ -56,7 +75,7 @@ fn class_line(s: &[u8], by: usize) -> Line
     ensures { λ r. ⌜ r ≡ classAt by (now (s .entry)) ⌝ }
 {
     let Arrow::Sides { left, right } = class_sides(s) else {
-        return Line::Refused(3);
+        return Line::Refused(Refusal::Class);
     };
     Line::Class {
         display: shifted(by, left),
@@ -69,7 +88,7 @@ fn method_line(left: &[u8], by: usize, raw: Span) -> Line
     ensures { λ r. ⌜ r ≡ methodAt by raw (now (left .entry)) ⌝ }
 {
     let MethodParts::Parts(method) = method_parts(left) else {
-        return Line::Refused(6);
+        return Line::Refused(Refusal::Method);
     };
     Line::Method {
         method: shifted_method(by, method),
@@ -82,7 +101,7 @@ fn field_line(left: &[u8], by: usize, raw: Span) -> Line
     ensures { λ r. ⌜ r ≡ fieldAt by raw (now (left .entry)) ⌝ }
 {
     let Field::Parts { declared, name } = field_parts(left) else {
-        return Line::Refused(7);
+        return Line::Refused(Refusal::Field);
     };
     Line::Field {
         declared: shifted(by, declared),
@@ -96,7 +115,7 @@ fn member_line(s: &[u8], by: usize) -> Line
     ensures { λ r. ⌜ r ≡ memberAt by (now (s .entry)) ⌝ }
 {
     let Arrow::Sides { left, right } = split_arrow(s) else {
-        return Line::Refused(5);
+        return Line::Refused(Refusal::Member);
     };
     let start = left.start;
     let end = left.end;

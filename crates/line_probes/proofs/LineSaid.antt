@@ -16,8 +16,10 @@ use Rattle.line_parts.specs.declared.arguments.NextArgument.the-variants.{Argum
 use Rattle.line_parts.specs.declared.signature.Qualified.{Qualified}
 use Rattle.line_parts.specs.declared.signature.Qualified.the-variants.{Owned, Plain}
 use Rattle.line_parts.specs.declared.method.Method.{Method}
+use Rattle.line.specs.declared.line.Refusal.{Refusal}
 use Rattle.line.specs.declared.line.Line.{Line}
 use Rattle.line.specs.declared.line.Line.the-variants as lines
+use Rattle.line.specs.Kinds.{refusalNumber}
 use Rattle.text_places.specs.Spans.{span}
 use Rattle.line_probes.specs.LineAnswers.{owned, ownerSpan, nameSpan, lined, firstLine, lastLine, sevenNumbers, commentLineNumbers, classNumbers, fieldNumbers, methodNumbers, lineKindNumbers, argumentNumbers}
 use Rattle.line_probes.proofs.Braces.{brace-counts}
@@ -38,8 +40,8 @@ module _ {t x : Line} (e : t ≡ x) where
   pub said-method : {m : Method} {r : Span} {n : List ℕ} → t ≡ lines.Method m r → n ≡ methodNumbers m r → n ≡ lineKindNumbers x
   said-method g f = f ∙ sym (ap lineKindNumbers (sym e ∙ g))
 
-  pub said-refused : {k : ℕ} {n : List ℕ} → t ≡ lines.Refused k → n ≡ sevenNumbers 5 k 0 0 0 0 0 → n ≡ lineKindNumbers x
-  said-refused g f = f ∙ sym (ap lineKindNumbers (sym e ∙ g))
+  pub said-refused : {r : Refusal} {k : ℕ} {n : List ℕ} → t ≡ lines.Refused r → k ≡ refusalNumber r → n ≡ sevenNumbers 5 k 0 0 0 0 0 → n ≡ lineKindNumbers x
+  said-refused g h f = f ∙ ap (λ m. sevenNumbers 5 m 0 0 0 0 0) h ∙ sym (ap lineKindNumbers (sym e ∙ g))
 
 pub ruleset said-lines = (said-blank, said-comment, said-class, said-field, said-method, said-refused, brace-counts, needs)
 

@@ -14,6 +14,7 @@ use Rattle.line_parts.specs.declared.method.LineRange.the-variants.{Lines, NoLi
 use Rattle.line_parts.specs.declared.method.Method.{Method}
 use Rattle.line.specs.declared.line.Line.{Line}
 use Rattle.line.specs.declared.line.Line.the-variants as lines
+use Rattle.line.specs.Kinds.{refusalNumber}
 use Rattle.text_places.specs.Spans.{span}
 
 -- 1 for a name with an owner
@@ -70,7 +71,7 @@ lineKindNumbers (lines.Comment brace) = commentLineNumbers brace
 lineKindNumbers (lines.Class display raw) = classNumbers display raw
 lineKindNumbers (lines.Field declared name raw) = fieldNumbers declared name raw
 lineKindNumbers (lines.Method m raw) = methodNumbers m raw
-lineKindNumbers (lines.Refused number) = sevenNumbers 5 number 0 0 0 0 0
+lineKindNumbers (lines.Refused r) = sevenNumbers 5 (refusalNumber r) 0 0 0 0 0
 
 abbrev pub argumentNumbers : NextArgument → List ℕ
 argumentNumbers (Argument start «end» next) = 1 ∷ start ∷ «end» ∷ next ∷ []

@@ -102,8 +102,8 @@ pub extern "C" fn clumarief_probe_line_parts(text: &[u8], answer: &mut [u64; 20]
         Line::Method { method, raw } => {
             *answer = method_numbers(method, raw);
         }
-        Line::Refused(number) => {
-            *answer = seven(5, number as u64, 0, 0, 0, 0, 0);
+        Line::Refused(refusal) => {
+            *answer = seven(5, line::refusal_number(refusal) as u64, 0, 0, 0, 0, 0);
         }
     }
 }

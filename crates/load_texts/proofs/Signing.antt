@@ -21,7 +21,7 @@ use Rattle.json_decode.specs.Decoded.{decoded, writtenOf, roomOf}
 use Rattle.table_pool.specs.declared.write.Wrote.{Wrote}
 use Rattle.table_pool.specs.declared.write.Wrote.the-variants.{Done, NoRoom}
 use Rattle.table_pool.specs.Names.{slashed, classDescriptor}
-use Rattle.descriptor.specs.Types.{partOf}
+use Rattle.ground.specs.Put.{between}
 use Rattle.descriptor.specs.Signatures.{rawKept, rawType, afterClose, rawSignature}
 use Rattle.table_pool.specs.Wrote.{Written, WroteBy}
 use Rattle.table_pool.proofs.Naming.{slashed-length}
@@ -99,13 +99,13 @@ module _ (o : Out (List ℕ)) (at : ℕ) (d d₁ : List ℕ) (m : Bool) {w : dec
         let n : length d₁ ≡ length d = ap length (g ∙ it .is) ∙ length-put d at (decoded o) (it .room) in
         omega (arith, it .past, it .room)
 
-    there : partOf d₁ at q ≡ decoded o
+    there : between d₁ at q ≡ decoded o
     there =
         let size : q - at ≡ length (decoded o) = let p = it .past in omega arith in
         let i : at ≤ length d = let r = it .room in omega arith in
         ap (λ n. take n (drop at d₁)) size ∙ ap (λ x. take (length (decoded o)) (drop at x)) (g ∙ it .is) ∙ put-part d at (decoded o) i
 
-    pub signature-done : (r : Wrote) (d₂ : List ℕ) → WroteBy r d₁ at (rawSignature m (partOf d₁ at q)) d₂ → WroteBy r d at (rawSignature m (decoded o)) d₂
+    pub signature-done : (r : Wrote) (d₂ : List ℕ) → WroteBy r d₁ at (rawSignature m (between d₁ at q)) d₂ → WroteBy r d at (rawSignature m (decoded o)) d₂
     signature-done r d₂ k =
         let k₁ : WroteBy r d₁ at (rawSignature m (decoded o)) d₂ = rw there at k in
         let k₂ : WroteBy r (put d at (decoded o)) at (rawSignature m (decoded o)) d₂ = rw (g ∙ it .is) at k₁ in
@@ -115,10 +115,10 @@ module _ (o : Out (List ℕ)) (at : ℕ) (d d₁ : List ℕ) (m : Bool) {w : dec
     pub signature-none-inside : at ≤ length d → at ≤ length d₁
     signature-none-inside i = rw (g ∙ none o at d (sym e ∙ h) .1) i
 
-    pub signature-none : (r : Wrote) (d₂ : List ℕ) → WroteBy r d₁ at (rawSignature m (partOf d₁ at at)) d₂ → WroteBy r d at (rawSignature m (decoded o)) d₂
+    pub signature-none : (r : Wrote) (d₂ : List ℕ) → WroteBy r d₁ at (rawSignature m (between d₁ at at)) d₂ → WroteBy r d at (rawSignature m (decoded o)) d₂
     signature-none r d₂ k =
         let size : at - at ≡ 0 = omega arith in
-        let nothing : partOf d₁ at at ≡ decoded o = ap (λ n. take n (drop at d₁)) size ∙ sym (none o at d (sym e ∙ h) .0) in
+        let nothing : between d₁ at at ≡ decoded o = ap (λ n. take n (drop at d₁)) size ∙ sym (none o at d (sym e ∙ h) .0) in
         let k₁ : WroteBy r d₁ at (rawSignature m (decoded o)) d₂ = rw nothing at k in
         rw (g ∙ none o at d (sym e ∙ h) .1) at k₁
 

@@ -36,8 +36,11 @@ enum-known-method c = search said-lines
 method-numbers-requires : tie.Need-method-numbers-requires
 method-numbers-requires c κs = search said-lines
 
-enum-known-number : tie.Need-enum-known-number
-enum-known-number c = search said-lines
+enum-known-refusal : tie.Need-enum-known-refusal
+enum-known-refusal c = search said-lines
+
+refusal-number-requires : tie.Need-refusal-number-requires
+refusal-number-requires c κs = search said-lines
 
 cast-seven : tie.Need-cast-seven
 cast-seven c = search said-lines
@@ -78,7 +81,8 @@ clumarief-probe-line-parts-spec =
     field-numbers-requires
     enum-known-method
     method-numbers-requires
-    enum-known-number
+    enum-known-refusal
+    refusal-number-requires
     cast-seven
     seven-requires-2
     returns
