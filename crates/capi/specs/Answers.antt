@@ -5,7 +5,7 @@ use Prim.Native.Nat.{ℕ}
 use lib.ListN.{replicate}
 use Rattle.load_rule.specs.declared.Load.{Load}
 use Rattle.load_rule.specs.Loading.{refusal, loadNumbers, answerOf, classesLeft, membersLeft, poolLeft}
-use Rattle.load.specs.Into.{lent}
+use Rattle.load.specs.inner.Into.{lent}
 
 -- "number, place, length, lines, blank, applied, idle, class, field, method, short, names, then zeros"
 abbrev pub answerNumbers : Load → List ℕ

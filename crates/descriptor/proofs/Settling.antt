@@ -25,7 +25,7 @@ use Rattle.table_pool.specs.declared.write.Wrote.{Wrote}
 use Rattle.table_pool.specs.Names.{slash, slashed, classDescriptor}
 use Rattle.descriptor.specs.Types.{keptText}
 use Rattle.descriptor.specs.Signatures.{isLetter, rawKept, rawType, afterClose, rawSignature}
-use Rattle.table_pool.specs.Wrote.{Written, WroteBy}
+use Rattle.table_pool.specs.inner.Wrote.{Written, WroteBy}
 use Rattle.table_pool.proofs.Naming.{slashed-length}
 use Rattle.table_pool.proofs.Writes.{wrote-then}
 

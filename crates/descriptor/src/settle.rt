@@ -10,7 +10,7 @@ ghost use lib.ListN.{length};
 ghost use Rattle.table_pool.specs.Names.{classDescriptor};
 ghost use Rattle.ground.specs.Put.{between};
 ghost use Rattle.descriptor.specs.Signatures.{isLetter, rawKept, rawType, rawSignature};
-ghost use Rattle.table_pool.specs.Wrote.{WroteBy};
+ghost use Rattle.table_pool.specs.inner.Wrote.{WroteBy};
 
 // Whether a byte is one of the nine letters.
 fn is_letter(b: u8) -> bool

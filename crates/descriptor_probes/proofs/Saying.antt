@@ -13,7 +13,7 @@ use Rattle.ground.specs.Put.{between}
 use Rattle.descriptor.specs.declared.types.TypeShape.{TypeShape}
 use Rattle.descriptor.specs.Types.{shapeOf}
 use Rattle.descriptor.specs.Signatures.{rawSignature}
-use Rattle.table_pool.specs.Wrote.{WroteBy}
+use Rattle.table_pool.specs.inner.Wrote.{WroteBy}
 use Rattle.descriptor_probes.specs.Answers.{wroteNumbers, baseNumber, baseLetter, shapeNumbers, Said, SaidWithin}
 
 pub done-numbers : (w : Wrote) {q : ℕ} → w ≡ Done q → 1 ∷ q ∷ [] ≡ wroteNumbers w

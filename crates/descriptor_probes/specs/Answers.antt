@@ -13,7 +13,7 @@ use Rattle.descriptor.specs.declared.types.Base.the-variants.{Letter, Kept, Nam
 use Rattle.descriptor.specs.declared.types.TypeShape.{TypeShape}
 use Rattle.ground.specs.Put.{between}
 use Rattle.descriptor.specs.Signatures.{rawSignature}
-use Rattle.table_pool.specs.Wrote.{WroteBy}
+use Rattle.table_pool.specs.inner.Wrote.{WroteBy}
 
 abbrev pub wroteNumbers : Wrote → List ℕ
 wroteNumbers (Done q) = 1 ∷ q ∷ []

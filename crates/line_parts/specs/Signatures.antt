@@ -14,6 +14,7 @@ use Rattle.line_parts.specs.declared.signature.Qualified.{Qualified}
 use Rattle.line_parts.specs.declared.signature.Qualified.the-variants.{Owned, Plain}
 use Rattle.line_parts.specs.declared.signature.Signature.{Signature}
 use Rattle.line_parts.specs.declared.signature.Signature.the-variants.{Parts, NoSignature}
+use Rattle.text_places.specs.declared.spans.Span.{Span}
 use Rattle.text_places.specs.Spans.{span, partOf, Lies}
 
 -- "Before `(`: owner and name split at the last dot; no dot, the owner is this class line's display."
@@ -23,6 +24,11 @@ qualifiedAt s (At dot) = Owned (span 0 dot) (span (dot + 1) (length s))
 
 abbrev pub qualifiedOf : List ℕ → Qualified
 qualifiedOf s = qualifiedAt s (lastWhere (starts 0x2E) s)
+
+-- a method's name, without its owner
+abbrev pub nameSpan : Qualified → Span
+nameSpan (Owned owner name) = name
+nameSpan (Plain name) = name
 
 -- "After `)`, trimmed": the display range
 abbrev pub linesAfter : List ℕ → TrailingRange

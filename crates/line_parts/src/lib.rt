@@ -19,4 +19,5 @@ pub use method::method_parts;
 pub use method::shifted_method;
 pub use signature::Qualified;
 pub use signature::Signature;
+pub use signature::name_span;
 pub use signature::signature_parts;

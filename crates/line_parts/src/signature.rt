@@ -9,12 +9,22 @@ use text_places::shifted;
 use text_white::trim_both;
 ghost use mathlib.Core.Path.{_≡_};
 ghost use Prim.Native.Nat.{_+_, _<_};
-ghost use Rattle.line_parts.specs.Signatures.{qualifiedOf, linesAfter, methodSignature};
+ghost use Rattle.line_parts.specs.Signatures.{nameSpan, qualifiedOf, linesAfter, methodSignature};
 
 // A method's name, with its owner where it has one.
 pub enum Qualified {
     Owned { owner: Span, name: Span },
     Plain { name: Span },
+}
+
+// A method's name, without its owner.
+pub fn name_span(named: Qualified) -> Span
+    ensures { λ r. ⌜ r ≡ nameSpan named ⌝ }
+{
+    match named {
+        Qualified::Owned { owner: _, name } => name,
+        Qualified::Plain { name } => name,
+    }
 }
 
 pub enum Signature {

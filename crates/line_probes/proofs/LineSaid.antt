@@ -21,7 +21,8 @@ use Rattle.line.specs.declared.line.Line.{Line}
 use Rattle.line.specs.declared.line.Line.the-variants as lines
 use Rattle.line.specs.Kinds.{refusalNumber}
 use Rattle.text_places.specs.Spans.{span}
-use Rattle.line_probes.specs.LineAnswers.{owned, ownerSpan, nameSpan, lined, firstLine, lastLine, sevenNumbers, commentLineNumbers, classNumbers, fieldNumbers, methodNumbers, lineKindNumbers, argumentNumbers}
+use Rattle.line_parts.specs.Signatures.{nameSpan}
+use Rattle.line_probes.specs.LineAnswers.{owned, ownerSpan, lined, firstLine, lastLine, sevenNumbers, commentLineNumbers, classNumbers, fieldNumbers, methodNumbers, lineKindNumbers, argumentNumbers}
 use Rattle.line_probes.proofs.Braces.{brace-counts}
 
 module _ {t x : Line} (e : t ≡ x) where

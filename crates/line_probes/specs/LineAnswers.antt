@@ -16,6 +16,7 @@ use Rattle.line.specs.declared.line.Line.{Line}
 use Rattle.line.specs.declared.line.Line.the-variants as lines
 use Rattle.line.specs.Kinds.{refusalNumber}
 use Rattle.text_places.specs.Spans.{span}
+use Rattle.line_parts.specs.Signatures.{nameSpan}
 
 -- 1 for a name with an owner
 abbrev pub owned : Qualified → ℕ
@@ -25,10 +26,6 @@ owned (Plain name) = 0
 abbrev pub ownerSpan : Qualified → Span
 ownerSpan (Owned owner name) = owner
 ownerSpan (Plain name) = span 0 0
-
-abbrev pub nameSpan : Qualified → Span
-nameSpan (Owned owner name) = name
-nameSpan (Plain name) = name
 
 -- 1 for a range
 abbrev pub lined : LineRange → ℕ

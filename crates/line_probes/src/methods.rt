@@ -2,10 +2,11 @@
 use line_parts::LineRange;
 use line_parts::Method;
 use line_parts::Qualified;
+use line_parts::name_span;
 use text_places::Span;
 ghost use mathlib.Core.Path.{_≡_};
 ghost use Rattle.ground.specs.Choice.{bit};
-ghost use Rattle.line_probes.specs.LineAnswers.{owned, ownerSpan, nameSpan, lined, firstLine, lastLine, methodNumbers};
+ghost use Rattle.line_probes.specs.LineAnswers.{owned, ownerSpan, lined, firstLine, lastLine, methodNumbers};
 
 // A test as a number.
 fn bit_number(b: bool) -> u64
@@ -33,15 +34,6 @@ fn owner_of(named: Qualified) -> Span
     match named {
         Qualified::Owned { owner, name } => owner,
         Qualified::Plain { name } => Span { start: 0, end: 0 },
-    }
-}
-
-fn name_of(named: Qualified) -> Span
-    ensures { λ r. ⌜ r ≡ nameSpan named ⌝ }
-{
-    match named {
-        Qualified::Owned { owner, name } => name,
-        Qualified::Plain { name } => name,
     }
 }
 
@@ -82,7 +74,7 @@ pub fn method_numbers(method: Method, raw: Span) -> [u64; 20]
     let lines = method.raw;
     let display = method.display;
     let owner = owner_of(named);
-    let name = name_of(named);
+    let name = name_span(named);
     [
         4,
         returned.start as u64,

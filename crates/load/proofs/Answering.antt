@@ -23,13 +23,13 @@ use Rattle.text_white.proofs.TrimLaws.{run-inside}
 use Rattle.table_rows.specs.Rows.{zeroClass, zeroMember}
 use Rattle.load_rule.specs.declared.Load.{Load}
 use Rattle.load_rule.specs.declared.Load.the-variants.{TooLong, NotUtf8}
-use Rattle.load_rule.specs.Loading.{Lent, counting, checked, answerOf, isLoaded, leaves, classRowsOf, memberRowsOf, poolOf, linesParse}
-use Rattle.load.specs.Into.{lent}
+use Rattle.load_rule.specs.Loading.{Lent, counting, checked, answerOf, isLoaded, leaves, classRowsOf, memberRowsOf, poolOf, linesParse, mostText}
+use Rattle.load.specs.inner.Into.{lent}
 use Rattle.load.specs.Loads.{Cleared, Left, Loads}
 
 -- a text that is not too long
-short-text : (s : List ℕ) (ls : List (List ℕ)) (n : Lent) → length s ≤ 1048576 → answerOf s ls n ≡ checked (checkOf s) ls (counting n)
-short-text s ls n h = rw (le-ltb 1048576 (length s) h)
+short-text : (s : List ℕ) (ls : List (List ℕ)) (n : Lent) → length s ≤ mostText → answerOf s ls n ≡ checked (checkOf s) ls (counting n)
+short-text s ls n h = rw (le-ltb mostText (length s) h)
 
 module _ (s : List ℕ) (ls : List (List ℕ)) (nc nm np : ℕ) {c m : List (List ℕ)} {p : List ℕ} where
   -- a refusal, and all is zero
@@ -43,10 +43,10 @@ module _ (s : List ℕ) (ls : List (List ℕ)) (nc nm np : ℕ) {c m : List (Lis
         pool = k .pool ∙ sym (ap (λ q. pick q (poolOf ls ++ replicate (np - length (poolOf ls)) 0) (replicate np 0)) not);
       }
 
-  pub loads-too-long : 1048576 < length s → Cleared nc nm np c m p → Loads TooLong s ls nc nm np c m p
-  loads-too-long h k = refused-all (sym (rw (lt-ltb 1048576 (length s) h))) refl k
+  pub loads-too-long : mostText < length s → Cleared nc nm np c m p → Loads TooLong s ls nc nm np c m p
+  loads-too-long h k = refused-all (sym (rw (lt-ltb mostText (length s) h))) refl k
 
-  module _ (h : length s ≤ 1048576) {t : Check} (e : t ≡ checkOf s) where
+  module _ (h : length s ≤ mostText) {t : Check} (e : t ≡ checkOf s) where
     module _ {at k : ℕ} (f : t ≡ Broken at k) where
       pub loads-not-utf8 : Cleared nc nm np c m p → Loads (NotUtf8 at k) s ls nc nm np c m p
       loads-not-utf8 z = refused-all (sym (short-text s ls (lent nc nm np) h ∙ ap (λ x. checked x ls (counting (lent nc nm np))) (sym e ∙ f))) refl z
@@ -61,7 +61,7 @@ module _ (s : List ℕ) (ls : List (List ℕ)) (nc nm np : ℕ) {c m : List (Lis
           pool = k .pool ∙ ap (λ x. leaves 0 np x (poolOf ls)) is;
         }
 
-module _ (s : List ℕ) (h : length s ≤ 1048576) {t : Check} (e : t ≡ checkOf s) {at k : ℕ} (f : t ≡ Broken at k) where
+module _ (s : List ℕ) (h : length s ≤ mostText) {t : Check} (e : t ≡ checkOf s) {at k : ℕ} (f : t ≡ Broken at k) where
   pub place-fits : Fits w32 at
   place-fits = let b = broken-breaks s (sym e ∙ f) .inside in omega arith
 
@@ -69,10 +69,10 @@ module _ (s : List ℕ) (h : length s ≤ 1048576) {t : Check} (e : t ≡ checkO
   length-fits = let b = broken-short s (sym e ∙ f) in omega arith
 
 -- the text from a place on
-pub rest-short : (s : List ℕ) (start : ℕ) → length s ≤ 1048576 → length (take (length s - start) (drop start s)) ≤ 1048576
+pub rest-short : (s : List ℕ) (start : ℕ) → length s ≤ mostText → length (take (length s - start) (drop start s)) ≤ mostText
 rest-short s start h = let a = length-take (length s - start) (drop start s) in omega arith
 
-pub loads-rest : (s : List ℕ) (start nc nm np : ℕ) {c m : List (List ℕ)} {p : List ℕ} → length s ≤ 1048576 → {t : Check} → t ≡ checkOf s → t ≡ Valid → {r : Load} →
+pub loads-rest : (s : List ℕ) (start nc nm np : ℕ) {c m : List (List ℕ)} {p : List ℕ} → length s ≤ mostText → {t : Check} → t ≡ checkOf s → t ≡ Valid → {r : Load} →
     Left r (lines (take (length s - start) (drop start s))) nc nm np c m p → Loads r s (lines (drop start s)) nc nm np c m p
 loads-rest s start nc nm np {c} {m} {p} h e f {r} k =
     let k₁ : Left r (lines (drop start s)) nc nm np c m p = rw (take-rest s start) at k in

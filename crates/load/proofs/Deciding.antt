@@ -19,13 +19,13 @@ use Rattle.load_rule.specs.declared.Scan.the-variants as scan
 use Rattle.load_rule.specs.declared.Load.the-variants.{Loaded, Faulty, NoClasses, FewClassRows, FewMemberRows, ShortPool}
 use Rattle.load_rule.specs.Fates.{noFates, scanOf}
 use Rattle.load_rule.specs.Classes.{classesOf}
-use Rattle.load_rule.specs.Loading.{entriesOf, poolOf, scanned, linesLoad}
+use Rattle.load_rule.specs.Loading.{entriesOf, poolOf, scanned, linesLoad, mostText}
 use Rattle.load_rule.specs.Members.{under}
 use Rattle.load_rule.proofs.Sums.{fates-sum, class-count, member-count}
-use Rattle.load_scan.specs.Bounds.{Within}
+use Rattle.load_scan.specs.inner.Bounds.{Within}
 use Rattle.load_scan.proofs.Scanning.{scanOn}
 use Rattle.load_members.proofs.Filling.{from-nothing}
-use Rattle.load.specs.Into.{lent, Counted, missing, refusedOf, acceptedOf}
+use Rattle.load.specs.inner.Into.{lent, Counted, missing, refusedOf, acceptedOf}
 
 -- A text has no more lines than bytes.
 onto-length : (b : ℕ) (ls : List (List ℕ)) → length (onto b ls) ≤ suc (length ls)
@@ -54,7 +54,7 @@ module _ (c m : ℕ) {s : Scan} where
     sound = ap (λ x. refusedOf x c m) e
 
     pub refused-fits : Counted s → Fits w32 (f .field + f .method)
-    refused-fits h = let k : f .field + f .method ≤ 1048576 = rw e at h in omega arith
+    refused-fits h = let k : f .field + f .method ≤ mostText = rw e at h in omega arith
 
     pub refused-none : f .class ≡ 0 → NoClasses ≡ refusedOf s c m
     refused-none z = sym (sound ∙ rw (eq-eqb (f .class) 0 z))
@@ -93,7 +93,7 @@ module _ {f : Fates} (e : f ≡ noFates) where
 pub ruleset scanning-all = (none-within, scan-whole, needs)
 
 -- the members of a text can be counted
-counted-scan : (s : List ℕ) (o : Scan) → scanOf (lines s) ≡ o → length s ≤ 1048576 → Counted o
+counted-scan : (s : List ℕ) (o : Scan) → scanOf (lines s) ≡ o → length s ≤ mostText → Counted o
 counted-scan s (scan.Sound f) e h =
     let k = fates-sum (lines s) e in
     let a = k .adds in
@@ -102,7 +102,7 @@ counted-scan s (scan.Sound f) e h =
     omega arith
 counted-scan s (scan.Faulty number line) e h = tt
 
-pub scan-counted : (s : List ℕ) {o : Scan} → o ≡ scanOf (lines s) → length s ≤ 1048576 → Counted o
+pub scan-counted : (s : List ℕ) {o : Scan} → o ≡ scanOf (lines s) → length s ≤ mostText → Counted o
 scan-counted s {o} e h = counted-scan s o (sym e) h
 
 -- Where something does not fit, the refusal is that of the rule.

@@ -11,10 +11,10 @@ use Rattle.ground.specs.Choice.{pick}
 use Rattle.ground.specs.Put.{put}
 use Rattle.ground.proofs.Parts.{prefix-whole}
 use Rattle.ground.proofs.PutLaws.{put-same-many}
-use Rattle.table_rows.specs.Rows.{zeroClass, zeroMember}
+use Rattle.table_rows.specs.Rows.{zeroClass, zeroMember, mostMembers, mostClasses, mostPool}
 use Rattle.load_rule.specs.declared.Load.{Load}
-use Rattle.load_rule.specs.Loading.{counting, linesLoad, isLoaded, classRowsOf, memberRowsOf, poolOf}
-use Rattle.load.specs.Into.{Limits, lent, IntoBy}
+use Rattle.load_rule.specs.Loading.{counting, linesLoad, isLoaded, classRowsOf, memberRowsOf, poolOf, mostText}
+use Rattle.load.specs.inner.Into.{Limits, lent, IntoBy}
 use Rattle.load.specs.Loads.{Cleared, Left}
 
 -- Part of what was made zero.
@@ -46,13 +46,13 @@ capped z n most c {x} e f =
     let k : length c ≡ n = ap length e ∙ length-replicate n z in
     omega arith
 
-module _ {nc nm np : ℕ} {c m : List (List ℕ)} {p : List ℕ} (k : Cleared nc nm np c m p) {x y w : ℕ} (a : x ≡ min (length c) 4096) (b : y ≡ min (length m) 32768) (d : w ≡ min (length p) 4194304) where
-  pub lines-limits : (s : List ℕ) → length s ≤ 1048576 → Limits (length s) (length (take x c)) (length (take y m)) (length (take w p))
+module _ {nc nm np : ℕ} {c m : List (List ℕ)} {p : List ℕ} (k : Cleared nc nm np c m p) {x y w : ℕ} (a : x ≡ min (length c) mostClasses) (b : y ≡ min (length m) mostMembers) (d : w ≡ min (length p) mostPool) where
+  pub lines-limits : (s : List ℕ) → length s ≤ mostText → Limits (length s) (length (take x c)) (length (take y m)) (length (take w p))
   lines-limits s h = record {
     text = h;
-    classes = omega (arith, capped zeroClass nc 4096 c (k .classes) a);
-    members = omega (arith, capped zeroMember nm 32768 m (k .members) b);
-    pool = omega (arith, capped 0 np 4194304 p (k .pool) d);
+    classes = omega (arith, capped zeroClass nc mostClasses c (k .classes) a);
+    members = omega (arith, capped zeroMember nm mostMembers m (k .members) b);
+    pool = omega (arith, capped 0 np mostPool p (k .pool) d);
   }
 
   pub class-part : x ≤ length c
@@ -68,9 +68,9 @@ module _ {nc nm np : ℕ} {c m : List (List ℕ)} {p : List ℕ} (k : Cleared nc
     answers : r ≡ linesLoad ls (counting (lent nc nm np))
     answers =
         i .answer
-        ∙ ap (λ n. linesLoad ls (lent n (length (take y m)) (length (take w p)))) (capped zeroClass nc 4096 c (k .classes) a)
-        ∙ ap (λ n. linesLoad ls (lent (min nc 4096) n (length (take w p)))) (capped zeroMember nm 32768 m (k .members) b)
-        ∙ ap (λ n. linesLoad ls (lent (min nc 4096) (min nm 32768) n)) (capped 0 np 4194304 p (k .pool) d)
+        ∙ ap (λ n. linesLoad ls (lent n (length (take y m)) (length (take w p)))) (capped zeroClass nc mostClasses c (k .classes) a)
+        ∙ ap (λ n. linesLoad ls (lent (min nc mostClasses) n (length (take w p)))) (capped zeroMember nm mostMembers m (k .members) b)
+        ∙ ap (λ n. linesLoad ls (lent (min nc mostClasses) (min nm mostMembers) n)) (capped 0 np mostPool p (k .pool) d)
 
     pub left-loaded : t ≡ true → Left r ls nc nm np (c₁ ++ drop x c) (m₁ ++ drop y m) (p₁ ++ drop w p)
     left-loaded f =

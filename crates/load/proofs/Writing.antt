@@ -15,10 +15,10 @@ use Rattle.ground.proofs.Cases.{clash}
 use Rattle.ground.proofs.Parts.{prefix-whole}
 use Rattle.ground.proofs.PutLaws.{put-part, length-put}
 use Rattle.table_pool.specs.declared.write.Wrote.the-variants.{Done}
-use Rattle.table_pool.specs.Wrote.{Written}
+use Rattle.table_pool.specs.inner.Wrote.{Written}
 use Rattle.table_pool.proofs.Writes.{written-length, wrote-then}
 use Rattle.tables.specs.Back.{readBack}
-use Rattle.load_raw_types.specs.Marks.{Indexed}
+use Rattle.load_raw_types.specs.inner.Marks.{Indexed}
 use Rattle.load_rule.specs.declared.Fates.{Fates}
 use Rattle.load_rule.specs.declared.Scan.{Scan}
 use Rattle.load_rule.specs.declared.Scan.the-variants as scan
@@ -31,12 +31,13 @@ use Rattle.load_rule.specs.Loading.{entriesOf, poolOf, scanned, isLoaded}
 use Rattle.load_rule.proofs.Appended.{class-rows-length, entry-rows-length}
 use Rattle.load_classes.specs.declared.write.Classes.{Classes}
 use Rattle.load_classes.specs.declared.write.Classes.the-variants as classes
-use Rattle.load_classes.specs.Written.{ClassesAt, ClassesBy}
+use Rattle.load_classes.specs.inner.Written.{ClassesAt, ClassesBy}
 use Rattle.load_members.specs.declared.fill.Filled.{Filled}
 use Rattle.load_members.specs.declared.fill.Filled.the-variants as filled
-use Rattle.load_members.specs.Filled.{Holding, Over, members, WrittenAll, CutShort, FilledBy}
-use Rattle.load.specs.Into.{lent, refusedOf, acceptedOf, IntoBy}
+use Rattle.load_members.specs.inner.Filled.{Holding, Over, members, WrittenAll, CutShort, FilledBy}
+use Rattle.load.specs.inner.Into.{lent, refusedOf, acceptedOf, IntoBy}
 use Rattle.load.proofs.Deciding.{decided, accepted-as, scan-counted}
+use Rattle.table_rows.specs.Rows.{mostPool}
 
 -- A refusal is no load.
 missing-refused : (a b d : Bool) → isLoaded (pick a loads.NoClasses (pick b loads.FewClassRows (pick d loads.FewMemberRows loads.ShortPool))) ≡ false
@@ -90,7 +91,7 @@ module _ (ls : List (List ℕ)) (c : List (List ℕ)) (p : List ℕ) (k : Classe
   back-is : readBack (take count c₁) p₁ ≡ classesOf ls
   back-is = ap (λ x. readBack x p₁) rows-are ∙ at-them .back
 
-  pub into-pool : length p ≤ 4194304 → length p₁ ≤ 4194304
+  pub into-pool : length p ≤ mostPool → length p₁ ≤ mostPool
   into-pool h = let n = written-length (at-them .texts) in omega arith
 
   module _ (m m₁ : List (List ℕ)) (p₂ : List ℕ) (d : Filled) (v : FilledBy d ls (readBack (take count c₁) p₁) q m p₁ m₁ p₂) where
@@ -125,7 +126,7 @@ module _ (ls : List (List ℕ)) (c : List (List ℕ)) (p : List ℕ) (k : Classe
       texts : Written names p 0 (poolOf ls) p₂
       texts = wrote-then (Done names) (entryPool (entriesOf ls)) p₂ (at-them .texts) (held .texts)
 
-      pub into-names : length p ≤ 4194304 → names ≤ 4194304
+      pub into-names : length p ≤ mostPool → names ≤ mostPool
       into-names h = omega (arith, texts .past, texts .room)
 
       pub into-all : {r : Load} → r ≡ acceptedOf f names → IntoBy r ls c m p c₁ m₁ p₂

@@ -6,7 +6,7 @@ use lib.ListN.{replicate}
 use Rattle.table_rows.specs.Rows.{zeroClass, zeroMember}
 use Rattle.load_rule.specs.declared.Load.{Load}
 use Rattle.load_rule.specs.Loading.{counting, linesLoad, leaves, classRowsOf, memberRowsOf, poolOf, answerOf, classesLeft, membersLeft, poolLeft}
-use Rattle.load.specs.Into.{lent}
+use Rattle.load.specs.inner.Into.{lent}
 
 -- all is zero
 pub record Cleared (nc nm np : ℕ) (c m : List (List ℕ)) (p : List ℕ) : Type 0 where

@@ -1,14 +1,15 @@
 // The entry points.
 use crate::fill::load_into;
 use load_rule::Load;
+use load_rule::MOST_TEXT;
 use table_rows::ClassRow;
+use table_rows::MOST_CLASSES;
+use table_rows::MOST_MEMBERS;
+use table_rows::MOST_POOL;
 use table_rows::MemberRow;
 use table_rows::zero_bytes;
 use table_rows::zero_classes;
 use table_rows::zero_members;
-use tables::MOST_CLASSES;
-use tables::MOST_MEMBERS;
-use tables::MOST_POOL;
 use text_utf8::Check;
 use text_utf8::check_text;
 use text_white::after_marks;
@@ -16,7 +17,7 @@ ghost use mathlib.Core.Path.{_≡_};
 ghost use Prim.Native.Nat.{_≤_, min};
 ghost use lib.ListN.{length, drop};
 ghost use Rattle.text_places.specs.Lines.{lines};
-ghost use Rattle.load_rule.specs.Loading.{isLoaded, linesParse, linesStr};
+ghost use Rattle.load_rule.specs.Loading.{isLoaded, linesParse, linesStr, mostText};
 ghost use Rattle.load.specs.Loads.{Cleared, Left, Loads};
 
 fn lesser(a: usize, b: usize) -> usize
@@ -62,7 +63,7 @@ fn load_lines(
     members: &mut [MemberRow],
     pool: &mut [u8],
 ) -> Load
-    requires { ⌜ length (now text) ≤ 1048576 ⌝ }
+    requires { ⌜ length (now text) ≤ mostText ⌝ }
     ensures { λ r. ⌜ Left r (lines (now (text .entry))) (length (now (classes .entry))) (length (now (members .entry))) (length (now (pool .entry))) (now (classes .exit)) (now (members .exit)) (now (pool .exit)) ⌝ }
 {
     clear(classes, members, pool);
@@ -93,7 +94,7 @@ fn load_from(
     requires { ⌜ start ≤ length (now text) ⌝ }
     ensures { λ r. ⌜ Loads r (now (text .entry)) (lines (drop start (now (text .entry)))) (length (now (classes .entry))) (length (now (members .entry))) (length (now (pool .entry))) (now (classes .exit)) (now (members .exit)) (now (pool .exit)) ⌝ }
 {
-    if 1048576 < text.len() {
+    if MOST_TEXT < text.len() {
         clear(classes, members, pool);
         return Load::TooLong;
     }

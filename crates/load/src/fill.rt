@@ -3,6 +3,7 @@ use load_classes::Classes;
 use load_classes::write_classes;
 use load_members::Filled;
 use load_members::write_members;
+use load_raw_types::INDEX;
 use load_rule::Fates;
 use load_rule::Load;
 use load_rule::Scan;
@@ -15,7 +16,9 @@ ghost use Prim.Native.Nat.{_≤_};
 ghost use lib.ListN.{length};
 ghost use Rattle.text_places.specs.Lines.{lines};
 ghost use Rattle.load_rule.specs.Fates.{scanOf};
-ghost use Rattle.load.specs.Into.{Limits, Counted, refusedOf, acceptedOf, IntoBy};
+ghost use Rattle.load.specs.inner.Into.{Limits, Counted, refusedOf, acceptedOf, IntoBy};
+ghost use Rattle.load_rule.specs.Loading.{mostText};
+ghost use Rattle.table_rows.specs.Rows.{mostPool};
 
 // The answer where rows or pool are too few: the first faulty line, else what is missing first.
 fn refused(scan: Scan, class_rows: usize, member_rows: usize) -> Load
@@ -41,7 +44,7 @@ fn refused(scan: Scan, class_rows: usize, member_rows: usize) -> Load
 
 // What becomes of all lines.
 fn scan_all(text: &[u8]) -> Scan
-    requires { ⌜ length (now text) ≤ 1048576 ⌝ }
+    requires { ⌜ length (now text) ≤ mostText ⌝ }
     ensures { λ r. ⌜ r ≡ scanOf (lines (now (text .entry))) ⌝ }
 {
     scan_from(text, 0, no_fates(), false)
@@ -49,7 +52,7 @@ fn scan_all(text: &[u8]) -> Scan
 
 // The answer once all is written.
 fn accepted(fates: Fates, end: usize) -> Load
-    requires { ⌜ «end» ≤ 4194304 ⌝ }
+    requires { ⌜ «end» ≤ mostPool ⌝ }
     ensures { λ r. ⌜ r ≡ acceptedOf fates «end» ⌝ }
 {
     if fates.class == 0 {
@@ -73,7 +76,7 @@ pub fn load_into(
 {
     let class_rows = classes.len();
     let member_rows = members.len();
-    let mut index = [0u16; 12288];
+    let mut index = [0u16; INDEX];
     match write_classes(text, classes, &mut index, pool) {
         Classes::Written { count, end } => match write_members(
             text,

@@ -9,16 +9,16 @@ use Rattle.table_pool.specs.declared.write.Wrote.{Wrote}
 use Rattle.table_pool.specs.declared.write.Wrote.the-variants as wrote
 use Rattle.table_pool.specs.Names.{classDescriptor}
 use Rattle.table_rows.specs.Classes.{Pair}
-use Rattle.table_pool.specs.Wrote.{Written, WroteBy}
+use Rattle.table_pool.specs.inner.Wrote.{Written, WroteBy}
 use Rattle.table_pool.proofs.Writes.{wrote-told, wrote-none, wrote-then, none-then}
-use Rattle.table_rows.specs.Rows.{text, packClass}
-use Rattle.load_raw_types.specs.Marks.{markOf, chained}
+use Rattle.table_rows.specs.Rows.{text, packClass, mostPool}
+use Rattle.load_raw_types.specs.inner.Marks.{markOf, chained}
 use Rattle.load_rule.specs.Classes.{classText, classRow}
 use Rattle.load_classes.specs.declared.names.ClassNames.{ClassNames}
 use Rattle.load_classes.specs.declared.entry.PairPlaces.{PairPlaces}
 use Rattle.load_classes.specs.declared.entry.PairPlaces.the-variants.{At, NoRoom}
-use Rattle.load_classes.specs.Names.{classNamed}
-use Rattle.load_classes.specs.Entries.{PairAt, PairBy, EnteredClass}
+use Rattle.load_classes.specs.inner.Names.{classNamed}
+use Rattle.load_classes.specs.inner.Entries.{PairAt, PairBy, EnteredClass}
 
 -- Two descriptors, one after the other.
 module _ (d : List ℕ) (at : ℕ) (a b : List ℕ) (r : Wrote) (d₁ : List ℕ) (w : WroteBy r d at a d₁) where
@@ -69,7 +69,7 @@ module _ (d : List ℕ) (at : ℕ) (l : List ℕ) (ns : ClassNames) (r : PairPla
     pub enter-second : m ≤ q
     enter-second = let a = there .after in omega arith
 
-    pub enter-inside : length d ≤ 4194304 → q ≤ 4194304
+    pub enter-inside : length d ≤ mostPool → q ≤ mostPool
     enter-inside h = let p = there .written .past in let o = there .written .room in omega arith
 
     pub enter-done : {row : List ℕ} → row ≡ packClass (record { raw = text at (m - at); display = text m (q - m) }) →

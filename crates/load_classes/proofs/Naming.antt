@@ -8,13 +8,14 @@ use Rattle.text_places.specs.declared.spans.Span.{Span}
 use Rattle.text_white.specs.Trim.{trimBoth}
 use Rattle.text_white.proofs.TrimLaws.{trim-inside}
 use Rattle.line_parts.specs.declared.method.Method.{Method}
+use Rattle.line.specs.declared.line.Refusal.{Refusal}
 use Rattle.line.specs.declared.line.Line.{Line}
 use Rattle.line.specs.declared.line.Line.the-variants as kinds
 use Rattle.line.specs.Kinds.{lineOf}
 use Rattle.line_parts.proofs.Lying.{lies-more}
 use Rattle.line.proofs.Whole.{LineIn, line-lies}
 use Rattle.load_rule.specs.Classes.{classIn}
-use Rattle.load_classes.specs.Names.{NamedAt}
+use Rattle.load_classes.specs.inner.Names.{NamedAt}
 use Rattle.load_classes.proofs.Quick.{empty-no-class, space-no-class, tab-no-class, hash-no-class}
 
 module _ (l : List ℕ) {t : Line} (e : t ≡ lineOf l) where
@@ -30,7 +31,7 @@ module _ (l : List ℕ) {t : Line} (e : t ≡ lineOf l) where
   pub read-method : {m : Method} {r : Span} → t ≡ kinds.Method m r → classIn l (lineOf l) ≡ []
   read-method f = ap (classIn l) (sym e ∙ f)
 
-  pub read-refused : {k : ℕ} → t ≡ kinds.Refused k → classIn l (lineOf l) ≡ []
+  pub read-refused : {k : Refusal} → t ≡ kinds.Refused k → classIn l (lineOf l) ≡ []
   read-refused f = ap (classIn l) (sym e ∙ f)
 
   pub read-class : {d r : Span} → t ≡ kinds.Class d r → NamedAt l (record { display = d; raw = r })

@@ -12,26 +12,28 @@ use Rattle.ground.proofs.PutLaws.{put-nothing, put-set, length-put}
 use Rattle.text_places.specs.declared.lines.NextLine.{NextLine}
 use Rattle.text_places.specs.declared.lines.NextLine.the-variants.{Line, NoLine}
 use Rattle.text_places.specs.Lines.{lines, nextLine}
-use Rattle.text_places.proofs.Taking.{Taken, line-taken, none-taken, end-taken}
+use Rattle.text_places.specs.inner.Taken.{Taken}
+use Rattle.text_places.proofs.Taking.{line-taken, none-taken, end-taken}
 use Rattle.text_places.specs.Spans.{Lies}
 use Rattle.line.specs.Kinds.{lineOf}
 use Rattle.table_pool.specs.declared.write.Wrote.{Wrote}
 use Rattle.table_pool.specs.declared.write.Wrote.the-variants.{Done, NoRoom}
 use Rattle.ground.specs.Join.{join}
 use Rattle.table_rows.specs.Classes.{Pair}
-use Rattle.table_pool.specs.Wrote.{Written}
+use Rattle.table_pool.specs.inner.Wrote.{Written}
 use Rattle.table_pool.proofs.Writes.{written-length, wrote-then, wrote-as}
 use Rattle.tables.specs.Back.{readBack}
-use Rattle.load_raw_types.specs.Marks.{markOf, chained, Indexed}
+use Rattle.load_raw_types.specs.inner.Marks.{markOf, chained, Indexed, indexSize}
 use Rattle.load_raw_types.proofs.Indexing.{indexed-none, indexed-class, read-back-class}
 use Rattle.load_rule.specs.Classes.{classIn, classesOf, classText, classPool, classRow, classRows}
 use Rattle.load_rule.proofs.Appended.{join-more, join-append, class-rows-length, class-rows-more}
 use Rattle.load_classes.specs.declared.names.ClassNames.{ClassNames}
 use Rattle.load_classes.specs.declared.names.ClassLine.{ClassLine}
 use Rattle.load_classes.specs.declared.names.ClassLine.the-variants.{Names, Other}
-use Rattle.load_classes.specs.Names.{classNamed, NamedAt, NamedBy}
-use Rattle.load_classes.specs.Entries.{EnteredClass, EnteredClassBy}
-use Rattle.load_classes.specs.Written.{ClassesAt}
+use Rattle.load_classes.specs.inner.Names.{classNamed, NamedAt, NamedBy}
+use Rattle.load_classes.specs.inner.Entries.{EnteredClass, EnteredClassBy}
+use Rattle.load_classes.specs.inner.Written.{ClassesAt}
+use Rattle.table_rows.specs.Rows.{mostClasses, mostPool}
 
 -- the classes `done` are written
 pub record Rows (done : List Pair) (c : List (List ℕ)) (p : List ℕ) (count q : ℕ) (c₁ : List (List ℕ)) (i₁ p₁ : List ℕ) : Type 0 where
@@ -43,7 +45,7 @@ pub record Rows (done : List Pair) (c : List (List ℕ)) (p : List ℕ) (count q
   pub indexed : Indexed (classRows 0 done) p₁ i₁ q
   pub back : readBack (classRows 0 done) p₁ ≡ done
 
-rows-none : (c : List (List ℕ)) (p i : List ℕ) → i ≡ replicate 12288 0 → Rows [] c p 0 0 c i p
+rows-none : (c : List (List ℕ)) (p i : List ℕ) → i ≡ replicate indexSize 0 → Rows [] c p 0 0 c i p
 unfolding classRows join
 rows-none c p i e = record {
   counted = refl;
@@ -67,7 +69,7 @@ module _ {done : List Pair} {c : List (List ℕ)} {p : List ℕ} {count at : ℕ
     all-rows : wider ≡ classRows 0 (done ++ (k ∷ []))
     all-rows = ap (λ n. classRows 0 done ++ (classRow n k ∷ [])) (w .texts .past) ∙ sym (class-rows-more 0 done k)
 
-    rows-more : count < length c → count < 4096 → Rows (done ++ (k ∷ [])) c p (count + 1) q c₂ i₂ p₂
+    rows-more : count < length c → count < mostClasses → Rows (done ++ (k ∷ [])) c p (count + 1) q c₂ i₂ p₂
     rows-more h few =
         let n = length-append done (k ∷ []) in
         let o = w .counted in
@@ -91,7 +93,7 @@ module _ {done : List Pair} {c : List (List ℕ)} {p : List ℕ} {count at : ℕ
 
 -- what is written up to the place `at` of the text, and what is left
 pub record Writing (s : List ℕ) (c : List (List ℕ)) (i p : List ℕ) (at count q : ℕ) (c₁ : List (List ℕ)) (i₁ p₁ : List ℕ) : Type 0 where
-  pub most : length c ≤ 4096
+  pub most : length c ≤ mostClasses
   pub same-rows : length c₁ ≡ length c
   pub same-index : length i₁ ≡ length i
   pub same-pool : length p₁ ≡ length p
@@ -99,7 +101,7 @@ pub record Writing (s : List ℕ) (c : List (List ℕ)) (i p : List ℕ) (at cou
   pub split : classesOf (lines s) ≡ done ++ classesOf (lines (drop at s))
   pub written : Rows done c p count q c₁ i₁ p₁
 
-pub writing-starts : (s : List ℕ) (c : List (List ℕ)) (p i : List ℕ) → i ≡ replicate 12288 0 → length c ≤ 4096 → Writing s c i p 0 0 0 c i p
+pub writing-starts : (s : List ℕ) (c : List (List ℕ)) (p i : List ℕ) → i ≡ replicate indexSize 0 → length c ≤ mostClasses → Writing s c i p 0 0 0 c i p
 writing-starts s c p i e h = record { most = h; same-rows = refl; same-index = refl; same-pool = refl; done = []; split = refl; written = rows-none c p i e }
 
 -- all of them
@@ -132,16 +134,16 @@ module _ {s : List ℕ} {c : List (List ℕ)} {i p : List ℕ} {at count q : ℕ
   pub writing-ends : length s ≤ at → ClassesAt count q (lines s) c p c₁ p₁ i₁
   writing-ends h = ended (end-taken s at h)
 
-  pub writing-size : length i₁ ≡ 12288
+  pub writing-size : length i₁ ≡ indexSize
   writing-size = w .written .indexed .size
 
-  pub writing-pool : length p ≤ 4194304 → length p₁ ≤ 4194304
+  pub writing-pool : length p ≤ mostPool → length p₁ ≤ mostPool
   writing-pool h = let e = written-length (w .written .texts) in omega arith
 
-  pub writing-count : length c ≤ 4096 → count < length c₁ → count < 4096
+  pub writing-count : length c ≤ mostClasses → count < length c₁ → count < mostClasses
   writing-count h l = let e = w .written .size in omega arith
 
-  pub writing-fits : length c ≤ 4096 → Fits w64 (count + 1)
+  pub writing-fits : length c ≤ mostClasses → Fits w64 (count + 1)
   writing-fits h = let n = w .written .room in omega arith
 
   module _ {t : NextLine} (x : t ≡ nextLine s at) where

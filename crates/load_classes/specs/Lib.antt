@@ -1,4 +1,2 @@
--- What the functions that write classes say, in terms of the rule of loading.
-pub mod Names
-pub mod Entries
-pub mod Written
+-- No rule stands here: what is said of the lines is the rule of loading.
+pub mod inner

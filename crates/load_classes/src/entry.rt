@@ -5,16 +5,17 @@ use table_pool::Wrote;
 use table_pool::put_class;
 use table_rows::Class;
 use table_rows::ClassRow;
-use table_rows::Text;
 use table_rows::pack_class;
+use table_rows::text_between;
 ghost use mathlib.Core.Path.{_≡_};
 ghost use Prim.Native.Nat.{_≤_, _<_, _-_};
 ghost use lib.ListN.{length};
 ghost use Rattle.text_places.specs.Spans.{Lies};
 ghost use Rattle.table_pool.specs.Names.{classDescriptor};
-ghost use Rattle.table_rows.specs.Rows.{text, packClass};
-ghost use Rattle.load_classes.specs.Entries.{PairBy, EnteredClassBy};
-ghost use Rattle.load_classes.specs.Names.{classNamed};
+ghost use Rattle.table_rows.specs.Rows.{text, packClass, mostClasses, mostPool};
+ghost use Rattle.load_classes.specs.inner.Entries.{PairBy, EnteredClassBy};
+ghost use Rattle.load_classes.specs.inner.Names.{classNamed};
+ghost use Rattle.load_raw_types.specs.inner.Marks.{indexSize};
 
 // Two descriptors are written: where the second one starts, and the place after it.
 pub enum PairPlaces {
@@ -37,20 +38,12 @@ fn put_pair(pool: &mut [u8], at: usize, raw: &[u8], display: &[u8]) -> PairPlace
 
 // The row of a class whose raw descriptor runs from `at` to `middle`, and its display descriptor from there to `next`.
 fn class_row(at: usize, middle: usize, next: usize) -> ClassRow
-    requires { ⌜ (at ≤ middle) × (middle ≤ next) × (next ≤ 4194304) ⌝ }
+    requires { ⌜ (at ≤ middle) × (middle ≤ next) × (next ≤ mostPool) ⌝ }
     ensures { λ r. ⌜ r ≡ packClass (record { raw = text at (middle - at); display = text middle (next - middle) }) ⌝ }
 {
-    let raw = middle - at;
-    let display = next - middle;
     pack_class(Class {
-        raw: Text {
-            place: at as u32,
-            length: raw as u32,
-        },
-        display: Text {
-            place: middle as u32,
-            length: display as u32,
-        },
+        raw: text_between(at, middle),
+        display: text_between(middle, next),
     })
 }
 
@@ -64,7 +57,7 @@ pub fn enter_class(
     line: &[u8],
     names: ClassNames,
 ) -> Wrote
-    requires { ⌜ (count < length (now classes)) × (count < 4096) × (length (now index) ≡ 12288) × (length (now pool) ≤ 4194304) × Lies (names .display) (length (now line)) × Lies (names .raw) (length (now line)) ⌝ }
+    requires { ⌜ (count < length (now classes)) × (count < mostClasses) × (length (now index) ≡ indexSize) × (length (now pool) ≤ mostPool) × Lies (names .display) (length (now line)) × Lies (names .raw) (length (now line)) ⌝ }
     ensures { λ r. ⌜ EnteredClassBy r (classNamed (now (line .entry)) names) count at (now (classes .entry)) (now (index .entry)) (now (pool .entry)) (now (classes .exit)) (now (index .exit)) (now (pool .exit)) ⌝ }
 {
     let start = names.raw.start;

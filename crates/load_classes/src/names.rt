@@ -2,7 +2,7 @@
 use line::Line;
 use line::read_line;
 use text_places::Span;
-ghost use Rattle.load_classes.specs.Names.{NamedBy};
+ghost use Rattle.load_classes.specs.inner.Names.{NamedBy};
 
 pub struct ClassNames {
     pub display: Span,

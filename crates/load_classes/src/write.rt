@@ -10,7 +10,9 @@ ghost use mathlib.Core.Path.{_≡_};
 ghost use Prim.Native.Nat.{_≤_};
 ghost use lib.ListN.{length, replicate};
 ghost use Rattle.text_places.specs.Lines.{lines};
-ghost use Rattle.load_classes.specs.Written.{ClassesBy};
+ghost use Rattle.load_classes.specs.inner.Written.{ClassesBy};
+ghost use Rattle.load_raw_types.specs.inner.Marks.{indexSize};
+ghost use Rattle.table_rows.specs.Rows.{mostClasses, mostPool};
 
 pub enum Classes {
     // How many rows are used, and where the descriptors end.
@@ -26,7 +28,7 @@ pub fn write_classes(
     index: &mut [u16],
     pool: &mut [u8],
 ) -> Classes
-    requires { ⌜ (now index ≡ replicate 12288 0) × (length (now classes) ≤ 4096) × (length (now pool) ≤ 4194304) ⌝ }
+    requires { ⌜ (now index ≡ replicate indexSize 0) × (length (now classes) ≤ mostClasses) × (length (now pool) ≤ mostPool) ⌝ }
     ensures { λ r. ⌜ ClassesBy r (lines (now (text .entry))) (now (classes .entry)) (now (pool .entry)) (now (classes .exit)) (now (pool .exit)) (now (index .exit)) ⌝ }
 {
     let mut at = 0;

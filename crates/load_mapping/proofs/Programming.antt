@@ -4,12 +4,12 @@ use mathlib.Core.List.{List}
 use Prim.Native.Nat.{ℕ, _≤_, _<_}
 use lib.ListN.{length}
 use borrow.Author.Tests.{lt-ltb, le-ltb}
-use Rattle.table_pool.specs.Wrote.{Written}
+use Rattle.table_pool.specs.inner.Wrote.{Written}
 use Rattle.load_rule.specs.declared.Load.{Load}
 use Rattle.load_rule.specs.declared.Load.the-variants.{TooLong}
 use Rattle.load_rule.specs.Loading.{answerOf, linesParse}
 use Rattle.load_report.specs.Report.{reportOf}
-use Rattle.load.specs.Into.{lent}
+use Rattle.load.specs.inner.Into.{lent}
 use Rattle.load.specs.Loads.{Loads}
 use Rattle.load_mapping.specs.Program.{programAnswer}
 

@@ -8,7 +8,7 @@ use Rattle.ground.specs.Choice.{pick}
 use Rattle.load_rule.specs.declared.Load.{Load}
 use Rattle.load_rule.specs.declared.Load.the-variants.{TooLong}
 use Rattle.load_rule.specs.Loading.{answerOf, linesParse}
-use Rattle.load.specs.Into.{lent}
+use Rattle.load.specs.inner.Into.{lent}
 
 abbrev pub programAnswer : List ℕ → Load
 programAnswer s = pick (ltb 65536 (length s)) TooLong (answerOf s (linesParse s) (lent 1024 1024 65536))

@@ -4,7 +4,7 @@ use load_report::report_line;
 use load_rule::Load;
 ghost use Prim.Native.Nat.{_≤_};
 ghost use lib.ListN.{length};
-ghost use Rattle.table_pool.specs.Wrote.{Written};
+ghost use Rattle.table_pool.specs.inner.Wrote.{Written};
 ghost use Rattle.load_report.specs.Report.{reportOf};
 ghost use Rattle.load_mapping.specs.Program.{programAnswer};
 

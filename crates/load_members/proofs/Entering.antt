@@ -17,7 +17,7 @@ use Rattle.line_parts.specs.declared.method.Method as method
 use Rattle.line.specs.declared.line.Line.{Line}
 use Rattle.line.specs.declared.line.Line.the-variants as kinds
 use Rattle.text_places.specs.Spans.{partOf, Lies}
-use Rattle.line_parts.specs.Signatures.{NameIn}
+use Rattle.line_parts.specs.Signatures.{NameIn, nameSpan}
 use Rattle.line_parts.specs.Arguments.{argumentsOf}
 use Rattle.line.specs.Kinds.{lineOf}
 use Rattle.line_parts.proofs.Lying.{trim-lies, lies-more, name-more}
@@ -27,20 +27,23 @@ use Rattle.table_rows.specs.Classes.{Pair}
 use Rattle.table_rows.specs.declared.rows.Member as rows
 use Rattle.table_rows.specs.Rows.{packMember}
 use Rattle.load_rule.specs.Fates.{ownerless, faultOf, classLine}
-use Rattle.load_rule.specs.Members.{Entry, field, method, rangesOf, Under, under, underAfter, fieldDescriptor, methodDescriptor, nameText, entryIn, entryText, entryRow}
+use Rattle.load_rule.specs.Members.{MemberKind, field, method, Entry, rangesOf, Under, under, underAfter, fieldDescriptor, methodDescriptor, nameText, entryIn, entryText, entryRow}
 use Rattle.load_texts.specs.declared.texts.Body.{Body}
 use Rattle.load_texts.specs.declared.texts.Body.the-variants.{Field, Method}
 use Rattle.load_texts.specs.declared.texts.MemberLine.{MemberLine}
 use Rattle.load_texts.specs.declared.texts.Places.{Places}
 use Rattle.load_members.specs.declared.role.Role.the-variants.{Class, Member, Neither}
-use Rattle.load_texts.specs.Texts.{BodyIn, MemberIn, descriptorText, ownerText, MemberTexts, textsOf, allTexts}
-use Rattle.load_members.specs.Roles.{nameSpan, roleOf}
-use Rattle.load_texts.specs.Places.{Placed, memberPlaced}
+use Rattle.load_texts.specs.inner.Texts.{BodyIn, MemberIn, descriptorText, ownerText, MemberTexts, textsOf, allTexts}
+use Rattle.load_members.specs.inner.Roles.{roleOf}
+use Rattle.load_texts.specs.inner.Places.{Placed, memberPlaced}
 
 -- the member with these texts
+abbrev pub kindWith : List ℕ → Body → MemberKind
+kindWith owner (Field declared) = field
+kindWith owner (Method m) = method owner (rangesOf (m .raw) (m .display))
+
 abbrev pub entryOf : ℕ → MemberTexts → Body → Entry
-entryOf c t (Field declared) = field c (t .raw) (t .descriptor) (t .name)
-entryOf c t (Method m) = method c (t .raw) (t .descriptor) (t .name) (t .owner) (rangesOf (m .raw) (m .display))
+entryOf c t b = record { class = c; rawName = t .raw; descriptor = t .descriptor; name = t .name; kind = kindWith (t .owner) b }
 
 named-same : (l : List ℕ) (q : Qualified) → nameText l q ≡ partOf l (nameSpan q)
 named-same l (Owned owner name) = refl
@@ -57,17 +60,25 @@ method-same cs unknown l m = refl
 
 -- Lines by their role.
 module _ (cs : List Pair) (u : Under) (signature : Look) (l : List ℕ) where
+  abbrev fieldWith : List ℕ → List ℕ → List ℕ → Entry
+  fieldWith r d n = record { class = u .count - 1; rawName = r; descriptor = d; name = n; kind = field }
+
+  abbrev methodWith : method.Method → List ℕ → List ℕ → List ℕ → Entry
+  methodWith m r d n =
+      record { class = u .count - 1; rawName = r; descriptor = d; name = n; kind = method (ownerText (u .own) l (Method m)) (rangesOf (m .raw) (m .display)) }
+
   pub entry-member : (k : Line) {p : MemberLine} → roleOf k ≡ Member p → entryIn cs u signature l k ≡ entryOf (u .count - 1) (textsOf cs signature (u .own) l p) (p .body) ∷ []
   entry-member kinds.Blank e = absurd (let z : _≡_ {A = ℕ} 0 1 = cc in omega arith)
   entry-member (kinds.Comment b) e = absurd (let z : _≡_ {A = ℕ} 0 1 = cc in omega arith)
   entry-member (kinds.Class d r) e = absurd (let z : _≡_ {A = ℕ} 0 1 = cc in omega arith)
   entry-member (kinds.Field d n r) {p} e =
       let is : record { raw = r; name = n; body = Field d } ≡ p = cc in
-      ap (λ x. field (u .count - 1) (partOf l r) x (partOf l n) ∷ []) (field-same cs signature l d) ∙ ap (λ x. entryOf (u .count - 1) (textsOf cs signature (u .own) l x) (x .body) ∷ []) is
+      ap (λ x. fieldWith (partOf l r) x (partOf l n) ∷ []) (field-same cs signature l d)
+      ∙ ap (λ x. entryOf (u .count - 1) (textsOf cs signature (u .own) l x) (x .body) ∷ []) is
   entry-member (kinds.Method m r) {p} e =
       let is : record { raw = r; name = nameSpan (m .named); body = Method m } ≡ p = cc in
-      ap (λ x. method (u .count - 1) (partOf l r) x (nameText l (m .named)) (ownerText (u .own) l (Method m)) (rangesOf (m .raw) (m .display)) ∷ []) (method-same cs signature l m)
-      ∙ ap (λ x. method (u .count - 1) (partOf l r) (descriptorText cs signature l (Method m)) x (ownerText (u .own) l (Method m)) (rangesOf (m .raw) (m .display)) ∷ []) (named-same l (m .named))
+      ap (λ x. methodWith m (partOf l r) x (nameText l (m .named)) ∷ []) (method-same cs signature l m)
+      ∙ ap (λ x. methodWith m (partOf l r) (descriptorText cs signature l (Method m)) x ∷ []) (named-same l (m .named))
       ∙ ap (λ x. entryOf (u .count - 1) (textsOf cs signature (u .own) l x) (x .body) ∷ []) is
   entry-member (kinds.Refused n) e = absurd (let z : _≡_ {A = ℕ} 0 1 = cc in omega arith)
 

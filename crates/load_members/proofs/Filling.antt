@@ -12,44 +12,46 @@ use Rattle.ground.specs.Put.{put}
 use Rattle.ground.proofs.Parts.{part-part}
 use Rattle.ground.proofs.PutLaws.{put-nothing, put-set}
 use Rattle.text_places.specs.Lines.{lines}
-use Rattle.text_places.proofs.Taking.{Taken, end-taken}
+use Rattle.text_places.specs.inner.Taken.{Taken}
+use Rattle.text_places.proofs.Taking.{end-taken}
 use Rattle.text_places.specs.declared.spans.Span.{Span}
 use Rattle.text_places.specs.Spans.{span, partOf, Lies}
 use Rattle.line.specs.Kinds.{lineOf}
 use Rattle.table_pool.specs.declared.write.Wrote.the-variants.{Done}
 use Rattle.ground.specs.Join.{join}
 use Rattle.table_pool.proofs.Writes.{written-length, wrote-then, wrote-as}
-use Rattle.table_rows.specs.Rows.{packMember}
+use Rattle.table_rows.specs.Rows.{packMember, mostPool}
 use Rattle.tables.specs.Back.{readBack}
-use Rattle.load_raw_types.specs.Marks.{Indexed}
+use Rattle.load_raw_types.specs.inner.Marks.{Indexed}
 use Rattle.load_raw_types.proofs.Indexing.{read-back-put, indexed-put}
 use Rattle.load_rule.specs.declared.Fates.{Fates}
 use Rattle.load_rule.specs.declared.Scan.{Scan}
 use Rattle.load_rule.specs.declared.Scan.the-variants as scan
 use Rattle.load_rule.specs.Comments.{residualIn}
+use Rattle.load_rule.specs.Loading.{mostText}
 use Rattle.load_rule.specs.Fates.{noFates, classLine, faultsFrom, scanOf}
 use Rattle.load_rule.specs.Members.{Entry, Under, under, underAfter, entryIn, entriesFrom, entryText, entryPool, entryRow, entryRows}
 use Rattle.load_rule.proofs.Tally.{fate-class}
 use Rattle.load_rule.proofs.Appended.{join-more, join-append, entry-rows-length, entry-rows-more}
-use Rattle.load_scan.specs.Bounds.{Within}
-use Rattle.load_scan.proofs.Scanning.{scanOn, Scanning, scan-end, scanned-more}
+use Rattle.load_scan.specs.inner.Bounds.{Within}
+use Rattle.load_scan.proofs.Stepping.{step-told, step-ended, step-faulty}
+use Rattle.load_scan.proofs.Scanning.{Scanning, scan-end, scanned-more}
 use Rattle.load_texts.specs.declared.texts.MemberLine.{MemberLine}
 use Rattle.load_members.specs.declared.role.Role.{Role}
 use Rattle.load_members.specs.declared.role.Role.the-variants.{Class, Member, Neither}
-use Rattle.load_members.specs.declared.step.LineStep.{LineStep}
-use Rattle.load_members.specs.declared.step.Step.{Step}
-use Rattle.load_members.specs.declared.step.Step.the-variants as steps
+use Rattle.load_scan.specs.declared.step.LineStep.{LineStep}
+use Rattle.load_scan.specs.declared.step.Step.{Step}
+use Rattle.load_scan.specs.declared.step.Step.the-variants as steps
 use Rattle.load_members.specs.declared.enter.Slot.{Slot}
 use Rattle.load_members.specs.declared.enter.NextSlot.{NextSlot}
 use Rattle.load_members.specs.declared.enter.NextSlot.the-variants.{At, NoRoom}
-use Rattle.load_members.specs.Steps.{bytesOf, StepLine, StepBy}
-use Rattle.load_members.specs.Enters.{slotAt, MemberReady, RoleReady, Ready, textsIn, WrittenMember, Kept, underClass, EnterBy}
-use Rattle.load_texts.specs.Texts.{MemberTexts, allTexts}
-use Rattle.load_members.specs.Roles.{roleOf}
-use Rattle.load_texts.specs.Places.{EnteredTexts, memberPlaced}
-use Rattle.load_members.specs.Filled.{Holding, Over, members, WrittenAll, CutShort}
+use Rattle.load_scan.specs.inner.Steps.{scanOn, bytesOf, StepLine, StepBy}
+use Rattle.load_members.specs.inner.Enters.{slotAt, MemberReady, RoleReady, Ready, textsIn, WrittenMember, Kept, underClass, EnterBy}
+use Rattle.load_texts.specs.inner.Texts.{MemberTexts, allTexts}
+use Rattle.load_members.specs.inner.Roles.{roleOf}
+use Rattle.load_texts.specs.inner.Places.{EnteredTexts, memberPlaced}
+use Rattle.load_members.specs.inner.Filled.{Holding, Over, members, WrittenAll, CutShort}
 use Rattle.load_texts.proofs.Typing.{written-nothing}
-use Rattle.load_members.proofs.Stepping.{step-told, step-ended, step-faulty}
 use Rattle.load_members.proofs.Entering.{entryOf, entry-member, entry-class, entry-neither, under-class, under-neither, under-member, member-counts, member-classed, member-lies, class-lies, entry-text, entry-row}
 
 -- the rule starts with nothing counted
@@ -59,7 +61,7 @@ from-nothing ls = ap (λ f. faultsFrom f 1 0 ls) (simp zero-add)
 -- what is written up to the place `at`, and what is left
 pub record Filling (s : List ℕ) (rows : List (List ℕ)) (index : List ℕ) (used : ℕ) (m₀ : List (List ℕ)) (p₀ : List ℕ)
     (at : ℕ) (t : Slot) (member : Bool) (f : Fates) (m : List (List ℕ)) (p : List ℕ) : Type 0 where
-  pub short : length s ≤ 1048576
+  pub short : length s ≤ mostText
   pub scanning : Scanning s 0 noFates false at f member
   pub done : List Entry
   pub split : members (lines s) (readBack rows p₀) ≡ done ++ entriesFrom (readBack rows p₀) (under (f .class) (partOf s (span (t .own) (t .«own_end»)))) (lines (drop at s))
@@ -71,7 +73,7 @@ pub record Filling (s : List ℕ) (rows : List (List ℕ)) (index : List ℕ) (u
   pub pool-size : length p ≡ length p₀
   pub rows-size : length m ≡ length m₀
 
-pub filling-starts : (s : List ℕ) (rows : List (List ℕ)) (index : List ℕ) (used : ℕ) (m₀ : List (List ℕ)) (p₀ : List ℕ) → length s ≤ 1048576 → Indexed rows p₀ index used →
+pub filling-starts : (s : List ℕ) (rows : List (List ℕ)) (index : List ℕ) (used : ℕ) (m₀ : List (List ℕ)) (p₀ : List ℕ) → length s ≤ mostText → Indexed rows p₀ index used →
     {f : Fates} → f ≡ noFates → {t : Slot} → t ≡ slotAt 0 used 0 0 → Filling s rows index used m₀ p₀ 0 t false f m₀ p₀
 unfolding join entryRows
 filling-starts s rows index used m₀ p₀ h x g e = rw (g, e) (record {
@@ -92,11 +94,6 @@ filling-starts s rows index used m₀ p₀ h x g e = rw (g, e) (record {
   rows-size = refl;
 })
 
--- one line more is counted
-scan-on : {s : List ℕ} {«from» : ℕ} {before : Fates} {has : Bool} {at : ℕ} {f : Fates} {member : Bool} {y : LineStep} →
-    Scanning s «from» before has at f member → StepLine s at f member y → Scanning s «from» before has (y .next) (y .sum) (y .«has_member»)
-scan-on k st = scanned-more k (st .taken) (st .clean) (st .sum) (st .after)
-
 module _ {s : List ℕ} {rows : List (List ℕ)} {index : List ℕ} {used : ℕ} {m₀ : List (List ℕ)} {p₀ : List ℕ}
     {at : ℕ} {t : Slot} {member : Bool} {f : Fates} {m : List (List ℕ)} {p : List ℕ}
     (k : Filling s rows index used m₀ p₀ at t member f m p) where
@@ -116,7 +113,7 @@ module _ {s : List ℕ} {rows : List (List ℕ)} {index : List ℕ} {used : ℕ}
   pub filling-fault : (r : Step) → StepBy r s at f member → {number line : ℕ} → r ≡ steps.Faulty number line → scanOf (lines s) ≡ scan.Faulty number line
   filling-fault r w q = sym (from-nothing (lines s)) ∙ sym (k .scanning .decides) ∙ step-faulty s at f member r w q
 
-  pub filling-text : length s ≤ 1048576
+  pub filling-text : length s ≤ mostText
   filling-text = k .short
 
   pub filling-inside-text : at ≤ length s
@@ -139,7 +136,7 @@ module _ {s : List ℕ} {rows : List (List ℕ)} {index : List ℕ} {used : ℕ}
     filling-falls h = let u = taken .past in let i = taken .inside in omega arith
 
     next-scan : Scanning s 0 noFates false (y .next) (y .sum) (y .«has_member»)
-    next-scan = scan-on (k .scanning) st
+    next-scan = scanned-more (k .scanning) st
 
     pub filling-within : Within (y .sum) (y .next)
     filling-within = next-scan .within
@@ -161,10 +158,10 @@ module _ {s : List ℕ} {rows : List (List ℕ)} {index : List ℕ} {used : ℕ}
     short-scan : {sc : Scan} → sc ≡ scanOn (y .sum) (y .«has_member») (lines (drop (y .next) s)) → sc ≡ scanOf (lines s)
     short-scan y = y ∙ next-scan .decides ∙ from-nothing (lines s)
 
-    role-told : {x : Role} → y .role ≡ x → roleOf (lineOf (bytesOf s y)) ≡ x
-    role-told h = sym (st .is) ∙ h
+    role-told : {x : Role} → roleOf (y .kind) ≡ x → roleOf (lineOf (bytesOf s y)) ≡ x
+    role-told h = sym (ap roleOf (st .is)) ∙ h
 
-    pub filling-neither : y .role ≡ Neither → Filling s rows index used m₀ p₀ (y .next) t (y .«has_member») (y .sum) m p
+    pub filling-neither : roleOf (y .kind) ≡ Neither → Filling s rows index used m₀ p₀ (y .next) t (y .«has_member») (y .sum) m p
     unfolding here
     filling-neither h = record {
       short = k .short;
@@ -184,7 +181,7 @@ module _ {s : List ℕ} {rows : List (List ℕ)} {index : List ℕ} {used : ℕ}
       rows-size = k .rows-size;
     }
 
-    module _ {d : Span} (h : y .role ≡ Class d) where
+    module _ {d : Span} (h : roleOf (y .kind) ≡ Class d) where
       inside : Lies d (length (bytesOf s y))
       inside = class-lies (bytesOf s y) (role-told h)
 
@@ -212,7 +209,7 @@ module _ {s : List ℕ} {rows : List (List ℕ)} {index : List ℕ} {used : ℕ}
         rows-size = k .rows-size;
       }
 
-    module _ {parts : MemberLine} (h : y .role ≡ Member parts) where
+    module _ {parts : MemberLine} (h : roleOf (y .kind) ≡ Member parts) where
       no-class : y .sum .class ≡ f .class
       no-class = next-class ∙ ap (λ c. f .class + c) (member-counts (lineOf (bytesOf s y)) (role-told h)) ∙ add-zero (f .class)
 
@@ -310,12 +307,12 @@ module _ {s : List ℕ} {rows : List (List ℕ)} {index : List ℕ} {used : ℕ}
             })
 
     -- A line is entered by its role.
-    role-ready : (ro : Role) → y .role ≡ ro → RoleReady ro s y
+    role-ready : (ro : Role) → roleOf (y .kind) ≡ ro → RoleReady ro s y
     role-ready Neither h = tt
     role-ready (Class d) h = inside h
     role-ready (Member parts) h = member-ready h
 
-    pub filling-ready : length p₀ ≤ 4194304 → Ready s rows index y t p
+    pub filling-ready : length p₀ ≤ mostPool → Ready s rows index y t p
     filling-ready most = record {
       short = k .short;
       order = taken .order;
@@ -325,28 +322,28 @@ module _ {s : List ℕ} {rows : List (List ℕ)} {index : List ℕ} {used : ℕ}
       own-inside = k .lies .within;
       pool = let size = k .pool-size in omega arith;
       indexed = k .indexed;
-      role = role-ready (y .role) refl;
+      role = role-ready (roleOf (y .kind)) refl;
     }
 
-    module _ (o : NextSlot) (m₁ : List (List ℕ)) (p₁ : List ℕ) (w : EnterBy (y .role) o s rows y t m p m₁ p₁) where
+    module _ (o : NextSlot) (m₁ : List (List ℕ)) (p₁ : List ℕ) (w : EnterBy (roleOf (y .kind)) o s rows y t m p m₁ p₁) where
       pub filling-entered : {t₁ : Slot} → o ≡ At t₁ → Filling s rows index used m₀ p₀ (y .next) t₁ (y .«has_member») (y .sum) m₁ p₁
-      filling-entered {t₁} e = go (y .role) refl w
+      filling-entered {t₁} e = go (roleOf (y .kind)) refl w
         where
           kept : {u : Slot} → Filling s rows index used m₀ p₀ (y .next) u (y .«has_member») (y .sum) m p → Kept o u m p m₁ p₁ → Filling s rows index used m₀ p₀ (y .next) t₁ (y .«has_member») (y .sum) m₁ p₁
           kept {u} v z = let a = z .answer in let is : t₁ ≡ u = cc in rw (is, z .rows, z .pool) v
 
-          go : (ro : Role) → y .role ≡ ro → EnterBy ro o s rows y t m p m₁ p₁ → Filling s rows index used m₀ p₀ (y .next) t₁ (y .«has_member») (y .sum) m₁ p₁
+          go : (ro : Role) → roleOf (y .kind) ≡ ro → EnterBy ro o s rows y t m p m₁ p₁ → Filling s rows index used m₀ p₀ (y .next) t₁ (y .«has_member») (y .sum) m₁ p₁
           go Neither h z = kept (filling-neither h) z
           go (Class d) h z = kept (filling-class h) z
           go (Member parts) h z = filling-member h (rw e at z)
 
       pub filling-over : o ≡ NoRoom → {sc : Scan} → sc ≡ scanOn (y .sum) (y .«has_member») (lines (drop (y .next) s)) → CutShort sc (lines s) (readBack rows p₀) used m₀ p₀
-      filling-over e i = record { scanned = short-scan i; over = go (y .role) refl w }
+      filling-over e i = record { scanned = short-scan i; over = go (roleOf (y .kind)) refl w }
         where
           none : {u : Slot} → o ≡ At u → Over (members (lines s) (readBack rows p₀)) used m₀ p₀
           none f = absurd (let z : _≡_ {A = ℕ} 0 1 = cc in omega arith)
 
-          go : (ro : Role) → y .role ≡ ro → EnterBy ro o s rows y t m p m₁ p₁ → Over (members (lines s) (readBack rows p₀)) used m₀ p₀
+          go : (ro : Role) → roleOf (y .kind) ≡ ro → EnterBy ro o s rows y t m p m₁ p₁ → Over (members (lines s) (readBack rows p₀)) used m₀ p₀
           go Neither h z = none (z .answer)
           go (Class d) h z = none (z .answer)
           go (Member parts) h z =

@@ -9,20 +9,22 @@ use Rattle.text_places.specs.declared.spans.Span.{Span}
 use Rattle.line_parts.specs.declared.method.LineRange.{LineRange}
 use Rattle.line_parts.specs.declared.method.LineRange.the-variants.{Lines, NoLines}
 use Rattle.line_parts.specs.declared.method.Method as method
+use Rattle.line.specs.declared.line.Refusal.{Refusal}
 use Rattle.line.specs.declared.line.Line.{Line}
 use Rattle.line.specs.declared.line.Line.the-variants as kinds
 use Rattle.table_rows.specs.declared.rows.Text.{Text}
 use Rattle.table_rows.specs.declared.rows.Ranges.{Ranges}
 use Rattle.table_rows.specs.declared.rows.Ranges.the-variants.{None, Display, Both}
 use Rattle.table_rows.specs.declared.rows.Member as rows
-use Rattle.table_rows.specs.Rows.{text, packMember}
+use Rattle.table_rows.specs.Rows.{text, packMember, mostPool}
 use Rattle.load_rule.specs.Members.{rangesOf}
 use Rattle.load_texts.specs.declared.texts.Body.{Body}
 use Rattle.load_texts.specs.declared.texts.Body.the-variants.{Field, Method}
 use Rattle.load_texts.specs.declared.texts.Places.{Places}
 use Rattle.load_members.specs.declared.role.Role.the-variants.{Class, Member, Neither}
-use Rattle.load_members.specs.Roles.{nameSpan, roleOf}
-use Rattle.load_texts.specs.Places.{Rising, memberPlaced}
+use Rattle.line_parts.specs.Signatures.{nameSpan}
+use Rattle.load_members.specs.inner.Roles.{roleOf}
+use Rattle.load_texts.specs.inner.Places.{Rising, memberPlaced}
 
 -- Ranges.
 module _ {raw display : LineRange} where
@@ -53,7 +55,7 @@ module _ {k : Line} where
       Member (record { raw = r; name = n; body = Method m }) ≡ roleOf k
   role-method {m} {r} e f = ap (λ x. Member (record { raw = r; name = x; body = Method m })) f ∙ sym (ap roleOf e)
 
-  pub role-refused : {n : ℕ} → k ≡ kinds.Refused n → Neither ≡ roleOf k
+  pub role-refused : {n : Refusal} → k ≡ kinds.Refused n → Neither ≡ roleOf k
   role-refused e = sym (ap roleOf e)
 
 pub ruleset roles = (role-class, role-field, role-method, role-refused, needs)
@@ -70,29 +72,29 @@ module _ (c at : ℕ) (q : Places) {body : Body} {raw descriptor name : Text} (a
         row ≡ packMember (record { kind = 1; class = c; «raw_name» = raw; descriptor = descriptor; name = name; owner = owner; ranges = ranges }) → row ≡ packMember (memberPlaced c at q body)
     row-method g = g ∙ rw (a, b, e, f, o, r)
 
-module _ (at : ℕ) (q : Places) (x : Rising at q 4194304) where
+module _ (at : ℕ) (q : Places) (x : Rising at q mostPool) where
   pub raw-order : at ≤ q .descriptor
   raw-order = x .raw
 
-  pub raw-inside : q .descriptor ≤ 4194304
+  pub raw-inside : q .descriptor ≤ mostPool
   raw-inside = omega (arith, x .descriptor, x .name, x .owner, x .inside)
 
   pub descriptor-order : q .descriptor ≤ q .name
   descriptor-order = x .descriptor
 
-  pub descriptor-inside : q .name ≤ 4194304
+  pub descriptor-inside : q .name ≤ mostPool
   descriptor-inside = omega (arith, x .name, x .owner, x .inside)
 
   pub name-order : q .name ≤ q .owner
   name-order = x .name
 
-  pub name-inside : q .owner ≤ 4194304
+  pub name-inside : q .owner ≤ mostPool
   name-inside = omega (arith, x .owner, x .inside)
 
   pub owner-order : q .owner ≤ q .«end»
   owner-order = x .owner
 
-  pub owner-inside : q .«end» ≤ 4194304
+  pub owner-inside : q .«end» ≤ mostPool
   owner-inside = x .inside
 
 pub ruleset member-rows =

@@ -1,5 +1,5 @@
 -- What a line adds to the rows and the pool. Assumes nothing.
-use mathlib.Core.Path.{_≡_, refl}
+use mathlib.Core.Path.{_≡_, refl, sym, _∙_}
 use mathlib.Core.List.{List}
 use mathlib.Core.Logic.{inl, inr}
 use Prim.Native.Nat.{ℕ, _+_, _-_, _≤_, _<_}
@@ -12,24 +12,25 @@ use Rattle.ground.proofs.Parts.{take-rest}
 use Rattle.text_places.specs.Lines.{lines}
 use Rattle.text_places.specs.declared.spans.Span.{Span}
 use Rattle.text_places.specs.Spans.{Lies}
-use Rattle.table_rows.specs.Rows.{packMember}
+use Rattle.table_rows.specs.Rows.{packMember, mostPool}
 use Rattle.tables.specs.Back.{readBack}
-use Rattle.load_raw_types.specs.Marks.{Indexed}
+use Rattle.load_raw_types.specs.inner.Marks.{Indexed}
 use Rattle.load_rule.specs.Comments.{residualIn}
 use Rattle.load_texts.specs.declared.texts.MemberLine.{MemberLine}
 use Rattle.load_texts.specs.declared.texts.Places.{Places}
 use Rattle.load_texts.specs.declared.texts.Entered.{Entered}
 use Rattle.load_texts.specs.declared.texts.Entered.the-variants as entered
-use Rattle.load_texts.specs.Texts.{MemberIn, textsOf}
-use Rattle.load_texts.specs.Places.{EnteredTexts, EnteredTextsBy, Rising, memberPlaced}
+use Rattle.load_texts.specs.inner.Texts.{MemberIn, textsOf}
+use Rattle.load_texts.specs.inner.Places.{EnteredTexts, EnteredTextsBy, Rising, memberPlaced}
 use Rattle.load_members.specs.declared.role.Role.{Role}
 use Rattle.load_members.specs.declared.role.Role.the-variants.{Class, Member, Neither}
-use Rattle.load_members.specs.declared.step.LineStep.{LineStep}
+use Rattle.load_scan.specs.declared.step.LineStep.{LineStep}
 use Rattle.load_members.specs.declared.enter.Slot.{Slot}
 use Rattle.load_members.specs.declared.enter.NextSlot.{NextSlot}
 use Rattle.load_members.specs.declared.enter.NextSlot.the-variants.{At, NoRoom}
-use Rattle.load_members.specs.Steps.{bytesOf}
-use Rattle.load_members.specs.Enters.{slotAt, MemberReady, RoleReady, Ready, textsIn, WrittenMember, WrittenMemberBy, underClass, EnterBy}
+use Rattle.load_scan.specs.inner.Steps.{bytesOf}
+use Rattle.load_members.specs.inner.Roles.{roleOf}
+use Rattle.load_members.specs.inner.Enters.{slotAt, MemberReady, RoleReady, Ready, textsIn, WrittenMember, WrittenMemberBy, underClass, EnterBy}
 
 -- A member.
 pub member-parts : {s : List ℕ} {x : LineStep} {parts : MemberLine} → MemberReady s x parts → MemberIn parts (length (take (x .«end» - x .start) (drop (x .start) s)))
@@ -55,7 +56,7 @@ module _ {s : List ℕ} {rows : List (List ℕ)} {index : List ℕ} {x : LineSte
         it : EnteredTexts places p (t .place) (textsIn s (readBack rows p) x t parts) p₁
         it = rw e at as-ruled
 
-        pub member-rising : Rising (t .place) places 4194304
+        pub member-rising : Rising (t .place) places mostPool
         member-rising =
             let l = it .placed in
             let d = l .descriptor in
@@ -80,34 +81,33 @@ role-class ro s x k e = rw e at k
 role-member : (ro : Role) (s : List ℕ) (x : LineStep) {parts : MemberLine} → RoleReady ro s x → ro ≡ Member parts → MemberReady s x parts
 role-member ro s x k e = rw e at k
 
-module _ {s : List ℕ} {rows : List (List ℕ)} {index : List ℕ} {x : LineStep} {t : Slot} {p : List ℕ} (k : Ready s rows index x t p) where
-  module _ {d : Span} (e : x .role ≡ Class d) where
+module _ {s : List ℕ} {rows : List (List ℕ)} {index : List ℕ} {x : LineStep} {t : Slot} {p : List ℕ} (k : Ready s rows index x t p)
+    {ro : Role} (g : ro ≡ roleOf (x .kind)) where
+  module _ {d : Span} (e : ro ≡ Class d) where
+    named : Lies d (length (bytesOf s x))
+    named = role-class (roleOf (x .kind)) s x (k .role) (sym g ∙ e)
+
     within : d .«end» ≤ x .«end» - x .start
-    within = let w = role-class (x .role) s x (k .role) e .within in let l = length-take (x .«end» - x .start) (drop (x .start) s) in omega arith
+    within = let w = named .within in let l = length-take (x .«end» - x .start) (drop (x .start) s) in omega arith
 
     pub line-own : Fits w64 (x .start + d .start)
-    line-own =
-        let a = k .short in
-        let b = k .order in
-        let c = k .inside in
-        let o = role-class (x .role) s x (k .role) e .order in
-        let w = within in
-        omega arith
+    line-own = let a = k .short in let b = k .order in let c = k .inside in let o = named .order in let w = within in omega arith
 
     pub line-own-end : Fits w64 (x .start + d .«end»)
     line-own-end = let a = k .short in let b = k .order in let c = k .inside in let w = within in omega arith
 
-  pub line-member : {parts : MemberLine} → x .role ≡ Member parts → MemberReady s x parts
-  line-member e = role-member (x .role) s x (k .role) e
+  pub line-member : {parts : MemberLine} → ro ≡ Member parts → MemberReady s x parts
+  line-member e = role-member (roleOf (x .kind)) s x (k .role) (sym g ∙ e)
 
-module _ (ro : Role) (s : List ℕ) (rows : List (List ℕ)) (x : LineStep) (t : Slot) (m : List (List ℕ)) (p : List ℕ) where
-  pub line-neither : ro ≡ Neither → EnterBy ro (At t) s rows x t m p m p
-  line-neither e = rw e (record { answer = refl; rows = refl; pool = refl })
+module _ (s : List ℕ) (rows : List (List ℕ)) (x : LineStep) (t : Slot) (m : List (List ℕ)) (p : List ℕ) {ro : Role} (g : ro ≡ roleOf (x .kind)) where
+  pub line-neither : ro ≡ Neither → EnterBy (roleOf (x .kind)) (At t) s rows x t m p m p
+  line-neither e = rw (← g, e) (record { answer = refl; rows = refl; pool = refl })
 
-  pub line-class : {d : Span} → ro ≡ Class d → EnterBy ro (At (underClass x d t)) s rows x t m p m p
-  line-class e = rw e (record { answer = refl; rows = refl; pool = refl })
+  pub line-class : {d : Span} → ro ≡ Class d → EnterBy (roleOf (x .kind)) (At (underClass x d t)) s rows x t m p m p
+  line-class e = rw (← g, e) (record { answer = refl; rows = refl; pool = refl })
 
-  pub line-entered : {parts : MemberLine} → ro ≡ Member parts → (r : NextSlot) (m₁ : List (List ℕ)) (p₁ : List ℕ) → WrittenMemberBy r s rows x parts t m p m₁ p₁ → EnterBy ro r s rows x t m p m₁ p₁
-  line-entered e r m₁ p₁ w = rw e w
+  pub line-entered : {parts : MemberLine} → ro ≡ Member parts → (r : NextSlot) (m₁ : List (List ℕ)) (p₁ : List ℕ) → WrittenMemberBy r s rows x parts t m p m₁ p₁ →
+      EnterBy (roleOf (x .kind)) r s rows x t m p m₁ p₁
+  line-entered e r m₁ p₁ w = rw (← g, e) w
 
 pub ruleset line-slots = (line-own, line-own-end, line-member, line-neither, line-class, line-entered, needs)

@@ -1,5 +1,2 @@
--- What the functions that write members say, in terms of the rule of loading.
-pub mod Roles
-pub mod Steps
-pub mod Enters
-pub mod Filled
+-- No rule stands here: what is said of the lines is the rule of loading.
+pub mod inner

@@ -1,14 +1,16 @@
 // What a line adds to the rows and the pool.
 use crate::role::Role;
+use crate::role::role_of;
 use crate::row::member_row;
-use crate::step::LineStep;
+use load_scan::LineStep;
 use load_texts::Entered;
 use load_texts::MemberLine;
 use load_texts::write_texts;
 use table_rows::ClassRow;
 use table_rows::MemberRow;
 ghost use mathlib.Core.Path.{_≡_};
-ghost use Rattle.load_members.specs.Enters.{slotAt, Ready, MemberReady, WrittenMemberBy, EnterBy};
+ghost use Rattle.load_members.specs.inner.Roles.{roleOf};
+ghost use Rattle.load_members.specs.inner.Enters.{slotAt, Ready, MemberReady, WrittenMemberBy, EnterBy};
 
 // Where the next member goes: its row, and the place of its texts. The display name of its class line stands in the text from `own` to `own_end`.
 pub struct Slot {
@@ -86,10 +88,10 @@ pub fn enter_line(
     index: &[u16],
 ) -> NextSlot
     requires { ⌜ Ready (now text) (now classes) (now index) line slot (now pool) ⌝ }
-    ensures { λ r. ⌜ EnterBy (line .role) r (now (text .entry)) (now (classes .entry)) line slot (now (members .entry)) (now (pool .entry)) (now (members .exit)) (now (pool .exit)) ⌝ }
+    ensures { λ r. ⌜ EnterBy (roleOf (line .kind)) r (now (text .entry)) (now (classes .entry)) line slot (now (members .entry)) (now (pool .entry)) (now (members .exit)) (now (pool .exit)) ⌝ }
 {
-    let role = line.role;
-    match role {
+    let kind = line.kind;
+    match role_of(kind) {
         Role::Neither => NextSlot::At(slot),
         Role::Class(display) => {
             let mut named = slot;

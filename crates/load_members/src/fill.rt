@@ -2,10 +2,10 @@
 use crate::enter::NextSlot;
 use crate::enter::enter_line;
 use crate::enter::first_slot;
-use crate::step::Step;
-use crate::step::next_step;
 use load_rule::Fates;
 use load_rule::Scan;
+use load_scan::Step;
+use load_scan::next_step;
 use load_scan::no_fates;
 use load_scan::scan_from;
 use table_rows::ClassRow;
@@ -13,9 +13,11 @@ use table_rows::MemberRow;
 ghost use Prim.Native.Nat.{_≤_};
 ghost use lib.ListN.{length};
 ghost use Rattle.text_places.specs.Lines.{lines};
+ghost use Rattle.table_rows.specs.Rows.{mostPool};
 ghost use Rattle.tables.specs.Back.{readBack};
-ghost use Rattle.load_raw_types.specs.Marks.{Indexed};
-ghost use Rattle.load_members.specs.Filled.{FilledBy};
+ghost use Rattle.load_rule.specs.Loading.{mostText};
+ghost use Rattle.load_raw_types.specs.inner.Marks.{Indexed};
+ghost use Rattle.load_members.specs.inner.Filled.{FilledBy};
 
 pub enum Filled {
     // What became of the lines, and where the texts end.
@@ -34,7 +36,7 @@ pub fn write_members(
     pool: &mut [u8],
     used: usize,
 ) -> Filled
-    requires { ⌜ (length (now text) ≤ 1048576) × (length (now pool) ≤ 4194304) × Indexed (now classes) (now pool) (now index) used ⌝ }
+    requires { ⌜ (length (now text) ≤ mostText) × (length (now pool) ≤ mostPool) × Indexed (now classes) (now pool) (now index) used ⌝ }
     ensures { λ r. ⌜ FilledBy r (lines (now (text .entry))) (readBack (now (classes .entry)) (now (pool .entry))) used (now (members .entry)) (now (pool .entry)) (now (members .exit)) (now (pool .exit)) ⌝ }
 {
     let mut at = 0;

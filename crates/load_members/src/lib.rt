@@ -3,7 +3,6 @@ mod enter;
 mod fill;
 mod role;
 mod row;
-mod step;
 
 pub use fill::Filled;
 pub use fill::write_members;

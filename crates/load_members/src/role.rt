@@ -1,26 +1,17 @@
 // What a line is to the rows.
 use line::Line;
-use line_parts::Qualified;
+use line_parts::name_span;
 use load_texts::Body;
 use load_texts::MemberLine;
 use text_places::Span;
 ghost use mathlib.Core.Path.{_≡_};
-ghost use Rattle.load_members.specs.Roles.{nameSpan, roleOf};
+ghost use Rattle.load_members.specs.inner.Roles.{roleOf};
 
 pub enum Role {
     // A class line, by its display name.
     Class(Span),
     Member(MemberLine),
     Neither,
-}
-
-fn name_span(named: Qualified) -> Span
-    ensures { λ r. ⌜ r ≡ nameSpan named ⌝ }
-{
-    match named {
-        Qualified::Owned { owner: _, name } => name,
-        Qualified::Plain { name } => name,
-    }
 }
 
 pub fn role_of(kind: Line) -> Role

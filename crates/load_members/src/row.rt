@@ -7,23 +7,11 @@ use table_rows::MemberRow;
 use table_rows::Ranges;
 use table_rows::Text;
 use table_rows::pack_member;
+use table_rows::text_between;
 ghost use mathlib.Core.Path.{_≡_};
-ghost use Prim.Native.Nat.{_≤_, _-_};
-ghost use Rattle.table_rows.specs.Rows.{text, packMember};
+ghost use Rattle.table_rows.specs.Rows.{packMember, mostPool};
 ghost use Rattle.load_rule.specs.Members.{rangesOf};
-ghost use Rattle.load_texts.specs.Places.{Rising, memberPlaced};
-
-// A text by the places at which it starts and ends.
-pub fn text_between(start: usize, end: usize) -> Text
-    requires { ⌜ (start ≤ «end») × («end» ≤ 4194304) ⌝ }
-    ensures { λ r. ⌜ r ≡ text start («end» - start) ⌝ }
-{
-    let length = end - start;
-    Text {
-        place: start as u32,
-        length: length as u32,
-    }
-}
+ghost use Rattle.load_texts.specs.inner.Places.{Rising, memberPlaced};
 
 // The ranges of a method.
 fn ranges(raw: LineRange, display: LineRange) -> Ranges
@@ -56,7 +44,7 @@ fn ranges(raw: LineRange, display: LineRange) -> Ranges
 
 // The row of a member of the class row `class`, whose texts start at the place `at`.
 pub fn member_row(class: u32, at: usize, places: Places, body: Body) -> MemberRow
-    requires { ⌜ Rising at places 4194304 ⌝ }
+    requires { ⌜ Rising at places mostPool ⌝ }
     ensures { λ r. ⌜ r ≡ packMember (memberPlaced class at places body) ⌝ }
 {
     let raw_name = text_between(at, places.descriptor);

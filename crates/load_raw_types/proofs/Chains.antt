@@ -12,7 +12,8 @@ use lib.Seq.{getD-set-same, getD-set-other}
 use borrow.Author.Tests.{eqb-true, eqb-false}
 use Rattle.ground.specs.Choice.{pick}
 use Rattle.ground.proofs.Cases.{le-or-lt}
-use Rattle.load_raw_types.specs.Marks.{lastBelow, chained}
+use Rattle.load_raw_types.specs.inner.Marks.{lastBelow, chained, indexSize, markCount}
+use Rattle.table_rows.specs.Rows.{mostClasses}
 
 module _ (f : ℕ → ℕ) (h : ℕ) where
   pub last-inside : (n : ℕ) → lastBelow f h n ≤ n
@@ -52,19 +53,19 @@ last-same f g h zero e = refl
 last-same f g h (suc n) e = ap (λ x. pick (eqb x h) (suc n) (lastBelow f h n)) (e n (omega arith)) ∙ ap (λ x. pick (eqb (g n) h) (suc n) x) (last-same f g h n (λ i l. e i (omega arith)))
 
 -- One row more, of the mark `m`.
-module _ (index : List ℕ) (m n : ℕ) (size : length index ≡ 12288) where
+module _ (index : List ℕ) (m n : ℕ) (size : length index ≡ indexSize) where
   abbrev linked : List ℕ
-  linked = set index (8192 + n) (getD index m 0)
+  linked = set index (markCount + n) (getD index m 0)
 
-  linked-size : length linked ≡ 12288
-  linked-size = length-set index (8192 + n) (getD index m 0) ∙ size
+  linked-size : length linked ≡ indexSize
+  linked-size = length-set index (markCount + n) (getD index m 0) ∙ size
 
-  pub chained-size : length (chained index m n) ≡ 12288
+  pub chained-size : length (chained index m n) ≡ indexSize
   chained-size = length-set linked m (n + 1) ∙ linked-size
 
   -- `f` says the marks of `n` rows, and `g` says them too, and that of the new row
-  module _ (f g : ℕ → ℕ) (alike : (i : ℕ) → i < n → f i ≡ g i) (next : g n ≡ m) (small : m < 8192) (few : n < 4096) (starts : (h : ℕ) → h < 8192 → getD index h 0 ≡ lastBelow f h n) where
-    pub starts-more : (h : ℕ) → h < 8192 → getD (chained index m n) h 0 ≡ lastBelow g h (suc n)
+  module _ (f g : ℕ → ℕ) (alike : (i : ℕ) → i < n → f i ≡ g i) (next : g n ≡ m) (small : m < markCount) (few : n < mostClasses) (starts : (h : ℕ) → h < markCount → getD index h 0 ≡ lastBelow f h n) where
+    pub starts-more : (h : ℕ) → h < markCount → getD (chained index m n) h 0 ≡ lastBelow g h (suc n)
     unfolding lastBelow
     starts-more h i = go (eqb (g n) h) refl
       where
@@ -74,18 +75,18 @@ module _ (index : List ℕ) (m n : ℕ) (size : length index ≡ 12288) where
             let s = linked-size in
             ap (λ k. getD (chained index m n) k 0) same ∙ getD-set-same linked m (n + 1) 0 (omega arith) ∙ add-one n
         go false t =
-            getD-set-other linked m h (n + 1) 0 (λ e. eqb-false (g n) h t (next ∙ sym e)) ∙ getD-set-other index (8192 + n) h (getD index m 0) 0 (λ e. omega arith) ∙ starts h i
+            getD-set-other linked m h (n + 1) 0 (λ e. eqb-false (g n) h t (next ∙ sym e)) ∙ getD-set-other index (markCount + n) h (getD index m 0) 0 (λ e. omega arith) ∙ starts h i
             ∙ last-same f g h n alike
 
-    pub links-more : ((i : ℕ) → i < n → getD index (8192 + i) 0 ≡ lastBelow f (f i) i) → (i : ℕ) → i < n + 1 → getD (chained index m n) (8192 + i) 0 ≡ lastBelow g (g i) i
-    links-more links i l = getD-set-other linked m (8192 + i) (n + 1) 0 (λ e. omega arith) ∙ go (le-or-lt n i)
+    pub links-more : ((i : ℕ) → i < n → getD index (markCount + i) 0 ≡ lastBelow f (f i) i) → (i : ℕ) → i < n + 1 → getD (chained index m n) (markCount + i) 0 ≡ lastBelow g (g i) i
+    links-more links i l = getD-set-other linked m (markCount + i) (n + 1) 0 (λ e. omega arith) ∙ go (le-or-lt n i)
       where
-        go : (n ≤ i) ⊎ (i < n) → getD linked (8192 + i) 0 ≡ lastBelow g (g i) i
+        go : (n ≤ i) ⊎ (i < n) → getD linked (markCount + i) 0 ≡ lastBelow g (g i) i
         go (inl o) =
             let same : n ≡ i = omega arith in
-            rw (← same) (getD-set-same index (8192 + n) (getD index m 0) 0 (omega arith) ∙ starts m small ∙ last-same f g m n alike ∙ ap (λ h. lastBelow g h n) (sym next))
+            rw (← same) (getD-set-same index (markCount + n) (getD index m 0) 0 (omega arith) ∙ starts m small ∙ last-same f g m n alike ∙ ap (λ h. lastBelow g h n) (sym next))
         go (inr o) =
-            getD-set-other index (8192 + n) (8192 + i) (getD index m 0) 0 (λ e. omega arith) ∙ links i o ∙ ap (λ h. lastBelow f h i) (alike i o)
+            getD-set-other index (markCount + n) (markCount + i) (getD index m 0) 0 (λ e. omega arith) ∙ links i o ∙ ap (λ h. lastBelow f h i) (alike i o)
             ∙ last-same f g (g i) i (λ j k. alike j (omega arith))
 
 -- No row.

@@ -10,15 +10,15 @@ use Rattle.ground.proofs.PutLaws.{put-nothing}
 use Rattle.table_pool.specs.declared.write.Wrote.the-variants.{Done, NoRoom}
 use Rattle.table_rows.specs.Classes.{back}
 use Rattle.descriptor.specs.Pieces.{turn}
-use Rattle.table_pool.specs.Wrote.{Written}
+use Rattle.table_pool.specs.inner.Wrote.{Written}
 use Rattle.table_pool.proofs.Writes.{written-length, wrote-then}
 use Rattle.tables.specs.Back.{readBack}
 use Rattle.load_raw_types.specs.declared.types.Stretch.{Stretch}
 use Rattle.load_raw_types.specs.declared.types.Stretch.the-variants as stretches
 use Rattle.load_raw_types.specs.declared.types.Stretch.the-variants.{More, Last}
 use Rattle.table_pool.specs.Names.{classPiece}
-use Rattle.load_raw_types.specs.Marks.{Indexed}
-use Rattle.load_raw_types.specs.Stretches.{insidePiece, outsidePiece, Stretched, InsideBy, OutsideBy}
+use Rattle.load_raw_types.specs.inner.Marks.{Indexed}
+use Rattle.load_raw_types.specs.inner.Stretches.{insidePiece, outsidePiece, Stretched, InsideBy, OutsideBy}
 use Rattle.load_raw_types.proofs.Indexing.{indexed-put, read-back-put}
 
 -- what is written, and what is left: `rest`

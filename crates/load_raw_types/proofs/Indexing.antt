@@ -9,12 +9,12 @@ use lib.Seq.{take-take, drop-drop, take-at, drop-at, getD-at, length-take-le}
 use Rattle.ground.specs.Put.{put}
 use Rattle.ground.proofs.Cases.{le-or-lt}
 use Rattle.ground.proofs.Parts.{drop-take}
-use Rattle.table_pool.specs.Wrote.{Written}
+use Rattle.table_pool.specs.inner.Wrote.{Written}
 use Rattle.table_pool.proofs.Writes.{written-length}
 use Rattle.table_rows.specs.declared.rows.Text.{Text}
-use Rattle.table_rows.specs.Rows.{text, packClass, unpackClass}
+use Rattle.table_rows.specs.Rows.{text, packClass, unpackClass, mostClasses}
 use Rattle.tables.specs.Back.{textIn, pairOf, readBack}
-use Rattle.load_raw_types.specs.Marks.{markOf, rowMark, lastBelow, chained, Indexed}
+use Rattle.load_raw_types.specs.inner.Marks.{markOf, rowMark, lastBelow, chained, Indexed, indexSize}
 use Rattle.load_raw_types.proofs.Marking.{mark-below}
 use Rattle.load_raw_types.proofs.Chains.{last-same, no-row, chained-size, starts-more, links-more}
 
@@ -84,14 +84,14 @@ zeros zero h = refl
 zeros (suc n) zero = refl
 zeros (suc n) (suc h) = zeros n h
 
-pub indexed-none : (pool : List ℕ) (at : ℕ) → at ≤ length pool → Indexed [] pool (replicate 12288 0) at
+pub indexed-none : (pool : List ℕ) (at : ℕ) → at ≤ length pool → Indexed [] pool (replicate indexSize 0) at
 indexed-none pool at h = record {
   room = h;
   raw-below = λ i l. absurd (omega arith);
   display-below = λ i l. absurd (omega arith);
-  size = length-replicate {A = ℕ} 12288 0;
+  size = length-replicate {A = ℕ} indexSize 0;
   few = omega arith;
-  starts = λ m l. zeros 12288 m ∙ sym (no-row (rowMark [] pool) m);
+  starts = λ m l. zeros indexSize m ∙ sym (no-row (rowMark [] pool) m);
   links = λ i l. absurd (omega arith);
 }
 
@@ -149,7 +149,7 @@ module _ {q : ℕ} {pool : List ℕ} {at : ℕ} (r d : List ℕ) {pool₁ : List
         sym (ap (λ row. markOf (textIn pool₁ (unpackClass row .display))) (List·getD-append rows (rowAt at r d ∷ []) [] i h)
         ∙ ap markOf (text-put w (unpackClass (getD rows i []) .display) (x .display-below i h)))
 
-    pub indexed-class : length rows < 4096 → Indexed (rows ++ (rowAt at r d ∷ [])) pool₁ (chained index (markOf d) (length rows)) q
+    pub indexed-class : length rows < mostClasses → Indexed (rows ++ (rowAt at r d ∷ [])) pool₁ (chained index (markOf d) (length rows)) q
     indexed-class few =
         let put-there = indexed-put x w in
         let e = after in

@@ -14,7 +14,8 @@ use lib.Seq.{drop-cons}
 use borrow.Author.Needs.{needs}
 use Rattle.ground.specs.Choice.{pick}
 use Rattle.table_pool.specs.Names.{slash, classDescriptor, slashIf, nameBytes, classPiece}
-use Rattle.load_raw_types.specs.Marks.{markFrom, markOf, chained}
+use Rattle.load_raw_types.specs.inner.Marks.{markFrom, markOf, chained, indexSize, markCount}
+use Rattle.table_rows.specs.Rows.{mostClasses}
 
 -- a slash is one already
 slash-again : (x : ℕ) → slash (slash x) ≡ slash x
@@ -32,25 +33,25 @@ slash-stored false x = refl
 mark-stored : (dots : Bool) (h : ℕ) (s z : List ℕ) → markFrom h (nameBytes dots s ++ z) ≡ markFrom h (s ++ z)
 unfolding markFrom
 mark-stored dots h [] z = refl
-mark-stored dots h (x ∷ s) z = ap (λ y. markFrom ((h * 31 + y) % 8192) (nameBytes dots s ++ z)) (slash-stored dots x) ∙ mark-stored dots ((h * 31 + slash x) % 8192) s z
+mark-stored dots h (x ∷ s) z = ap (λ y. markFrom ((h * 31 + y) % markCount) (nameBytes dots s ++ z)) (slash-stored dots x) ∙ mark-stored dots ((h * 31 + slash x) % markCount) s z
 
 pub mark-piece : (dots : Bool) (s : List ℕ) → markOf (classPiece dots s) ≡ markOf (classDescriptor s)
 unfolding markFrom
 mark-piece dots s = mark-stored dots 0x4C s (0x3B ∷ []) ∙ sym (mark-stored true 0x4C s (0x3B ∷ []))
 
 -- a mark is the number of an entry
-mark-from-below : (h : ℕ) (d : List ℕ) → h < 8192 → markFrom h d < 8192
+mark-from-below : (h : ℕ) (d : List ℕ) → h < markCount → markFrom h d < markCount
 unfolding markFrom
 mark-from-below h [] i = i
-mark-from-below h (b ∷ d) i = mark-from-below ((h * 31 + slash b) % 8192) d (mod-lt (h * 31 + slash b) (omega arith))
+mark-from-below h (b ∷ d) i = mark-from-below ((h * 31 + slash b) % markCount) d (mod-lt (h * 31 + slash b) (omega arith))
 
-pub mark-below : (d : List ℕ) → markOf d < 8192
+pub mark-below : (d : List ℕ) → markOf d < markCount
 mark-below d = mark-from-below 0 d (omega arith)
 
 -- The loop: the mark of what was read, and what is left.
 pub record Marks (s : List ℕ) (mark k : ℕ) : Type 0 where
   pub inside : k ≤ length s
-  pub small : mark < 8192
+  pub small : mark < markCount
   pub decides : markFrom mark (drop k s ++ (0x3B ∷ [])) ≡ markOf (classDescriptor s)
 
 pub marks-starts : (s : List ℕ) → Marks s 0x4C 0
@@ -64,19 +65,19 @@ module _ {s : List ℕ} {mark k : ℕ} (m : Marks s mark k) where
   pub marks-last : Fits w64 (mark * 31 + 0x3B)
   marks-last = let i = m .small in omega arith
 
-  pub marks-done : length s ≤ k → (mark * 31 + 0x3B) % 8192 ≡ markOf (classDescriptor s)
+  pub marks-done : length s ≤ k → (mark * 31 + 0x3B) % markCount ≡ markOf (classDescriptor s)
   unfolding markFrom
   marks-done h = rw (drop-of-length-le s h) at (m .decides)
 
-  pub marks-more : k < length s → {x : ℕ} → x ≡ slash (getD s k 0) → Marks s ((mark * 31 + x) % 8192) (k + 1)
+  pub marks-more : k < length s → {x : ℕ} → x ≡ slash (getD s k 0) → Marks s ((mark * 31 + x) % markCount) (k + 1)
   unfolding markFrom
   marks-more h {x} e =
-      let f : markFrom mark (drop k s ++ (0x3B ∷ [])) ≡ markFrom ((mark * 31 + slash (getD s k 0)) % 8192) (drop (suc k) s ++ (0x3B ∷ [])) = ap (λ l. markFrom mark (l ++ (0x3B ∷ []))) (drop-cons s k 0 h) in
+      let f : markFrom mark (drop k s ++ (0x3B ∷ [])) ≡ markFrom ((mark * 31 + slash (getD s k 0)) % markCount) (drop (suc k) s ++ (0x3B ∷ [])) = ap (λ l. markFrom mark (l ++ (0x3B ∷ []))) (drop-cons s k 0 h) in
       record {
         inside = omega arith;
         small = mod-lt (mark * 31 + x) (omega arith);
-        decides = ap (λ y. markFrom ((mark * 31 + y) % 8192) (drop (k + 1) s ++ (0x3B ∷ []))) e
-            ∙ ap (λ n. markFrom ((mark * 31 + slash (getD s k 0)) % 8192) (drop n s ++ (0x3B ∷ []))) (add-one k) ∙ sym f ∙ m .decides;
+        decides = ap (λ y. markFrom ((mark * 31 + y) % markCount) (drop (k + 1) s ++ (0x3B ∷ []))) e
+            ∙ ap (λ n. markFrom ((mark * 31 + slash (getD s k 0)) % markCount) (drop n s ++ (0x3B ∷ []))) (add-one k) ∙ sym f ∙ m .decides;
       }
 
 slash-small : (b : ℕ) → b < 256 → slash b < 256
@@ -97,13 +98,13 @@ marks-sum {s} {mark} {k} m {x} e b =
 pub ruleset marking = (marks-starts, marks-fits, marks-last, marks-done, marks-more, marks-sum, needs)
 
 -- One class more in the index.
-pub mark-inside : (index name : List ℕ) {m : ℕ} → length index ≡ 12288 → m ≡ markOf (classDescriptor name) → m < length index
+pub mark-inside : (index name : List ℕ) {m : ℕ} → length index ≡ indexSize → m ≡ markOf (classDescriptor name) → m < length index
 mark-inside index name e f = let b = mark-below (classDescriptor name) in omega arith
 
-pub link-inside : (index : List ℕ) {count : ℕ} → length index ≡ 12288 → count < 4096 → 8192 + count < length index
+pub link-inside : (index : List ℕ) {count : ℕ} → length index ≡ indexSize → count < mostClasses → markCount + count < length index
 link-inside index e l = omega arith
 
-pub linked-inside : (index name : List ℕ) (at link : ℕ) {m : ℕ} → length index ≡ 12288 → m ≡ markOf (classDescriptor name) → m < length (set index at link)
+pub linked-inside : (index name : List ℕ) (at link : ℕ) {m : ℕ} → length index ≡ indexSize → m ≡ markOf (classDescriptor name) → m < length (set index at link)
 linked-inside index name at link e f = let b = mark-below (classDescriptor name) in let s = length-set index at link in omega arith
 
 pub mark-set : (index : List ℕ) (count : ℕ) {m n : ℕ} → m ≡ n → chained index m count ≡ chained index n count

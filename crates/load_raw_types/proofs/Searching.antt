@@ -14,12 +14,13 @@ use Rattle.ground.proofs.Cases.{le-or-lt}
 use Rattle.text_places.specs.Places.{same}
 use Rattle.text_places.proofs.PlaceLaws.{same-equal}
 use Rattle.table_pool.specs.Names.{classDescriptor, classPiece}
+use Rattle.table_rows.specs.declared.rows.Class.{Class}
 use Rattle.table_rows.specs.Rows.{unpackClass}
 use Rattle.tables.specs.declared.search.Found.the-variants.{Row, Unknown}
 use Rattle.tables.specs.Back.{textIn}
 use Rattle.tables.specs.Search.{lastDisplay}
 use Rattle.tables.proofs.Searching.{Scanning, scanning-from, scanning-found, scanning-ends}
-use Rattle.load_raw_types.specs.Marks.{markOf, rowMark, lastBelow, Indexed}
+use Rattle.load_raw_types.specs.inner.Marks.{markOf, rowMark, lastBelow, Indexed, markCount}
 use Rattle.load_raw_types.proofs.Marking.{mark-piece, mark-below}
 use Rattle.load_raw_types.proofs.Chains.{last-inside, last-above, last-mark}
 
@@ -75,29 +76,29 @@ module _ {rows : List (List ℕ)} {pool index : List ℕ} (x : Indexed rows pool
     pub row-inside : count - 1 < length rows
     row-inside = let i = k .inside in omega arith
 
-    pub display-inside : {a n : ℕ} → a ≡ getD (getD rows (count - 1) []) 2 0 → n ≡ getD (getD rows (count - 1) []) 3 0 → a + n ≤ length pool
-    display-inside e f = let i = k .inside in let b = x .display-below (count - 1) (omega arith) in omega arith
+    pub display-inside : {c : Class} → c ≡ unpackClass (getD rows (count - 1) []) → {a n : ℕ} → a ≡ c .display .place → n ≡ c .display .length → a + n ≤ length pool
+    display-inside g e f = let i = k .inside in let b = x .display-below (count - 1) (omega arith) in let p = ap (λ y. y .display .place) g in let q = ap (λ y. y .display .length) g in omega arith
 
-    pub link-fits : Fits w64 (8192 + (count - 1))
+    pub link-fits : Fits w64 (markCount + (count - 1))
     link-fits = let i = k .inside in let n = x .few in omega arith
 
-    pub link-in-index : 8192 + (count - 1) < length index
+    pub link-in-index : markCount + (count - 1) < length index
     link-in-index = let i = k .inside in let n = x .few in let s = x .size in omega arith
 
-    next-link : getD index (8192 + (count - 1)) 0 ≡ lastBelow (rowMark rows pool) (markOf p) (count - 1)
+    next-link : getD index (markCount + (count - 1)) 0 ≡ lastBelow (rowMark rows pool) (markOf p) (count - 1)
     next-link = x .links (count - 1) row-inside ∙ ap (λ h. lastBelow (rowMark rows pool) h (count - 1)) (k .at-mark l)
 
-    pub next-less : {next : ℕ} → next ≡ getD index (8192 + (count - 1)) 0 → next < count
+    pub next-less : {next : ℕ} → next ≡ getD index (markCount + (count - 1)) 0 → next < count
     next-less e = let o = next-link in let i = last-inside (rowMark rows pool) (markOf p) (count - 1) in omega arith
 
-    module _ {a n : ℕ} (e : a ≡ getD (getD rows (count - 1) []) 2 0) (f : n ≡ getD (getD rows (count - 1) []) 3 0) {b : Bool} (g : b ≡ same (take n (drop a pool)) p) where
+    module _ {c : Class} (z : c ≡ unpackClass (getD rows (count - 1) [])) {a n : ℕ} (e : a ≡ c .display .place) (f : n ≡ c .display .length) {b : Bool} (g : b ≡ same (take n (drop a pool)) p) where
       decided : isRow pool p (getD rows (count - 1) []) ≡ b
-      decided = sym (g ∙ rw (e, f))
+      decided = sym (g ∙ rw (e, f, z))
 
       pub behind-found : b ≡ true → Row (count - 1) ≡ lastDisplay rows pool p
       behind-found h = scanning-found (behind-scanned k) l (decided ∙ h)
 
-      pub behind-more : b ≡ false → {next : ℕ} → next ≡ getD index (8192 + (count - 1)) 0 → Behind rows pool p next
+      pub behind-more : b ≡ false → {next : ℕ} → next ≡ getD index (markCount + (count - 1)) 0 → Behind rows pool p next
       behind-more h {next} o =
           let i = k .inside in
           behind-last rows pool p (count - 1) (o ∙ next-link) (omega arith) (λ j u v. go j v (le-or-lt count j) u)

@@ -19,8 +19,9 @@ use Rattle.table_pool.specs.declared.write.Wrote.the-variants.{Done, NoRoom}
 use Rattle.ground.specs.Look.{Look, lookOr}
 use Rattle.table_rows.specs.Classes.{back}
 use Rattle.descriptor.specs.Pieces.{turn}
-use Rattle.table_pool.specs.Wrote.{Written, WroteBy}
+use Rattle.table_pool.specs.inner.Wrote.{Written, WroteBy}
 use Rattle.table_pool.proofs.Writes.{wrote-told, none-then, wrote-none, wrote-as}
+use Rattle.table_rows.specs.declared.rows.Class.{Class}
 use Rattle.table_rows.specs.Rows.{unpackClass}
 use Rattle.tables.specs.Back.{textIn, readBack}
 use Rattle.tables.specs.declared.search.Found.{Found}
@@ -28,8 +29,8 @@ use Rattle.tables.specs.declared.search.Found.the-variants.{Row, Unknown}
 use Rattle.tables.specs.Search.{lastDisplay}
 use Rattle.tables.proofs.Searching.{display-found, display-unknown}
 use Rattle.table_pool.specs.Names.{nameBytes, classPiece}
-use Rattle.load_raw_types.specs.Marks.{Indexed}
-use Rattle.load_raw_types.specs.Stretches.{insidePiece, outsidePiece, Stretched}
+use Rattle.load_raw_types.specs.inner.Marks.{Indexed}
+use Rattle.load_raw_types.specs.inner.Stretches.{insidePiece, outsidePiece, Stretched}
 use Rattle.load_raw_types.proofs.Pieces.{piece-whole, piece-first, plain-first, plain-all}
 use Rattle.load_raw_types.proofs.Indexing.{indexed-all}
 
@@ -38,13 +39,18 @@ module _ (rows : List (List ℕ)) (pool p : List ℕ) (r : Found) (f : r ≡ las
   pub found-inside : {i : ℕ} → r ≡ Row i → i < length rows
   found-inside e = display-found rows pool p (sym f ∙ e) .0
 
-  pub found-below : {index : List ℕ} {at : ℕ} → Indexed rows pool index at → {i : ℕ} → r ≡ Row i → {a n : ℕ} → a ≡ getD (getD rows i []) 0 0 → n ≡ getD (getD rows i []) 1 0 → a + n ≤ at
-  found-below x {i} e g h = let b = x .raw-below i (found-inside e) in omega arith
+  pub found-below : {index : List ℕ} {at : ℕ} → Indexed rows pool index at → {i : ℕ} → r ≡ Row i →
+      {c : Class} → c ≡ unpackClass (getD rows i []) → {a n : ℕ} → a ≡ c .raw .place → n ≡ c .raw .length → a + n ≤ at
+  found-below x {i} e z g h =
+      let b = x .raw-below i (found-inside e) in
+      let p = ap (λ y. y .raw .place) z in
+      let q = ap (λ y. y .raw .length) z in
+      omega arith
 
-  pub found-put : {i : ℕ} → r ≡ Row i → {a n : ℕ} → a ≡ getD (getD rows i []) 0 0 → n ≡ getD (getD rows i []) 1 0 → (t : Wrote) (at : ℕ) (d : List ℕ) → WroteBy t pool at (take n (drop a pool)) d →
-      WroteBy t pool at (lookOr p (back (readBack rows pool) p)) d
-  found-put {i} e {a} {n} g h t at d w =
-      let is : take n (drop a pool) ≡ textIn pool (unpackClass (getD rows i []) .raw) = rw (g, h) in
+  pub found-put : {i : ℕ} → r ≡ Row i → {c : Class} → c ≡ unpackClass (getD rows i []) → {a n : ℕ} → a ≡ c .raw .place → n ≡ c .raw .length →
+      (t : Wrote) (at : ℕ) (d : List ℕ) → WroteBy t pool at (take n (drop a pool)) d → WroteBy t pool at (lookOr p (back (readBack rows pool) p)) d
+  found-put {i} e z {a} {n} g h t at d w =
+      let is : take n (drop a pool) ≡ textIn pool (unpackClass (getD rows i []) .raw) = rw (g, h, z) in
       wrote-as t pool at d (is ∙ ap (lookOr p) (sym (display-found rows pool p (sym f ∙ e) .1))) w
 
   pub unknown-put : r ≡ Unknown → (t : Wrote) (at : ℕ) (d : List ℕ) → WroteBy t pool at p d → WroteBy t pool at (lookOr p (back (readBack rows pool) p)) d

@@ -25,13 +25,13 @@ use Rattle.ground.specs.Look.{Look}
 use Rattle.ground.specs.Join.{join}
 use Rattle.table_rows.specs.Classes.{back}
 use Rattle.descriptor.specs.Pieces.{partsFrom, turn}
-use Rattle.table_pool.specs.Wrote.{Written, WroteBy}
+use Rattle.table_pool.specs.inner.Wrote.{Written, WroteBy}
 use Rattle.table_pool.proofs.Writes.{wrote-told, wrote-none, wrote-then, none-then, wrote-as}
 use Rattle.descriptor.proofs.Typing.{type-order, type-inside}
 use Rattle.tables.specs.Back.{readBack}
 use Rattle.descriptor.specs.Raw.{rawTypeOf}
 use Rattle.table_pool.specs.Names.{nameBytes, classPiece}
-use Rattle.load_raw_types.specs.Marks.{Indexed}
+use Rattle.load_raw_types.specs.inner.Marks.{Indexed}
 use Rattle.descriptor.proofs.Turning.{stays-step}
 use Rattle.load_raw_types.proofs.Indexing.{indexed-put, read-back-put}
 

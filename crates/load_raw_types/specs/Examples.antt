@@ -14,7 +14,7 @@ use Rattle.ground.specs.Join.{join}
 use Rattle.table_rows.specs.Classes.{Pair, shown}
 use Rattle.descriptor.specs.Pieces.{partsFrom}
 use Rattle.descriptor.specs.Raw.{rawTypeOf}
-use Rattle.load_raw_types.specs.Marks.{markFrom, markOf, lastBelow}
+use Rattle.load_raw_types.specs.inner.Marks.{markFrom, markOf, lastBelow}
 
 -- three classes, of which two have the same display name
 abbrev classes : List Pair

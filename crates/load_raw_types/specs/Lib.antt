@@ -1,4 +1,3 @@
--- Raw descriptors of display types: the written rules, from document 01 "Descriptors".
-pub mod Marks
-pub mod Stretches
+-- No rule stands here: raw descriptors of display types are a rule of descriptors.
 pub mod Examples
+pub mod inner

@@ -3,5 +3,6 @@ mod index;
 mod search;
 mod types;
 
+pub use index::INDEX;
 pub use index::mark_class;
 pub use types::put_raw_type;

@@ -1,14 +1,16 @@
 // The last class row with a display descriptor: only rows with its mark are looked at, from the last one backwards, link by link.
+use crate::index::MARKS;
 use crate::index::mark_of;
 use table_pool::stored_byte;
 use table_rows::ClassRow;
+use table_rows::unpack_class;
 use tables::Found;
 ghost use mathlib.Core.Path.{_≡_};
 ghost use Prim.Native.Nat.{_+_, _≤_};
 ghost use lib.ListN.{length, take, drop};
 ghost use Rattle.text_places.specs.Places.{same};
 ghost use Rattle.table_pool.specs.Names.{classPiece};
-ghost use Rattle.load_raw_types.specs.Marks.{Indexed};
+ghost use Rattle.load_raw_types.specs.inner.Marks.{Indexed};
 ghost use Rattle.tables.specs.Search.{lastDisplay};
 
 pub fn wide(x: u32) -> usize
@@ -67,12 +69,13 @@ pub fn last_class(
     let mut count = wide_number(index[mark]);
     while 0 < count {
         let row = count - 1;
-        let place = wide(classes[row][2]);
-        let size = wide(classes[row][3]);
+        let class = unpack_class(classes[row]);
+        let place = wide(class.display.place);
+        let size = wide(class.display.length);
         if is_piece(pool, place, size, name, dots) {
             return Found::Row(row);
         }
-        count = wide_number(index[8192 + row]);
+        count = wide_number(index[MARKS + row]);
     }
     Found::Unknown
 }

@@ -10,6 +10,7 @@ use table_pool::put_copy;
 use table_pool::put_name;
 use table_pool::put_piece;
 use table_rows::ClassRow;
+use table_rows::unpack_class;
 use tables::Found;
 use text_places::Place;
 use text_places::first_byte;
@@ -20,12 +21,12 @@ ghost use Rattle.ground.specs.Look.{lookOr};
 ghost use Rattle.table_rows.specs.Classes.{back};
 ghost use Rattle.descriptor.specs.Pieces.{turn};
 ghost use Rattle.descriptor.specs.Types.{baseOf, baseBytes};
-ghost use Rattle.table_pool.specs.Wrote.{WroteBy};
+ghost use Rattle.table_pool.specs.inner.Wrote.{WroteBy};
 ghost use Rattle.tables.specs.Back.{readBack};
 ghost use Rattle.descriptor.specs.Raw.{rawTypeOf};
 ghost use Rattle.table_pool.specs.Names.{classPiece};
-ghost use Rattle.load_raw_types.specs.Marks.{Indexed};
-ghost use Rattle.load_raw_types.specs.Stretches.{InsideBy, OutsideBy};
+ghost use Rattle.load_raw_types.specs.inner.Marks.{Indexed};
+ghost use Rattle.load_raw_types.specs.inner.Stretches.{InsideBy, OutsideBy};
 
 // One class piece, turned to raw.
 fn put_raw_piece(
@@ -41,8 +42,9 @@ fn put_raw_piece(
 {
     match last_class(classes, pool, index, name, dots) {
         Found::Row(row) => {
-            let place = wide(classes[row][0]);
-            let size = wide(classes[row][1]);
+            let class = unpack_class(classes[row]);
+            let place = wide(class.raw.place);
+            let size = wide(class.raw.length);
             put_copy(pool, at, place, size)
         }
         Found::Unknown => put_piece(pool, at, name, dots),

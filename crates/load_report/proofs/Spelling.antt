@@ -12,7 +12,7 @@ use borrow.Author.Tests.{le-leb, lt-leb}
 use borrow.Author.Needs.{needs}
 use Rattle.ground.proofs.Parts.{take-rest}
 use Rattle.table_pool.specs.declared.write.Wrote.{Wrote}
-use Rattle.table_pool.specs.Wrote.{WroteBy}
+use Rattle.table_pool.specs.inner.Wrote.{WroteBy}
 use Rattle.table_pool.proofs.Writes.{wrote-as}
 use Rattle.load_report.specs.Digits.{decimalFrom, decimal}
 

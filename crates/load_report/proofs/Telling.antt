@@ -4,7 +4,7 @@ use mathlib.Core.List.{List}
 use Prim.Native.Nat.{ℕ}
 use borrow.Author.Needs.{needs}
 use Rattle.table_pool.specs.declared.write.Wrote.{Wrote}
-use Rattle.table_pool.specs.Wrote.{WroteBy}
+use Rattle.table_pool.specs.inner.Wrote.{WroteBy}
 use Rattle.table_pool.proofs.Writes.{wrote-as}
 use Rattle.load_rule.specs.declared.Fates.{Fates}
 use Rattle.load_rule.specs.declared.Load.{Load}

@@ -1,7 +1,7 @@
 // A number in decimal digits.
 use table_pool::Wrote;
 use table_pool::put_text;
-ghost use Rattle.table_pool.specs.Wrote.{WroteBy};
+ghost use Rattle.table_pool.specs.inner.Wrote.{WroteBy};
 ghost use Rattle.load_report.specs.Digits.{decimal};
 
 // The digits, written from the last to the first, and then into place.

@@ -8,7 +8,7 @@ ghost use mathlib.Core.List.{_++_};
 ghost use Prim.Native.Nat.{_≤_};
 ghost use lib.ListN.{length};
 ghost use Rattle.load_rule.specs.declared.Load.the-variants.{Loaded, NotUtf8};
-ghost use Rattle.table_pool.specs.Wrote.{Written, WroteBy};
+ghost use Rattle.table_pool.specs.inner.Wrote.{Written, WroteBy};
 ghost use Rattle.load_report.specs.Digits.{decimal};
 ghost use Rattle.load_report.specs.Report.{refusedLine, lineItems, rowItems, reportOf};
 ghost use Rattle.load_report.specs.Adding.{Adds};

@@ -11,7 +11,8 @@ use Rattle.text_places.specs.declared.find.Place.the-variants.{At}
 use Rattle.text_places.specs.declared.lines.NextLine.{NextLine}
 use Rattle.text_places.specs.declared.lines.NextLine.the-variants.{Line, NoLine}
 use Rattle.text_places.specs.Lines.{lines, nextLine}
-use Rattle.text_places.proofs.Taking.{Taken, line-taken, none-taken, end-taken}
+use Rattle.text_places.specs.inner.Taken.{Taken}
+use Rattle.text_places.proofs.Taking.{line-taken, none-taken, end-taken}
 use Rattle.line.specs.declared.line.Line as line
 use Rattle.line.specs.declared.line.Line.the-variants as kinds
 use Rattle.text_places.specs.Spans.{shift, Lies, largest}
@@ -23,7 +24,7 @@ use Rattle.load_residual.specs.declared.residual.Residual.{Residual}
 use Rattle.load_residual.specs.declared.residual.Residual.the-variants.{Text, Nothing}
 use Rattle.load_residual.specs.declared.residual.Opening.{Opening}
 use Rattle.load_residual.specs.declared.residual.Opening.the-variants.{Blank, Comment, Other}
-use Rattle.load_residual.specs.Residuals.{placeLook, jsonPart, residualLook, Gives, openingOf, laterOf}
+use Rattle.load_residual.specs.inner.Residuals.{placeLook, jsonPart, residualLook, Gives, openingOf, laterOf}
 
 or-unknown : (o : Look) → orLook o unknown ≡ o
 or-unknown (known s) = refl

@@ -28,7 +28,7 @@ use Rattle.ground.specs.Look.{unknown, isKnown}
 use Rattle.load_rule.specs.Comments.{saysResidual, stringAt, signatureBy, signatureOf, signatureAt}
 use Rattle.load_residual.specs.declared.residual.Residual.{Residual}
 use Rattle.load_residual.specs.declared.residual.Residual.the-variants.{Text, Nothing}
-use Rattle.load_residual.specs.Residuals.{placeLook, jsonPart, residualLook, Gives, laterOf}
+use Rattle.load_residual.specs.inner.Residuals.{placeLook, jsonPart, residualLook, Gives, laterOf}
 
 -- The string of a JSON text.
 module _ (s : List ℕ) {c : comment.Comment} (e : c ≡ commentOf s) where

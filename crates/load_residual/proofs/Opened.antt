@@ -17,6 +17,7 @@ use Rattle.line_parts.specs.declared.field.Field.the-variants as fields
 use Rattle.line_parts.specs.declared.method.Method.{Method}
 use Rattle.line_parts.specs.declared.method.MethodParts as method
 use Rattle.line_parts.specs.declared.method.MethodParts.the-variants as methods
+use Rattle.line.specs.declared.line.Refusal.{Refusal}
 use Rattle.line.specs.declared.line.Line.{Line}
 use Rattle.line.specs.declared.line.Line.the-variants as kinds
 use Rattle.text_places.specs.Spans.{shift, partOf}
@@ -26,7 +27,7 @@ use Rattle.line_parts.specs.Methods.{methodOf}
 use Rattle.line.specs.Kinds.{classBy, classAt, methodBy, fieldBy, bySide, memberBy, memberAt, lineOf}
 use Rattle.line.proofs.Kinding.{line-blank, line-first, line-member, line-class}
 use Rattle.load_residual.specs.declared.residual.Opening.the-variants.{Blank, Comment, Other}
-use Rattle.load_residual.specs.Residuals.{openingOf}
+use Rattle.load_residual.specs.inner.Residuals.{openingOf}
 
 -- Class lines and member lines, faulty ones too, are neither blank nor comments.
 class-other : (by : ℕ) (s : List ℕ) → openingOf (classAt by s) ≡ Other
@@ -87,7 +88,7 @@ module _ (s : List ℕ) {t : Line} (e : t ≡ lineOf s) where
   pub read-method : {m : Method} {r : Span} → t ≡ kinds.Method m r → Other ≡ openingOf (lineOf s)
   read-method f = ap openingOf (sym f ∙ e)
 
-  pub read-refused : {k : ℕ} → t ≡ kinds.Refused k → Other ≡ openingOf (lineOf s)
+  pub read-refused : {k : Refusal} → t ≡ kinds.Refused k → Other ≡ openingOf (lineOf s)
   read-refused f = ap openingOf (sym f ∙ e)
 
 pub ruleset opened = (opens-blank, opens-inside, opens-other, read-blank, read-comment, read-class, read-field, read-method, read-refused, needs)

@@ -1,2 +1,2 @@
--- What the functions about signatures of comments say, in terms of the rules of loading.
-pub mod Residuals
+-- No rule stands here: what is said of the lines is the rule of loading.
+pub mod inner

@@ -18,7 +18,7 @@ ghost use Rattle.line.specs.Kinds.{lineOf};
 ghost use Rattle.load_rule.specs.Comments.{signatureOf, signatureAt, residualIn};
 ghost use Rattle.text_places.specs.Spans.{shift, Lies, largest};
 ghost use Rattle.ground.specs.Look.{isKnown};
-ghost use Rattle.load_residual.specs.Residuals.{placeLook, jsonPart, openingOf, laterOf, Gives};
+ghost use Rattle.load_residual.specs.inner.Residuals.{placeLook, jsonPart, openingOf, laterOf, Gives};
 
 // A string in a text: its JSON runs from `start` to `end`, and its first char stands at the place `string` of the JSON.
 pub enum Residual {

@@ -17,7 +17,8 @@ use Rattle.load_rule.specs.declared.Fates.{Fates}
 use Rattle.load_rule.specs.declared.Scan.the-variants.{Sound, Faulty}
 use Rattle.load_rule.specs.Fates.{fatesFrom, faultOf, classLine, faultsFrom, scanOf}
 use Rattle.load_rule.specs.Classes.{classIn, classesOf}
-use Rattle.load_rule.proofs.Numbers.{line-numbered, fault-number}
+use Rattle.load_rule.specs.Theorems.{First}
+use Rattle.load_rule.proofs.Numbers.{fault-number}
 use Rattle.load_rule.proofs.Sums.{sound-cons}
 
 -- no line of these has a fault, where so many class lines stand before them
@@ -46,7 +47,7 @@ line-class l (Comment brace) = refl
 line-class l (Class display raw) = refl
 line-class l (Field declared name raw) = refl
 line-class l (Method m raw) = refl
-line-class l (Refused number) = refl
+line-class l (Refused r) = refl
 
 pub classes-cons : (l : List ℕ) (ls : List (List ℕ)) → length (classesOf (l ∷ ls)) ≡ classLine (lineOf l) + length (classesOf ls)
 unfolding classesOf
@@ -127,19 +128,6 @@ clean-first all number classes (k ∷ before) l after (e, c) n =
     rw (eq-eqb (faultOf classes (lineOf k)) 0 e, z, w)
     (clean-first all (suc number) (classes + classLine (lineOf k)) before l after c (rw z at n))
 
--- The first faulty line: it stands behind lines that have no fault, its number is its place counted from 1, and the fault is the one that it has
--- where so many class lines stand before it.
-pub record First (ls : List (List ℕ)) (number line : ℕ) : Type 0 where
-  pub before : List (List ℕ)
-  pub here : List ℕ
-  pub after : List (List ℕ)
-  pub split : ls ≡ before ++ (here ∷ after)
-  pub place : line ≡ length before + 1
-  pub sound : scanOf before ≡ Sound (fatesFrom false before)
-  pub is : number ≡ faultOf (length (classesOf before)) (lineOf here)
-  pub low : 3 ≤ number
-  pub high : number ≤ 7
-
 pub first-iff : (ls : List (List ℕ)) (number line : ℕ) → (scanOf ls ≡ Faulty number line) ↔ First ls number line
 first-iff ls number line = (to, back)
   where
@@ -148,7 +136,7 @@ first-iff ls number line = (to, back)
         let f = first-of (fatesFrom false ls) 1 0 ls e in
         let zero-more : 0 + length (classesOf (f .before)) ≡ length (classesOf (f .before)) = omega arith in
         let i : number ≡ faultOf (length (classesOf (f .before))) (lineOf (f .here)) = f .is ∙ ap (λ n. faultOf n (lineOf (f .here))) zero-more in
-        let k = fault-number (length (classesOf (f .before))) (lineOf (f .here)) (line-numbered (f .here)) (λ z. f .some (i ∙ z)) in
+        let k = fault-number (length (classesOf (f .before))) (lineOf (f .here)) (λ z. f .some (i ∙ z)) in
         record {
           before = f .before;
           here = f .here;

@@ -23,29 +23,26 @@ use Rattle.table_rows.specs.declared.rows.Ranges.the-variants.{None, Display, B
 use Rattle.tables.specs.declared.check.Used.{Used}
 use Rattle.table_rows.specs.Rows.{flagOf, zeroClass, zeroMember}
 use Rattle.tables.specs.Check.{allOf, classFine, memberFine, wellFormed}
-use Rattle.tables.proofs.Checking.{all-none, all-cons, FineCounts, class-fine, member-fine, well-formed-rows}
+use Rattle.tables.proofs.Checking.{FineText, all-none, all-cons, FineCounts, class-fine, member-fine, well-formed-rows}
 use Rattle.tables.proofs.Holding.{Holds, holds-all, holds-as, holds-first, holds-second, holds-fine, nothing-fine}
 use Rattle.load_rule.specs.declared.Fates.{Fates}
 use Rattle.load_rule.specs.declared.Load.the-variants.{Loaded}
 use Rattle.load_rule.specs.Comments.{residualIn}
 use Rattle.load_rule.specs.Fates.{fatesFrom, ownerless, faultOf, classLine}
 use Rattle.load_rule.specs.Classes.{classesOf, classText, classPool, classRow, classRows}
-use Rattle.load_rule.specs.Members.{Entry, field, method, Under, under, underAfter, entryIn, entriesFrom, entryText, entryPool, entryRow, entryRows}
+use Rattle.load_rule.specs.Members.{MemberKind, field, method, Entry, Under, under, underAfter, entryIn, entriesFrom, displayText, entryText, entryPool, kindNumber, ownerAt, entryRow, entryRows}
 use Rattle.load_rule.specs.Loading.{Lent, entriesOf, poolOf, classRowsOf, memberRowsOf, answerOf, linesStr, linesParse, classesLeft, membersLeft, poolLeft}
 use Rattle.load_rule.proofs.Appended.{class-rows-length, entry-rows-length}
 use Rattle.load_rule.proofs.Sums.{fates-sum, class-count, member-count}
 use Rattle.load_rule.proofs.First.{Clean, sound-clean, classes-cons}
-use Rattle.load_rule.proofs.Exactly.{Fitted, loaded-iff, loaded-leaves}
-use Rattle.load_rule.proofs.Octets.{EntryOctets, Entries, no-entry, an-entry, str-texts, parse-texts, pool-texts}
+use Rattle.load_rule.specs.Theorems.{Fitted, usedOf}
+use Rattle.load_rule.proofs.Exactly.{loaded-iff, loaded-leaves}
+use Rattle.load_rule.proofs.Octets.{KindOctets, EntryOctets, Entries, no-entry, an-entry, str-texts, parse-texts, pool-texts}
 
 -- A member's class row: a member line is sound only behind a class line.
-classNumber : Entry → ℕ
-classNumber (field c r d n) = c
-classNumber (method c r d n o g) = c
-
 data Below (count : ℕ) : List Entry → Type 0 where
   none-below : Below count []
-  below : {e : Entry} {es : List Entry} → classNumber e < count → Below count es → Below count (e ∷ es)
+  below : {e : Entry} {es : List Entry} → e .class < count → Below count es → Below count (e ∷ es)
 
 append-below : {count : ℕ} {a b : List Entry} → Below count a → Below count b → Below count (a ++ b)
 append-below none-below q = q
@@ -62,13 +59,12 @@ owned classes e = go (le-or-lt classes 0)
     go (inr h) = h
 
 entry-below : (cs : List Pair) (u : Under) (g : Look) (l : List ℕ) (k : Line) (count : ℕ) → faultOf (u .count) k ≡ 0 → u .count ≤ count → Below count (entryIn cs u g l k)
-unfolding classNumber
 entry-below cs u g l Blank count e h = none-below
 entry-below cs u g l (Comment brace) count e h = none-below
 entry-below cs u g l (Class display raw) count e h = none-below
 entry-below cs u g l (Field declared name raw) count e h = let o = owned (u .count) e in let less : u .count - 1 < count = omega arith in below less none-below
 entry-below cs u g l (Method m raw) count e h = let o = owned (u .count) e in let less : u .count - 1 < count = omega arith in below less none-below
-entry-below cs u g l (Refused number) count e h = none-below
+entry-below cs u g l (Refused r) count e h = none-below
 
 count-after : (u : Under) (l : List ℕ) (k : Line) → underAfter u l k .count ≡ u .count + classLine k
 count-after u l Blank = omega arith
@@ -76,7 +72,7 @@ count-after u l (Comment brace) = omega arith
 count-after u l (Class display raw) = refl
 count-after u l (Field declared name raw) = omega arith
 count-after u l (Method m raw) = omega arith
-count-after u l (Refused number) = omega arith
+count-after u l (Refused r) = omega arith
 
 clean-as : {m n : ℕ} (ls : List (List ℕ)) → m ≡ n → Clean m ls → Clean n ls
 clean-as ls e c = rw e at c
@@ -107,46 +103,42 @@ module _ (pool : List ℕ) (used : Used) where
       (class-row-fine p c r d (holds-first (classText c) (classPool cs) h))
       (class-rows-fine ps (p + length (classText c)) (holds-second (classText c) (classPool cs) h))
 
-  field-row-fine : (p c : ℕ) (r d n : List ℕ) → c < used .classes → EntryOctets (field c r d n) → Holds pool used p (r ++ (d ++ n)) →
-      memberFine pool used (entryRow p (field c r d n)) ≡ true
-  field-row-fine p c r d n l (a, b, e) h =
-      let rest = holds-second r (d ++ n) h in
-      member-fine pool used (entryRow p (field c r d n))
+  kind-fine : (k : MemberKind) → kindNumber k ≤ 1
+  kind-fine field = omega arith
+  kind-fine (method o g) = omega arith
+
+  ranges-fine : (c p : ℕ) (r d n o : List ℕ) (g : Ranges) →
+      flagOf (entryRow p (record { class = c; rawName = r; descriptor = d; name = n; kind = method o g })) ≤ 2
+  ranges-fine c p r d n o None = omega arith
+  ranges-fine c p r d n o (Display a e) = omega arith
+  ranges-fine c p r d n o (Both q b a e) = omega arith
+
+  flag-fine : (c p : ℕ) (r d n : List ℕ) (k : MemberKind) → flagOf (entryRow p (record { class = c; rawName = r; descriptor = d; name = n; kind = k })) ≤ 2
+  flag-fine c p r d n field = omega arith
+  flag-fine c p r d n (method o g) = ranges-fine c p r d n o g
+
+  name-held : (p : ℕ) (n : List ℕ) (k : MemberKind) → Holds pool used p (displayText n k) → Holds pool used p n
+  name-held p n field h = h
+  name-held p n (method o g) h = holds-first n o h
+
+  owner-fine : (p : ℕ) (n : List ℕ) (k : MemberKind) → KindOctets k → Holds pool used p (displayText n k) → FineText pool used (ownerAt (p + length n) k)
+  owner-fine p n field w h = nothing-fine
+  owner-fine p n (method o g) w h = holds-fine (holds-second n o h) w
+
+  entry-row-fine : (p : ℕ) (e : Entry) → e .class < used .classes → EntryOctets e → Holds pool used p (entryText e) → memberFine pool used (entryRow p e) ≡ true
+  entry-row-fine p e l (a, b, c, w) h =
+      let rest = holds-second (e .rawName) (e .descriptor ++ displayText (e .name) (e .kind)) h in
+      let last = holds-second (e .descriptor) (displayText (e .name) (e .kind)) rest in
+      member-fine pool used (entryRow p e)
       (record {
         class-row = l;
-        kind = omega arith;
-        flag = omega arith;
-        raw-name = holds-fine (holds-first r (d ++ n) h) a;
-        descriptor = holds-fine (holds-first d n rest) b;
-        name = holds-fine (holds-second d n rest) e;
-        owner = nothing-fine;
+        kind = kind-fine (e .kind);
+        flag = flag-fine (e .class) p (e .rawName) (e .descriptor) (e .name) (e .kind);
+        raw-name = holds-fine (holds-first (e .rawName) (e .descriptor ++ displayText (e .name) (e .kind)) h) a;
+        descriptor = holds-fine (holds-first (e .descriptor) (displayText (e .name) (e .kind)) rest) b;
+        name = holds-fine (name-held (p + length (e .rawName) + length (e .descriptor)) (e .name) (e .kind) last) c;
+        owner = owner-fine (p + length (e .rawName) + length (e .descriptor)) (e .name) (e .kind) w last;
       })
-
-  flag-fine : (p c : ℕ) (r d n o : List ℕ) (g : Ranges) → flagOf (entryRow p (method c r d n o g)) ≤ 2
-  flag-fine p c r d n o None = omega arith
-  flag-fine p c r d n o (Display a e) = omega arith
-  flag-fine p c r d n o (Both q b a e) = omega arith
-
-  method-row-fine : (p c : ℕ) (r d n o : List ℕ) (g : Ranges) → c < used .classes → EntryOctets (method c r d n o g) → Holds pool used p (r ++ (d ++ (n ++ o))) →
-      memberFine pool used (entryRow p (method c r d n o g)) ≡ true
-  method-row-fine p c r d n o g l (a, b, e, f) h =
-      let rest = holds-second r (d ++ (n ++ o)) h in
-      let last = holds-second d (n ++ o) rest in
-      member-fine pool used (entryRow p (method c r d n o g))
-      (record {
-        class-row = l;
-        kind = omega arith;
-        flag = flag-fine p c r d n o g;
-        raw-name = holds-fine (holds-first r (d ++ (n ++ o)) h) a;
-        descriptor = holds-fine (holds-first d (n ++ o) rest) b;
-        name = holds-fine (holds-first n o last) e;
-        owner = holds-fine (holds-second n o last) f;
-      })
-
-  entry-row-fine : (p : ℕ) (e : Entry) → classNumber e < used .classes → EntryOctets e → Holds pool used p (entryText e) → memberFine pool used (entryRow p e) ≡ true
-  unfolding classNumber
-  entry-row-fine p (field c r d n) l o h = field-row-fine p c r d n l o h
-  entry-row-fine p (method c r d n w g) l o h = method-row-fine p c r d n w g l o h
 
   entry-rows-fine : {es : List Entry} → Entries es → Below (used .classes) es → (p : ℕ) → Holds pool used p (entryPool es) →
       allOf (memberFine pool used) (entryRows p es) ≡ true
@@ -163,10 +155,6 @@ filled-length z used n h = let a = length-append used (replicate (n - length use
 
 texts-as : {a b : List (List ℕ)} → a ≡ b → Texts a → Texts b
 texts-as e t = rw e at t
-
--- what an accepted load uses
-abbrev pub usedOf : Fates → ℕ → Used
-usedOf f names = record { classes = f .class; members = f .field + f .method; pool = names }
 
 module _ (s : List ℕ) (ls : List (List ℕ)) (n : Lent) {f : Fates} {names : ℕ} (e : answerOf s ls n ≡ Loaded f names) where
   fitted : Fitted s ls n f names

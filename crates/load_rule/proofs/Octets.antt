@@ -34,7 +34,7 @@ use Rattle.descriptor.proofs.Octets.{class-octets, type-octets, raw-octets, joi
 use Rattle.load_rule.specs.Comments.{saysResidual, stringAt, signatureBy, signatureOf, signatureAt, residualBy, residualIn}
 use Rattle.load_rule.specs.Classes.{classIn, classesOf}
 use Rattle.descriptor.specs.Raw.{rawTypeOf}
-use Rattle.load_rule.specs.Members.{fieldDescriptor, typesDescriptor, methodDescriptor, Entry, field, method, Under, under, underAfter, nameText, ownerOf, entryIn, entriesFrom}
+use Rattle.load_rule.specs.Members.{fieldDescriptor, typesDescriptor, methodDescriptor, MemberKind, field, method, Entry, Under, under, underAfter, nameText, ownerOf, entryIn, entriesFrom}
 use Rattle.load_rule.specs.Loading.{entriesOf, linesStr, linesParse}
 
 -- Signatures of comments.
@@ -66,7 +66,7 @@ residual-look l (Comment (At brace)) o later w = look-first later (signatureAt l
 residual-look l (Class display raw) o later w = tt
 residual-look l (Field declared name raw) o later w = tt
 residual-look l (Method m raw) o later w = tt
-residual-look l (Refused number) o later w = tt
+residual-look l (Refused r) o later w = tt
 
 pub residual-octets : {ls : List (List ℕ)} → Texts ls → LookOctets (residualIn ls)
 unfolding residualIn
@@ -84,7 +84,7 @@ class-pairs l (Comment brace) o = no-pair
 class-pairs l (Class display raw) (d, r) = a-pair (class-octets r) (class-octets d) no-pair
 class-pairs l (Field declared name raw) o = no-pair
 class-pairs l (Method m raw) o = no-pair
-class-pairs l (Refused number) o = no-pair
+class-pairs l (Refused r) o = no-pair
 
 pub classes-pairs : {ls : List (List ℕ)} → Texts ls → Pairs (classesOf ls)
 unfolding classesOf
@@ -92,9 +92,12 @@ classes-pairs no-text = no-pair
 classes-pairs (text {l} o t) = append-pairs (class-pairs l (lineOf l) (line-octets o)) (classes-pairs t)
 
 -- Members.
+abbrev pub KindOctets : MemberKind → Type 0
+KindOctets field = Unit {0}
+KindOctets (method o g) = UTF8-octets o
+
 abbrev pub EntryOctets : Entry → Type 0
-EntryOctets (field c r d n) = UTF8-octets r × UTF8-octets d × UTF8-octets n
-EntryOctets (method c r d n o g) = UTF8-octets r × UTF8-octets d × UTF8-octets n × UTF8-octets o
+EntryOctets e = UTF8-octets (e .rawName) × UTF8-octets (e .descriptor) × UTF8-octets (e .name) × KindOctets (e .kind)
 
 pub data Entries : List Entry → Type 0 where
   no-entry : Entries []
@@ -137,13 +140,10 @@ module _ {cs : List Pair} (p : Pairs cs) where
   entry-octets u w g s l (Comment brace) o = no-entry
   entry-octets u w g s l (Class display raw) o = no-entry
   entry-octets u w g s l (Field declared name raw) (d, n, r) =
-      let o : EntryOctets (field (u .count - 1) (partOf l raw) (fieldDescriptor cs g (partOf l declared)) (partOf l name)) = (r, field-octets g s d, n) in an-entry o no-entry
+      an-entry (r, field-octets g s d, n, tt) no-entry
   entry-octets u w g s l (Method m raw) ((d, n, a), r) =
-      let o : UTF8-octets (partOf l raw) × UTF8-octets (methodDescriptor cs g (argumentsOf (partOf l (m .arguments))) (partOf l (m .returned)))
-      × UTF8-octets (nameText l (m .named)) × UTF8-octets (ownerOf (u .own) l (m .named)) =
-      (r, method-octets g s (arguments-texts a) d, name-octets l (m .named) n, owner-octets (u .own) l w (m .named) n) in
-      an-entry o no-entry
-  entry-octets u w g s l (Refused number) o = no-entry
+      an-entry (r, method-octets g s (arguments-texts a) d, name-octets l (m .named) n, owner-octets (u .own) l w (m .named) n) no-entry
+  entry-octets u w g s l (Refused r) o = no-entry
 
   own-octets : (u : Under) → UTF8-octets (u .own) → (l : List ℕ) (k : Line) → LineOctets l (trimBoth l .«end») k → UTF8-octets (underAfter u l k .own)
   own-octets u w l Blank o = w
@@ -151,7 +151,7 @@ module _ {cs : List Pair} (p : Pairs cs) where
   own-octets u w l (Class display raw) (d, r) = d
   own-octets u w l (Field declared name raw) o = w
   own-octets u w l (Method m raw) o = w
-  own-octets u w l (Refused number) o = w
+  own-octets u w l (Refused r) o = w
 
   pub entries-octets : {ls : List (List ℕ)} → Texts ls → (u : Under) → UTF8-octets (u .own) → Entries (entriesFrom cs u ls)
   unfolding entriesFrom

@@ -16,31 +16,31 @@ use Rattle.table_rows.specs.Classes.{Pair}
 use Rattle.load_rule.specs.declared.Fates.{Fates}
 use Rattle.load_rule.specs.declared.Scan.the-variants.{Sound, Faulty}
 use Rattle.load_rule.specs.Comments.{signatureAt, residualIn}
-use Rattle.load_rule.specs.Fates.{commentFate, methodFate, fateOf, memberAfter, fatesFrom, faultOf, classLine, faultsFrom, scanOf}
+use Rattle.load_rule.specs.Fates.{one, commentFate, methodFate, fateOf, memberAfter, fatesFrom, faultOf, classLine, faultsFrom, scanOf}
 use Rattle.load_rule.specs.Classes.{classIn, classesOf}
 use Rattle.load_rule.specs.Members.{Under, under, underAfter, entryIn, entriesFrom}
-use Rattle.load_rule.proofs.Tally.{fate-line}
-use Rattle.load_rule.proofs.Numbers.{Numbered, line-numbered, refused-faulty}
+use Rattle.load_rule.specs.Theorems.{Counts}
+use Rattle.load_rule.proofs.Numbers.{refused-faulty}
 
 -- every line but a refused one
 abbrev pub kinds : Fates → ℕ
 kinds f = f .blank + f .applied + f .idle + f .class + f .field + f .method
 
-comment-kind : (b : Bool) → kinds (commentFate b) ≡ 1
+comment-kind : (b : Bool) → kinds (one (commentFate b)) ≡ 1
 comment-kind true = refl
 comment-kind false = refl
 
-method-kind : (b : Bool) → kinds (methodFate b) ≡ 1
+method-kind : (b : Bool) → kinds (one (methodFate b)) ≡ 1
 method-kind true = refl
 method-kind false = refl
 
-kind-one : (classes : ℕ) (member : Bool) (l : List ℕ) (k : Line) → Numbered k → faultOf classes k ≡ 0 → kinds (fateOf member l k) ≡ 1
-kind-one classes member l Blank n e = refl
-kind-one classes member l (Comment brace) n e = comment-kind (both member (isKnown (signatureAt l brace)))
-kind-one classes member l (Class display raw) n e = refl
-kind-one classes member l (Field declared name raw) n e = refl
-kind-one classes member l (Method m raw) n e = method-kind (m .short)
-kind-one classes member l (Refused number) n e = absurd (refused-faulty classes number (n .0) e)
+kind-one : (classes : ℕ) (member : Bool) (l : List ℕ) (k : Line) → faultOf classes k ≡ 0 → kinds (one (fateOf member l k)) ≡ 1
+kind-one classes member l Blank e = refl
+kind-one classes member l (Comment brace) e = comment-kind (both member (isKnown (signatureAt l brace)))
+kind-one classes member l (Class display raw) e = refl
+kind-one classes member l (Field declared name raw) e = refl
+kind-one classes member l (Method m raw) e = method-kind (m .short)
+kind-one classes member l (Refused r) e = absurd (refused-faulty classes r e)
 
 -- a sound line, and sound ones after it
 pub record Sounder (all : Fates) (number classes : ℕ) (l : List ℕ) (ls : List (List ℕ)) (f : Fates) : Type 0 where
@@ -68,7 +68,7 @@ unfolding fatesFrom
 sound-kinds all number classes member [] e = refl
 sound-kinds all number classes member (l ∷ ls) e =
     let s = sound-cons all number classes l ls e in
-    let a = kind-one classes member l (lineOf l) (line-numbered l) (s .here) in
+    let a = kind-one classes member l (lineOf l) (s .here) in
     let b = sound-kinds all (suc number) (classes + classLine (lineOf l)) (memberAfter member (lineOf l)) ls (s .later) in
     omega arith
 
@@ -76,26 +76,23 @@ sound-kinds all number classes member (l ∷ ls) e =
 pub lines-count : (member : Bool) (ls : List (List ℕ)) → fatesFrom member ls .lines ≡ length ls
 unfolding fatesFrom
 lines-count member [] = refl
-lines-count member (l ∷ ls) =
-    let a = fate-line member l (lineOf l) in
-    let b = lines-count (memberAfter member (lineOf l)) ls in
-    omega arith
+lines-count member (l ∷ ls) = let b = lines-count (memberAfter member (lineOf l)) ls in omega arith
 
-comment-short : (b : Bool) → commentFate b .short ≤ commentFate b .method
+comment-short : (b : Bool) → one (commentFate b) .short ≤ one (commentFate b) .method
 comment-short true = omega arith
 comment-short false = omega arith
 
-method-short : (b : Bool) → methodFate b .short ≤ methodFate b .method
+method-short : (b : Bool) → one (methodFate b) .short ≤ one (methodFate b) .method
 method-short true = omega arith
 method-short false = omega arith
 
-fate-short : (member : Bool) (l : List ℕ) (k : Line) → fateOf member l k .short ≤ fateOf member l k .method
+fate-short : (member : Bool) (l : List ℕ) (k : Line) → one (fateOf member l k) .short ≤ one (fateOf member l k) .method
 fate-short member l Blank = omega arith
 fate-short member l (Comment brace) = comment-short (both member (isKnown (signatureAt l brace)))
 fate-short member l (Class display raw) = omega arith
 fate-short member l (Field declared name raw) = omega arith
 fate-short member l (Method m raw) = method-short (m .short)
-fate-short member l (Refused number) = omega arith
+fate-short member l (Refused r) = omega arith
 
 -- "`short` counts method lines"
 pub short-few : (member : Bool) (ls : List (List ℕ)) → fatesFrom member ls .short ≤ fatesFrom member ls .method
@@ -106,13 +103,6 @@ short-few member (l ∷ ls) =
     let b = short-few (memberAfter member (lineOf l)) ls in
     omega arith
 
--- what an accepted load counts
-pub record Counts (ls : List (List ℕ)) (f : Fates) : Type 0 where
-  pub adds : f .blank + f .applied + f .idle + f .class + f .field + f .method ≡ f .lines
-  pub every : f .lines ≡ length ls
-  pub short : f .short ≤ f .method
-  pub is : f ≡ fatesFrom false ls
-
 pub fates-sum : (ls : List (List ℕ)) {f : Fates} → scanOf ls ≡ Sound f → Counts ls f
 fates-sum ls {f} e =
     let all : f ≡ fatesFrom false ls = sound-all (fatesFrom false ls) 1 0 ls e in
@@ -122,22 +112,22 @@ fates-sum ls {f} e =
     record { adds = rw all (omega arith); every = rw all b; short = rw all c; is = all }
 
 -- Rows.
-comment-rows : (b : Bool) → (commentFate b .class ≡ 0) × (commentFate b .field + commentFate b .method ≡ 0)
+comment-rows : (b : Bool) → (one (commentFate b) .class ≡ 0) × (one (commentFate b) .field + one (commentFate b) .method ≡ 0)
 comment-rows true = (refl, refl)
 comment-rows false = (refl, refl)
 
-method-rows : (b : Bool) → (methodFate b .class ≡ 0) × (methodFate b .field + methodFate b .method ≡ 1)
+method-rows : (b : Bool) → (one (methodFate b) .class ≡ 0) × (one (methodFate b) .field + one (methodFate b) .method ≡ 1)
 method-rows true = (refl, refl)
 method-rows false = (refl, refl)
 
 fate-rows : (member : Bool) (cs : List Pair) (u : Under) (signature : Look) (l : List ℕ) (k : Line) →
-    (fateOf member l k .class ≡ length (classIn l k)) × (fateOf member l k .field + fateOf member l k .method ≡ length (entryIn cs u signature l k))
+    (one (fateOf member l k) .class ≡ length (classIn l k)) × (one (fateOf member l k) .field + one (fateOf member l k) .method ≡ length (entryIn cs u signature l k))
 fate-rows member cs u signature l Blank = (refl, refl)
 fate-rows member cs u signature l (Comment brace) = comment-rows (both member (isKnown (signatureAt l brace)))
 fate-rows member cs u signature l (Class display raw) = (refl, refl)
 fate-rows member cs u signature l (Field declared name raw) = (refl, refl)
 fate-rows member cs u signature l (Method m raw) = method-rows (m .short)
-fate-rows member cs u signature l (Refused number) = (refl, refl)
+fate-rows member cs u signature l (Refused r) = (refl, refl)
 
 -- one class row for each class line
 pub class-count : (member : Bool) (ls : List (List ℕ)) → fatesFrom member ls .class ≡ length (classesOf ls)

@@ -18,7 +18,7 @@ classIn l (Comment brace) = []
 classIn l (Class display raw) = pair (classDescriptor (partOf l raw)) (classDescriptor (partOf l display)) ∷ []
 classIn l (Field declared name raw) = []
 classIn l (Method m raw) = []
-classIn l (Refused number) = []
+classIn l (Refused r) = []
 
 -- "One row per line, in text order."
 unfoldable pub classesOf : List (List ℕ) → List Pair

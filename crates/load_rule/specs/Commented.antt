@@ -1,6 +1,6 @@
 -- Worked examples of comments that are applied, computed from the rules.
 use mathlib.Core.Path.{_≡_, refl}
-use mathlib.Core.List.{List, _++_}
+use mathlib.Core.List.{List, [], _∷_, _++_}
 use Prim.Native.Nat.{ℕ}
 use Rattle.ground.specs.Ascii.{ascii}
 use Rattle.text_places.specs.Places.{firstFrom, lastFrom, same}
@@ -17,15 +17,14 @@ use Rattle.descriptor.specs.Types.{baseEnd, bracketCount}
 use Rattle.ground.specs.Join.{join}
 use Rattle.table_rows.specs.Classes.{shown}
 use Rattle.descriptor.specs.Pieces.{partsFrom}
-use Rattle.load_rule.specs.declared.Load.the-variants.{Loaded}
 use Rattle.load_rule.specs.Comments.{residualIn}
-use Rattle.load_rule.specs.Fates.{fates, fatesFrom, faultsFrom}
+use Rattle.load_rule.specs.Fates.{fatesFrom, faultsFrom}
 use Rattle.load_rule.specs.Classes.{classesOf, classRows}
 use Rattle.load_rule.specs.Members.{entriesFrom, entryRows}
-use Rattle.load_rule.specs.Loading.{Lent, answerOf, linesStr, poolOf}
+use Rattle.load_rule.specs.Loading.{Lent, lent, answerOf, linesStr, loadNumbers, poolOf}
 
 abbrev enough : Lent
-enough = record { classes = 9; members = 9; pool = 999 }
+enough = lent 9 9 999
 
 -- a comment that gives the signature `s`, with its LF
 abbrev residual : List ℕ → List ℕ
@@ -43,11 +42,12 @@ two = ascii "a -> x:\n int n -> b\n" ++ (residual (ascii "J") ++ residual (ascii
 abbrev late : List ℕ
 late = ascii "a -> x:\n int n -> b\nc -> y:\n" ++ residual (ascii "J")
 
+-- number, place, length, lines, blank, applied, idle, class, field, method, short, names
 examples :
-    (answerOf main (linesStr main) enough ≡ Loaded (fates 5 1 1 0 1 1 1 0) 32)
-    × (answerOf two (linesStr two) enough ≡ Loaded (fates 4 0 2 0 1 1 0 0) 9)
+    (loadNumbers (answerOf main (linesStr main) enough) ≡ 0 ∷ 0 ∷ 0 ∷ 5 ∷ 1 ∷ 1 ∷ 0 ∷ 1 ∷ 1 ∷ 1 ∷ 0 ∷ 32 ∷ [])
+    × (loadNumbers (answerOf two (linesStr two) enough) ≡ 0 ∷ 0 ∷ 0 ∷ 4 ∷ 0 ∷ 2 ∷ 0 ∷ 1 ∷ 1 ∷ 0 ∷ 0 ∷ 9 ∷ [])
     × (poolOf (linesStr two) ≡ ascii "Lx;La;bFn")
-    × (answerOf late (linesStr late) enough ≡ Loaded (fates 4 0 0 1 2 1 0 0) 15)
+    × (loadNumbers (answerOf late (linesStr late) enough) ≡ 0 ∷ 0 ∷ 0 ∷ 4 ∷ 0 ∷ 0 ∷ 1 ∷ 2 ∷ 1 ∷ 0 ∷ 0 ∷ 15 ∷ [])
     × (poolOf (linesStr late) ≡ ascii "Lx;La;Ly;Lc;bIn")
 unfolding ascii rawLines crEnd firstFrom lastFrom numbers.digitsFrom numbers.plain numbers.numberOf runOf trimEnd allWhite piecesFrom sequenceOf afterLead leadOf tails isWhite inRanges whiteRanges commaParts filled checkFrom same baseEnd bracketCount partsFrom join shown residualIn fatesFrom faultsFrom classesOf classRows entriesFrom entryRows utf8 lastOf andThen pastAll structural past shortEscape escape pieceOf charsFrom stringOf pastWord flatOf afterItem itemsOf insideOf enclosedOf memberOf nestedOf valueOf membersOf
 examples = (refl, refl, refl, refl, refl)

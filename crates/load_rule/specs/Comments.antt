@@ -57,7 +57,7 @@ residualBy l (Comment brace) later = orLook later (signatureAt l brace)
 residualBy l (Class display raw) later = unknown
 residualBy l (Field declared name raw) later = unknown
 residualBy l (Method method raw) later = unknown
-residualBy l (Refused number) later = unknown
+residualBy l (Refused r) later = unknown
 
 unfoldable pub residualIn : List (List ℕ) → Look
 residualIn [] = unknown

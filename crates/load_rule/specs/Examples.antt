@@ -16,15 +16,12 @@ use Rattle.ground.specs.Join.{join}
 use Rattle.table_rows.specs.Classes.{shown}
 use Rattle.descriptor.specs.Pieces.{partsFrom}
 use Rattle.load_rule.specs.declared.Load.{Load}
-use Rattle.load_rule.specs.declared.Load.the-variants.{Loaded, Faulty, NoClasses, FewClassRows, FewMemberRows, ShortPool}
+use Rattle.load_rule.specs.declared.Load.the-variants.{Faulty, NoClasses, FewClassRows, FewMemberRows, ShortPool}
 use Rattle.load_rule.specs.Comments.{residualIn}
-use Rattle.load_rule.specs.Fates.{fates, fatesFrom, faultsFrom}
+use Rattle.load_rule.specs.Fates.{fatesFrom, faultsFrom}
 use Rattle.load_rule.specs.Classes.{classesOf, classRows}
 use Rattle.load_rule.specs.Members.{entriesFrom, entryRows}
-use Rattle.load_rule.specs.Loading.{Lent, answerOf, linesStr, classRowsOf, memberRowsOf, poolOf}
-
-abbrev lent : ℕ → ℕ → ℕ → Lent
-lent c m p = record { classes = c; members = m; pool = p }
+use Rattle.load_rule.specs.Loading.{Lent, lent, answerOf, linesStr, loadNumbers, classRowsOf, memberRowsOf, poolOf}
 
 -- the answer for a text, where so much is lent
 abbrev loads : String → Lent → Load
@@ -39,9 +36,9 @@ examples :
     × (loads " int n -> b" (lent 9 9 99) ≡ Faulty 4 1)
     × (loads " int n b" (lent 9 9 99) ≡ Faulty 4 1)
     × (loads "a -> b:\n\n int n b" (lent 9 9 99) ≡ Faulty 5 3)
-    -- a second part that does not read
-    × (loads "a -> b:\n int f():7:x -> c" (lent 9 9 99) ≡ Loaded (fates 2 0 0 0 1 0 1 1) 14)
-    × (loads small (lent 1 2 32) ≡ Loaded (fates 3 0 0 0 1 1 1 0) 32)
+    -- number, place, length, lines, blank, applied, idle, class, field, method, short, names: a second part that does not read
+    × (loadNumbers (loads "a -> b:\n int f():7:x -> c" (lent 9 9 99)) ≡ 0 ∷ 0 ∷ 0 ∷ 2 ∷ 0 ∷ 0 ∷ 0 ∷ 1 ∷ 0 ∷ 1 ∷ 1 ∷ 14 ∷ [])
+    × (loadNumbers (loads small (lent 1 2 32)) ≡ 0 ∷ 0 ∷ 0 ∷ 3 ∷ 0 ∷ 0 ∷ 0 ∷ 1 ∷ 1 ∷ 1 ∷ 0 ∷ 32 ∷ [])
     × (loads small (lent 0 0 0) ≡ FewClassRows)
     × (loads small (lent 1 1 0) ≡ FewMemberRows)
     × (loads small (lent 1 2 31) ≡ ShortPool)

@@ -4,5 +4,6 @@ pub mod Fates
 pub mod Classes
 pub mod Members
 pub mod Loading
+pub mod Theorems
 pub mod Examples
 pub mod Commented

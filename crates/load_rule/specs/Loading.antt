@@ -10,7 +10,7 @@ use Rattle.text_utf8.specs.declared.check.Check.{Check}
 use Rattle.text_utf8.specs.declared.check.Check.the-variants.{Valid, Broken}
 use Rattle.text_utf8.specs.Utf8.{checkOf}
 use Rattle.text_white.specs.Trim.{afterMarks}
-use Rattle.table_rows.specs.Rows.{zeroClass, zeroMember}
+use Rattle.table_rows.specs.Rows.{zeroClass, zeroMember, mostClasses, mostMembers, mostPool}
 use Rattle.load_rule.specs.declared.Fates.{Fates}
 use Rattle.load_rule.specs.declared.Scan.{Scan}
 use Rattle.load_rule.specs.declared.Scan.the-variants as scan
@@ -20,15 +20,18 @@ use Rattle.load_rule.specs.Fates.{scanOf}
 use Rattle.load_rule.specs.Classes.{classesOf, classPool, classRows}
 use Rattle.load_rule.specs.Members.{under, Entry, entriesFrom, entryPool, entryRows}
 
--- what is lent: class rows, member rows, pool bytes
+-- how much is lent: class rows, member rows, pool bytes
 pub record Lent : Type 0 where
   pub classes : ℕ
   pub members : ℕ
   pub pool : ℕ
 
+abbrev pub lent : ℕ → ℕ → ℕ → Lent
+lent c m p = record { classes = c; members = m; pool = p }
+
 -- "Class rows number at most 4,096, member rows 32,768, pool bytes 4,194,304; a longer lent slice counts as that."
 abbrev pub counting : Lent → Lent
-counting n = record { classes = min (n .classes) 4096; members = min (n .members) 32768; pool = min (n .pool) 4194304 }
+counting n = record { classes = min (n .classes) mostClasses; members = min (n .members) mostMembers; pool = min (n .pool) mostPool }
 
 -- the members of a mapping, by its lines
 abbrev pub entriesOf : List (List ℕ) → List Entry
@@ -66,9 +69,13 @@ abbrev pub checked : Check → List (List ℕ) → Lent → Load
 checked (Broken valid len) ls n = NotUtf8 valid len
 checked Valid ls n = linesLoad ls n
 
+-- "1 mapping text over 1,048,576 bytes"
+abbrev pub mostText : ℕ
+mostText = 1048576
+
 -- the answer for a text `s` whose lines are `ls`
 abbrev pub answerOf : List ℕ → List (List ℕ) → Lent → Load
-answerOf s ls n = pick (ltb 1048576 (length s)) TooLong (checked (checkOf s) ls (counting n))
+answerOf s ls n = pick (ltb mostText (length s)) TooLong (checked (checkOf s) ls (counting n))
 
 -- "`parse_str` drops none"
 abbrev pub linesStr : List ℕ → List (List ℕ)

@@ -17,6 +17,7 @@ use Rattle.descriptor.specs.Signatures.{rawSignature}
 use Rattle.ground.specs.Look.{Look, known, unknown}
 use Rattle.ground.specs.Join.{join}
 use Rattle.table_rows.specs.Classes.{Pair}
+use Rattle.table_rows.specs.declared.rows.Text.{Text}
 use Rattle.table_rows.specs.declared.rows.Ranges.{Ranges}
 use Rattle.table_rows.specs.declared.rows.Ranges.the-variants.{None, Display, Both}
 use Rattle.table_rows.specs.Rows.{text, packMember}
@@ -46,10 +47,18 @@ rangesOf NoLines (Lines a e) = Display a e
 rangesOf (Lines p q) NoLines = Both p q p q
 rangesOf (Lines p q) (Lines a e) = Both p q a e
 
--- a member by its texts and numbers
-pub data Entry : Type 0 where
-  field : ℕ → List ℕ → List ℕ → List ℕ → Entry  -- class row, raw name, raw descriptor, display name
-  method : ℕ → List ℕ → List ℕ → List ℕ → List ℕ → Ranges → Entry  -- and display owner, ranges
+-- what only a method has: its display owner and its ranges
+pub data MemberKind : Type 0 where
+  field : MemberKind
+  method : List ℕ → Ranges → MemberKind
+
+-- a member by its class row, its texts, and what it is
+pub record Entry : Type 0 where
+  pub class : ℕ
+  pub rawName : List ℕ
+  pub descriptor : List ℕ
+  pub name : List ℕ
+  pub kind : MemberKind
 
 -- the class line that a line stands under: the last of `count`, and the display name of its class
 pub record Under : Type 0 where
@@ -65,7 +74,7 @@ underAfter u l (Comment brace) = u
 underAfter u l (Class display raw) = under (u .count + 1) (partOf l display)
 underAfter u l (Field declared name raw) = u
 underAfter u l (Method m raw) = u
-underAfter u l (Refused number) = u
+underAfter u l (Refused r) = u
 
 abbrev pub nameText : List ℕ → Qualified → List ℕ
 nameText l (Owned owner name) = partOf l name
@@ -83,49 +92,67 @@ entryIn cs u signature l Blank = []
 entryIn cs u signature l (Comment brace) = []
 entryIn cs u signature l (Class display raw) = []
 entryIn cs u signature l (Field declared name raw) =
-    field (u .count - 1) (partOf l raw) (fieldDescriptor cs signature (partOf l declared)) (partOf l name) ∷ []
+    record {
+      class = u .count - 1;
+      rawName = partOf l raw;
+      descriptor = fieldDescriptor cs signature (partOf l declared);
+      name = partOf l name;
+      kind = field;
+    }
+    ∷ []
 entryIn cs u signature l (Method m raw) =
-    method (u .count - 1) (partOf l raw)
-    (methodDescriptor cs signature (argumentsOf (partOf l (m .arguments))) (partOf l (m .returned)))
-    (nameText l (m .named)) (ownerOf (u .own) l (m .named)) (rangesOf (m .raw) (m .display)) ∷ []
-entryIn cs u signature l (Refused number) = []
+    record {
+      class = u .count - 1;
+      rawName = partOf l raw;
+      descriptor = methodDescriptor cs signature (argumentsOf (partOf l (m .arguments))) (partOf l (m .returned));
+      name = nameText l (m .named);
+      kind = method (ownerOf (u .own) l (m .named)) (rangesOf (m .raw) (m .display));
+    }
+    ∷ []
+entryIn cs u signature l (Refused r) = []
 
 -- "One row per line, in text order."
 unfoldable pub entriesFrom : List Pair → Under → List (List ℕ) → List Entry
 entriesFrom cs u [] = []
 entriesFrom cs u (l ∷ ls) = entryIn cs u (residualIn ls) l (lineOf l) ++ entriesFrom cs (underAfter u l (lineOf l)) ls
 
--- "then each member's texts in row order"
+-- "then each member's texts in row order": display name and, of a method, display owner
+abbrev pub displayText : List ℕ → MemberKind → List ℕ
+displayText n field = n
+displayText n (method o g) = n ++ o
+
 abbrev pub entryText : Entry → List ℕ
-entryText (field c r d n) = r ++ (d ++ n)
-entryText (method c r d n o g) = r ++ (d ++ (n ++ o))
+entryText e = e .rawName ++ (e .descriptor ++ displayText (e .name) (e .kind))
 
 abbrev pub entryPool : List Entry → List ℕ
 entryPool es = join (map entryText es)
 
--- the row of a member whose texts stand at the place `p`: "display owner (0, 0 for a field)"
+-- "kind (0 field, 1 method)"
+abbrev pub kindNumber : MemberKind → ℕ
+kindNumber field = 0
+kindNumber (method o g) = 1
+
+-- "display owner (0, 0 for a field)", which stands at the place `p`
+abbrev pub ownerAt : ℕ → MemberKind → Text
+ownerAt p field = text 0 0
+ownerAt p (method o g) = text p (length o)
+
+abbrev pub kindRanges : MemberKind → Ranges
+kindRanges field = None
+kindRanges (method o g) = g
+
+-- the row of a member whose texts stand at the place `p`
 abbrev pub entryRow : ℕ → Entry → List ℕ
-entryRow p (field c r d n) =
+entryRow p e =
     packMember
     (record {
-      kind = 0;
-      class = c;
-      «raw_name» = text p (length r);
-      descriptor = text (p + length r) (length d);
-      name = text (p + length r + length d) (length n);
-      owner = text 0 0;
-      ranges = None;
-    })
-entryRow p (method c r d n o g) =
-    packMember
-    (record {
-      kind = 1;
-      class = c;
-      «raw_name» = text p (length r);
-      descriptor = text (p + length r) (length d);
-      name = text (p + length r + length d) (length n);
-      owner = text (p + length r + length d + length n) (length o);
-      ranges = g;
+      kind = kindNumber (e .kind);
+      class = e .class;
+      «raw_name» = text p (length (e .rawName));
+      descriptor = text (p + length (e .rawName)) (length (e .descriptor));
+      name = text (p + length (e .rawName) + length (e .descriptor)) (length (e .name));
+      owner = ownerAt (p + length (e .rawName) + length (e .descriptor) + length (e .name)) (e .kind);
+      ranges = kindRanges (e .kind);
     })
 
 unfoldable pub entryRows : ℕ → List Entry → List (List ℕ)

@@ -1,16 +1,33 @@
 // What loading a mapping answers. The rule of loading stands in specs/; this crate has no function.
 
-// What became of the lines of a text.
+// A text may have so many bytes.
+pub const MOST_TEXT: usize = 1048576;
+
+// What becomes of one line.
+pub enum Fate {
+    Blank,
+    // A comment whose signature replaces one.
+    Applied,
+    Idle,
+    Class,
+    Field,
+    Method,
+    // A method whose display range has a second part that does not read.
+    Short,
+    // A line for which the text is refused.
+    Faulty,
+}
+
+// What became of the lines of a text: how many had each fate.
 pub struct Fates {
     pub lines: u32,
     pub blank: u32,
-    // Comments whose signature replaces one.
     pub applied: u32,
     pub idle: u32,
     pub class: u32,
     pub field: u32,
+    // Short ones too.
     pub method: u32,
-    // Methods whose display range has a second part that does not read.
     pub short: u32,
 }
 

@@ -5,9 +5,12 @@ use borrow.Author.Tests.{eq-eqb, ne-eqb}
 use borrow.Author.Needs.{needs}
 use Rattle.text_places.specs.declared.spans.Span.{Span}
 use Rattle.line_parts.specs.declared.method.Method.{Method}
+use Rattle.line.specs.declared.line.Refusal.{Refusal}
+use Rattle.line.specs.declared.line.Refusal.the-variants as refusal
 use Rattle.line.specs.declared.line.Line.{Line}
 use Rattle.line.specs.declared.line.Line.the-variants as kinds
-use Rattle.load_rule.specs.Fates.{ownerless, faultOf}
+use Rattle.line.specs.Kinds.{refusalNumber}
+use Rattle.load_rule.specs.Fates.{ownerless, refusedFault, faultOf}
 
 module _ (classes number : ℕ) where
   pub no-class : classes ≡ 0 → 4 ≡ ownerless classes number
@@ -23,11 +26,27 @@ module _ (classes : ℕ) {k : Line} where
   pub method-fault : {m : Method} {r : Span} → k ≡ kinds.Method m r → {x : ℕ} → x ≡ ownerless classes 0 → x ≡ faultOf classes k
   method-fault e f = f ∙ sym (ap (faultOf classes) e)
 
-  module _ {number : ℕ} (e : k ≡ kinds.Refused number) where
-    pub class-fault : number ≡ 3 → 3 ≡ faultOf classes k
-    class-fault h = sym (ap (faultOf classes) e ∙ rw (eq-eqb number 3 h))
+  pub refused-fault : {r : Refusal} → k ≡ kinds.Refused r → {x : ℕ} → x ≡ refusedFault classes r → x ≡ faultOf classes k
+  refused-fault e f = f ∙ sym (ap (faultOf classes) e)
 
-    pub member-fault : (number ≡ 3 → ⊥) → {x : ℕ} → x ≡ ownerless classes number → x ≡ faultOf classes k
-    member-fault h f = f ∙ sym (ap (faultOf classes) e ∙ rw (ne-eqb number 3 h))
+pub ruleset faulting = (no-class, some-class, field-fault, method-fault, refused-fault, needs)
 
-pub ruleset faulting = (no-class, some-class, field-fault, method-fault, class-fault, member-fault, needs)
+-- Of a line that is refused.
+module _ (classes : ℕ) {r : Refusal} {number : ℕ} (n : number ≡ refusalNumber r) where
+  pub fault-class : r ≡ refusal.Class → number ≡ refusedFault classes r
+  fault-class e = n ∙ ap refusalNumber e ∙ sym (ap (refusedFault classes) e)
+
+  module _ {x : ℕ} (f : x ≡ ownerless classes number) where
+    numbered : (y : Refusal) → r ≡ y → x ≡ ownerless classes (refusalNumber y)
+    numbered y e = f ∙ ap (ownerless classes) (n ∙ ap refusalNumber e)
+
+    pub fault-member : r ≡ refusal.Member → x ≡ refusedFault classes r
+    fault-member e = numbered refusal.Member e ∙ sym (ap (refusedFault classes) e)
+
+    pub fault-method : r ≡ refusal.Method → x ≡ refusedFault classes r
+    fault-method e = numbered refusal.Method e ∙ sym (ap (refusedFault classes) e)
+
+    pub fault-field : r ≡ refusal.Field → x ≡ refusedFault classes r
+    fault-field e = numbered refusal.Field e ∙ sym (ap (refusedFault classes) e)
+
+pub ruleset refusing = (fault-class, fault-member, fault-method, fault-field, needs)

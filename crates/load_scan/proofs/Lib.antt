@@ -1,4 +1,6 @@
--- Laws, one file a subject.
+-- Laws of going over lines.
 pub mod Counting
+pub mod Fated
 pub mod Faults
+pub mod Stepping
 pub mod Scanning

@@ -1,2 +1,2 @@
--- What the functions over lines say, in terms of the rules of loading.
-pub mod Bounds
+-- No rule stands here: what is said of the lines is the rule of loading.
+pub mod inner

@@ -1,11 +1,15 @@
 // What becomes of one line, and its fault.
 use line::Line;
+use line::Refusal;
+use line::refusal_number;
 use load_residual::gives_signature;
+use load_rule::Fate;
 use load_rule::Fates;
 ghost use mathlib.Core.Path.{_≡_};
 ghost use Rattle.line.specs.Kinds.{lineOf};
-ghost use Rattle.load_rule.specs.Fates.{noFates, plus, commentFate, methodFate, fateOf, memberAfter, ownerless, faultOf};
-ghost use Rattle.load_scan.specs.Bounds.{Within};
+ghost use Rattle.load_rule.specs.Fates.{noFates, plus, one, commentFate, methodFate, fateOf, memberAfter, ownerless, refusedFault, faultOf};
+ghost use Rattle.load_rule.specs.Loading.{mostText};
+ghost use Rattle.load_scan.specs.inner.Bounds.{Within};
 
 // No line is counted yet.
 pub fn no_fates() -> Fates
@@ -23,72 +27,86 @@ pub fn no_fates() -> Fates
     }
 }
 
-// A comment that is applied, or one that is idle, is counted.
-fn comment_counted(fates: Fates, applies: bool) -> Fates
-    requires { ⌜ Within fates 1048576 ⌝ }
-    ensures { λ r. ⌜ r ≡ plus fates (commentFate applies) ⌝ }
+// One line more of a fate.
+pub fn counted(fates: Fates, fate: Fate) -> Fates
+    requires { ⌜ Within fates mostText ⌝ }
+    ensures { λ r. ⌜ r ≡ plus fates (one fate) ⌝ }
 {
     let mut sum = fates;
     sum.lines += 1;
-    if applies {
-        sum.applied += 1;
-        return sum;
-    }
-    sum.idle += 1;
-    sum
-}
-
-fn method_counted(fates: Fates, short: bool) -> Fates
-    requires { ⌜ Within fates 1048576 ⌝ }
-    ensures { λ r. ⌜ r ≡ plus fates (methodFate short) ⌝ }
-{
-    let mut sum = fates;
-    sum.lines += 1;
-    sum.method += 1;
-    if short {
-        sum.short += 1;
-        return sum;
-    }
-    sum
-}
-
-// One line more is counted. `member`: whether the current class has a last member.
-pub fn counted(fates: Fates, line: &[u8], kind: Line, member: bool) -> Fates
-    requires { ⌜ (lineOf (now line) ≡ kind) × Within fates 1048576 ⌝ }
-    ensures { λ r. ⌜ r ≡ plus fates (fateOf member (now (line .entry)) kind) ⌝ }
-{
-    let mut sum = fates;
-    match kind {
-        Line::Blank => {
-            sum.lines += 1;
+    match fate {
+        Fate::Blank => {
             sum.blank += 1;
             sum
         }
-        Line::Comment(brace) => {
-            if member {
-                return comment_counted(fates, gives_signature(line, brace));
-            }
-            comment_counted(fates, false)
+        Fate::Applied => {
+            sum.applied += 1;
+            sum
         }
-        Line::Class { display: _, raw: _ } => {
-            sum.lines += 1;
+        Fate::Idle => {
+            sum.idle += 1;
+            sum
+        }
+        Fate::Class => {
             sum.class += 1;
             sum
         }
+        Fate::Field => {
+            sum.field += 1;
+            sum
+        }
+        Fate::Method => {
+            sum.method += 1;
+            sum
+        }
+        Fate::Short => {
+            sum.method += 1;
+            sum.short += 1;
+            sum
+        }
+        Fate::Faulty => sum,
+    }
+}
+
+fn comment_fate(applies: bool) -> Fate
+    ensures { λ r. ⌜ r ≡ commentFate applies ⌝ }
+{
+    if applies {
+        return Fate::Applied;
+    }
+    Fate::Idle
+}
+
+fn method_fate(short: bool) -> Fate
+    ensures { λ r. ⌜ r ≡ methodFate short ⌝ }
+{
+    if short {
+        return Fate::Short;
+    }
+    Fate::Method
+}
+
+// What becomes of a line. `member`: whether the current class has a last member.
+pub fn fate_of(line: &[u8], kind: Line, member: bool) -> Fate
+    requires { ⌜ lineOf (now line) ≡ kind ⌝ }
+    ensures { λ r. ⌜ r ≡ fateOf member (now (line .entry)) kind ⌝ }
+{
+    match kind {
+        Line::Blank => Fate::Blank,
+        Line::Comment(brace) => {
+            if member {
+                return comment_fate(gives_signature(line, brace));
+            }
+            Fate::Idle
+        }
+        Line::Class { display: _, raw: _ } => Fate::Class,
         Line::Field {
             declared: _,
             name: _,
             raw: _,
-        } => {
-            sum.lines += 1;
-            sum.field += 1;
-            sum
-        }
-        Line::Method { method, raw: _ } => method_counted(fates, method.short),
-        Line::Refused(_) => {
-            sum.lines += 1;
-            sum
-        }
+        } => Fate::Field,
+        Line::Method { method, raw: _ } => method_fate(method.short),
+        Line::Refused(_) => Fate::Faulty,
     }
 }
 
@@ -120,6 +138,19 @@ fn without_class(classes: u32, number: u32) -> u32
     number
 }
 
+// The fault of a line that is refused.
+fn refused_fault(classes: u32, refusal: Refusal) -> u32
+    ensures { λ r. ⌜ r ≡ refusedFault classes refusal ⌝ }
+{
+    let number = refusal_number(refusal);
+    match refusal {
+        Refusal::Class => number,
+        Refusal::Member => without_class(classes, number),
+        Refusal::Method => without_class(classes, number),
+        Refusal::Field => without_class(classes, number),
+    }
+}
+
 // The fault of a line, 0 where it has none. `classes` is how many class lines stand before it.
 pub fn fault(classes: u32, kind: Line) -> u32
     ensures { λ r. ⌜ r ≡ faultOf classes kind ⌝ }
@@ -134,11 +165,6 @@ pub fn fault(classes: u32, kind: Line) -> u32
             raw: _,
         } => without_class(classes, 0),
         Line::Method { method: _, raw: _ } => without_class(classes, 0),
-        Line::Refused(number) => {
-            if number == 3 {
-                return 3;
-            }
-            without_class(classes, number)
-        }
+        Line::Refused(refusal) => refused_fault(classes, refusal),
     }
 }

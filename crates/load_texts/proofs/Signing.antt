@@ -9,7 +9,7 @@ use lib.ListN.{length, take, drop, length-append, take-append-drop}
 use borrow.Author.Tests.{leb-true, leb-false}
 use borrow.Author.Needs.{needs}
 use Rattle.ground.specs.Choice.{pick}
-use Rattle.ground.specs.Put.{put}
+use Rattle.ground.specs.Put.{put, between}
 use Rattle.ground.proofs.PutLaws.{put-over, put-part, length-put}
 use Rattle.text_places.specs.declared.find.Place.{Place}
 use Rattle.text_places.specs.declared.find.Place.the-variants.{At, Nowhere}
@@ -21,9 +21,8 @@ use Rattle.json_decode.specs.Decoded.{decoded, writtenOf, roomOf}
 use Rattle.table_pool.specs.declared.write.Wrote.{Wrote}
 use Rattle.table_pool.specs.declared.write.Wrote.the-variants.{Done, NoRoom}
 use Rattle.table_pool.specs.Names.{slashed, classDescriptor}
-use Rattle.ground.specs.Put.{between}
 use Rattle.descriptor.specs.Signatures.{rawKept, rawType, afterClose, rawSignature}
-use Rattle.table_pool.specs.Wrote.{Written, WroteBy}
+use Rattle.table_pool.specs.inner.Wrote.{Written, WroteBy}
 use Rattle.table_pool.proofs.Naming.{slashed-length}
 
 -- A signature does not become shorter.

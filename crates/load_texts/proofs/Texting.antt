@@ -22,25 +22,25 @@ use Rattle.table_pool.specs.Names.{classDescriptor}
 use Rattle.descriptor.specs.Signatures.{rawSignature}
 use Rattle.ground.specs.Look.{Look, known, unknown}
 use Rattle.table_rows.specs.Classes.{Pair}
-use Rattle.table_pool.specs.Wrote.{Written, WroteBy}
+use Rattle.table_pool.specs.inner.Wrote.{Written, WroteBy}
 use Rattle.table_pool.proofs.Writes.{written-length, wrote-told, wrote-none, wrote-then, none-then, wrote-as}
 use Rattle.tables.specs.Back.{readBack}
 use Rattle.descriptor.specs.Raw.{rawTypeOf}
-use Rattle.load_raw_types.specs.Marks.{Indexed}
+use Rattle.load_raw_types.specs.inner.Marks.{Indexed}
 use Rattle.load_raw_types.proofs.Indexing.{read-back-put}
 use Rattle.load_rule.specs.Comments.{residualIn}
 use Rattle.load_rule.specs.Members.{ownerOf, typesDescriptor}
 use Rattle.load_residual.specs.declared.residual.Residual.{Residual}
 use Rattle.load_residual.specs.declared.residual.Residual.the-variants.{Text, Nothing}
-use Rattle.load_residual.specs.Residuals.{jsonPart, residualLook, Gives}
+use Rattle.load_residual.specs.inner.Residuals.{jsonPart, residualLook, Gives}
 use Rattle.load_texts.specs.declared.texts.Body.{Body}
 use Rattle.load_texts.specs.declared.texts.Body.the-variants.{Field, Method}
 use Rattle.load_texts.specs.declared.texts.MemberLine.{MemberLine}
 use Rattle.load_texts.specs.declared.texts.Entered.the-variants as entered
-use Rattle.load_texts.specs.Texts.{BodyIn, MemberIn, isMethod, displayTypes, descriptorText, ownerText, MemberTexts, allTexts}
+use Rattle.load_texts.specs.inner.Texts.{BodyIn, MemberIn, isMethod, displayTypes, descriptorText, ownerText, MemberTexts, allTexts}
 use Rattle.load_texts.specs.declared.texts.TwoTexts.{TwoTexts}
 use Rattle.load_texts.specs.declared.texts.TwoTexts.the-variants as two
-use Rattle.load_texts.specs.Places.{TwoAt, TwoBy, EnteredTexts}
+use Rattle.load_texts.specs.inner.Places.{TwoAt, TwoBy, EnteredTexts}
 use Rattle.load_texts.proofs.Typing.{indexed-after}
 
 -- Parts of a body lie in its line.

@@ -17,11 +17,11 @@ use Rattle.table_pool.specs.declared.write.Wrote.{Wrote}
 use Rattle.table_pool.specs.declared.write.Wrote.the-variants.{Done, NoRoom}
 use Rattle.ground.specs.Join.{join}
 use Rattle.table_rows.specs.Classes.{Pair}
-use Rattle.table_pool.specs.Wrote.{Written, WroteBy}
+use Rattle.table_pool.specs.inner.Wrote.{Written, WroteBy}
 use Rattle.table_pool.proofs.Writes.{written-length, wrote-told, wrote-none, wrote-then, none-then, wrote-as}
 use Rattle.tables.specs.Back.{readBack}
 use Rattle.descriptor.specs.Raw.{rawTypeOf}
-use Rattle.load_raw_types.specs.Marks.{Indexed}
+use Rattle.load_raw_types.specs.inner.Marks.{Indexed}
 use Rattle.load_raw_types.proofs.Indexing.{read-back-put, indexed-put}
 use Rattle.load_rule.specs.Members.{argumentTypes, typesDescriptor}
 use Rattle.load_rule.proofs.Appended.{join-more, join-append}

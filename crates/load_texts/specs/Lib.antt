@@ -1,3 +1,2 @@
--- What the functions that write the texts of a member say, in terms of the rule of loading.
-pub mod Texts
-pub mod Places
+-- No rule stands here: what is said of the lines is the rule of loading.
+pub mod inner

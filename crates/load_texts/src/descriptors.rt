@@ -15,10 +15,10 @@ ghost use Rattle.json_grammar.specs.Reader.{charsFrom};
 ghost use Rattle.json_decode.specs.Decoded.{decoded};
 ghost use Rattle.line_parts.specs.Arguments.{argumentsOf};
 ghost use Rattle.descriptor.specs.Signatures.{rawSignature};
-ghost use Rattle.table_pool.specs.Wrote.{WroteBy};
+ghost use Rattle.table_pool.specs.inner.Wrote.{WroteBy};
 ghost use Rattle.tables.specs.Back.{readBack};
 ghost use Rattle.descriptor.specs.Raw.{rawTypeOf};
-ghost use Rattle.load_raw_types.specs.Marks.{Indexed};
+ghost use Rattle.load_raw_types.specs.inner.Marks.{Indexed};
 ghost use Rattle.load_rule.specs.Members.{argumentTypes, typesDescriptor};
 
 // A residual signature: the string of a comment, whose first char stands at the place `string`. It is decoded and then settled where it stands.

@@ -15,12 +15,12 @@ ghost use mathlib.Core.Path.{_≡_};
 ghost use lib.ListN.{length};
 ghost use Rattle.text_places.specs.Lines.{lines};
 ghost use Rattle.text_places.specs.Spans.{partOf};
-ghost use Rattle.table_pool.specs.Wrote.{WroteBy};
+ghost use Rattle.table_pool.specs.inner.Wrote.{WroteBy};
 ghost use Rattle.tables.specs.Back.{readBack};
-ghost use Rattle.load_raw_types.specs.Marks.{Indexed};
+ghost use Rattle.load_raw_types.specs.inner.Marks.{Indexed};
 ghost use Rattle.load_rule.specs.Comments.{residualIn};
-ghost use Rattle.load_texts.specs.Texts.{BodyIn, MemberIn, isMethod, displayTypes, descriptorText, ownerText, textsOf};
-ghost use Rattle.load_texts.specs.Places.{TwoBy, EnteredTextsBy};
+ghost use Rattle.load_texts.specs.inner.Texts.{BodyIn, MemberIn, isMethod, displayTypes, descriptorText, ownerText, textsOf};
+ghost use Rattle.load_texts.specs.inner.Places.{TwoBy, EnteredTextsBy};
 
 // What only a field has, and what only a method has.
 pub enum Body {

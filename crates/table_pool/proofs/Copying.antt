@@ -8,7 +8,7 @@ use lib.Seq.{length-paste-head, getD-take, getD-drop, length-take-le}
 use mir.Val.{Fits}
 use mir.Syntax.{w64}
 use borrow.Author.Needs.{needs}
-use Rattle.table_pool.specs.Wrote.{Written}
+use Rattle.table_pool.specs.inner.Wrote.{Written}
 use Rattle.table_pool.proofs.Writes.{Pasting, text-starts, text-done, byte-more}
 
 module _ (d : List ℕ) (at place size : ℕ) (b : place + size ≤ at) where

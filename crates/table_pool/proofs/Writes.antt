@@ -15,7 +15,7 @@ use Rattle.ground.specs.Put.{put}
 use Rattle.ground.proofs.PutLaws.{paste-put, put-put, length-put}
 use Rattle.table_pool.specs.declared.write.Wrote.{Wrote}
 use Rattle.table_pool.specs.declared.write.Wrote.the-variants.{Done, NoRoom}
-use Rattle.table_pool.specs.Wrote.{Written, WroteBy}
+use Rattle.table_pool.specs.inner.Wrote.{Written, WroteBy}
 
 -- the first `k` of the bytes `b` are written
 pub record Pasting (d : List ℕ) (at : ℕ) (b room : List ℕ) (k : ℕ) : Type 0 where

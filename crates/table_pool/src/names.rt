@@ -4,7 +4,7 @@ use crate::write::put_bytes;
 ghost use mathlib.Core.Path.{_≡_};
 ghost use mathlib.Core.List.{[], _∷_, _++_};
 ghost use Rattle.table_pool.specs.Names.{slash, slashIf, nameBytes, classPiece, classDescriptor};
-ghost use Rattle.table_pool.specs.Wrote.{WroteBy};
+ghost use Rattle.table_pool.specs.inner.Wrote.{WroteBy};
 
 // A dot as a slash, any other byte as it is.
 pub fn slash_for_dot(b: u8) -> u8

@@ -1,7 +1,7 @@
 // Bytes written into a lent pool at a place. Where there is no room for all of them, the pool is the caller's to clear.
 ghost use Prim.Native.Nat.{_+_, _≤_};
 ghost use lib.ListN.{take, drop, replicate};
-ghost use Rattle.table_pool.specs.Wrote.{WroteBy};
+ghost use Rattle.table_pool.specs.inner.Wrote.{WroteBy};
 
 pub enum Wrote {
     // The place after the last byte.

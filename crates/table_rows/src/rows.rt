@@ -1,7 +1,15 @@
 // Rows by value: what a class row and a member row are made of.
 ghost use mathlib.Core.Path.{_≡_};
+ghost use Prim.Native.Nat.{_≤_, _-_};
 ghost use lib.ListN.{length};
-ghost use Rattle.table_rows.specs.Rows.{packClass, unpackClass, partsRow, packMember, unpackRanges, unpackMember};
+ghost use Rattle.table_rows.specs.Rows.{text, packClass, unpackClass, partsRow, packMember, unpackRanges, unpackMember, flagOf, mostPool};
+
+// A longer slice that is lent counts as that.
+pub const MOST_CLASSES: usize = 4096;
+
+pub const MOST_MEMBERS: usize = 32768;
+
+pub const MOST_POOL: usize = 4194304;
 
 pub type ClassRow = [u32; 4];
 
@@ -11,6 +19,18 @@ pub type MemberRow = [u32; 15];
 pub struct Text {
     pub place: u32,
     pub length: u32,
+}
+
+// A text by the places at which it starts and ends.
+pub fn text_between(start: usize, end: usize) -> Text
+    requires { ⌜ (start ≤ «end») × («end» ≤ mostPool) ⌝ }
+    ensures { λ r. ⌜ r ≡ text start («end» - start) ⌝ }
+{
+    let length = end - start;
+    Text {
+        place: start as u32,
+        length: length as u32,
+    }
 }
 
 pub struct Class {
@@ -166,4 +186,11 @@ pub fn unpack_member(row: MemberRow) -> Member
         },
         ranges: unpack_ranges(row),
     }
+}
+
+// The range flag of a row as it stands: 0 none, 1 display only, 2 both. A member keeps no other, so a check has to ask the row.
+pub fn range_flag(row: MemberRow) -> u32
+    ensures { λ r. ⌜ r ≡ flagOf row ⌝ }
+{
+    row[10]
 }

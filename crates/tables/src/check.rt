@@ -2,15 +2,18 @@
 use crate::texts::lesser;
 use crate::texts::text_in;
 use table_rows::ClassRow;
+use table_rows::MOST_CLASSES;
+use table_rows::MOST_MEMBERS;
+use table_rows::MOST_POOL;
 use table_rows::Member;
 use table_rows::MemberRow;
 use table_rows::Text;
+use table_rows::range_flag;
 use table_rows::unpack_class;
 use table_rows::unpack_member;
 use text_utf8::Check;
 use text_utf8::check_text;
 ghost use mathlib.Core.Path.{_≡_};
-ghost use Rattle.table_rows.specs.Rows.{flagOf};
 ghost use Rattle.tables.specs.Check.{isUtf8, textFine, classFine, numbersFine, textsFine, memberFine, allOf, countsFine, wellFormed};
 
 // How many class rows, member rows and pool bytes are used.
@@ -19,13 +22,6 @@ pub struct Used {
     pub members: u32,
     pub pool: u32,
 }
-
-// A longer slice that is lent counts as that.
-pub const MOST_CLASSES: usize = 4096;
-
-pub const MOST_MEMBERS: usize = 32768;
-
-pub const MOST_POOL: usize = 4194304;
 
 fn is_utf8(s: &[u8]) -> bool
     ensures { λ r. ⌜ r ≡ isUtf8 (now (s .entry)) ⌝ }
@@ -55,13 +51,6 @@ fn class_fine(pool: &[u8], used: Used, row: ClassRow) -> bool
         return false;
     }
     text_fine(pool, used, class.display)
-}
-
-// The range flag of a row as it stands: 0 none, 1 display only, 2 both. A member keeps no other, so a check has to ask the row.
-fn range_flag(row: MemberRow) -> u32
-    ensures { λ r. ⌜ r ≡ flagOf row ⌝ }
-{
-    row[10]
 }
 
 // The class row, the kind and the flag of a member row are in range.

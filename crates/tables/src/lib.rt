@@ -3,9 +3,6 @@ mod check;
 mod search;
 mod texts;
 
-pub use check::MOST_CLASSES;
-pub use check::MOST_MEMBERS;
-pub use check::MOST_POOL;
 pub use check::Used;
 pub use check::well_formed;
 pub use search::Found;

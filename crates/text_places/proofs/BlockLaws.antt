@@ -13,7 +13,7 @@ use borrow.Author.Needs.{needs}
 use Rattle.ground.specs.Choice.{pick}
 use Rattle.ground.proofs.Cases.{le-or-lt, clash}
 use Rattle.text_places.specs.Places.{starts, startsPair}
-use Rattle.text_places.specs.Blocks.{Without}
+use Rattle.text_places.specs.inner.Blocks.{Without}
 use Rattle.text_places.proofs.PlaceLaws.{Seeking, seeking-starts, seeking-more, seeking, pairing, byte-other, pair-first-other, no-pair}
 use Rattle.text_places.proofs.LineLaws.{ToLf, lf-starts, lf-more, to-lf}
 

@@ -7,6 +7,7 @@ use lib.ListN.{length, take, drop, drop-of-length-le}
 use Rattle.text_places.specs.declared.lines.NextLine.{NextLine}
 use Rattle.text_places.specs.declared.lines.NextLine.the-variants.{Line, NoLine}
 use Rattle.text_places.specs.Lines.{rawLines, lines, lineFrom, nextLine}
+use Rattle.text_places.specs.inner.Taken.{Taken}
 use Rattle.text_places.proofs.LineLaws.{LineAt, line-split}
 
 -- the place up to which a text was taken
@@ -37,14 +38,6 @@ module _ (s : List ℕ) (at : ℕ) {a e n : ℕ} {t : NextLine} (p : t ≡ nextL
 
   pub line-ends : e ≤ length s
   line-ends = let l = here in omega arith
-
--- The line at a place, as a reader of all lines takes it: what it is, and that all lines are it and those from `n` on.
-pub record Taken (s : List ℕ) (at a e n : ℕ) : Type 0 where
-  pub order : a ≤ e
-  pub ends : e ≤ length s
-  pub past : at < n
-  pub inside : n ≤ length s
-  pub split : lines (drop at s) ≡ take (e - a) (drop a s) ∷ lines (drop n s)
 
 starts-there : (at : ℕ) (l : List ℕ) {a e n : ℕ} → lineFrom at l ≡ Line a e n → at ≡ a
 starts-there at [] q = absurd (let z : _≡_ {A = ℕ} 0 1 = cc in omega arith)

@@ -2,5 +2,5 @@
 pub mod Places
 pub mod Lines
 pub mod Spans
-pub mod Blocks
 pub mod Examples
+pub mod inner

@@ -5,7 +5,7 @@ ghost use Prim.Native.Nat.{ℕ, _+_, _≤_, _<_};
 ghost use lib.Dec.{eqb};
 ghost use lib.ListN.{length, getD};
 ghost use Rattle.ground.specs.Choice.{pick};
-ghost use Rattle.text_places.specs.Blocks.{Without};
+ghost use Rattle.text_places.specs.inner.Blocks.{Without};
 
 // One byte more: whether it or one before it is `b`.
 fn marked(holds: bool, x: u8, b: u8) -> bool

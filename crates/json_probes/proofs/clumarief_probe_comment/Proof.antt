@@ -1,4 +1,4 @@
--- `comment_probes::clumarief_probe_comment` meets its contract, by the laws of Said.
+-- `json_probes::clumarief_probe_comment` meets its contract, by the laws of Said.
 use Rattle.json_probes.proofs.Said.{said-comments}
 use Rattle.json_probes.proofs.clumarief_probe_comment.Statement.{statement}
 use Rattle.json_probes.proofs.clumarief_probe_comment.Tie as tie

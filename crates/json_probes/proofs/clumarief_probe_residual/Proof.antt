@@ -1,4 +1,4 @@
--- `comment_probes::clumarief_probe_residual` meets its contract, by the laws of Said.
+-- `json_probes::clumarief_probe_residual` meets its contract, by the laws of Said.
 use Rattle.json_probes.proofs.Said.{counted}
 use Rattle.json_probes.proofs.clumarief_probe_residual.Statement.{statement}
 use Rattle.json_probes.proofs.clumarief_probe_residual.Tie as tie

@@ -1,4 +1,4 @@
--- `comment::answer::read_comment` meets its contract, by the laws of Answers and an invariant that says: the rest decides as the whole does.
+-- `json_comment::answer::read_comment` meets its contract, by the laws of Answers and an invariant that says: the rest decides as the whole does.
 use Rattle.json_comment.proofs.Values.{member-inside}
 use Rattle.json_comment.proofs.Answers.{value-starts, reading-wrong, reading-ends, reading, Reading}
 use Prim.Native.Nat.{_-_}

@@ -1,4 +1,4 @@
--- `comment::answer::stands_now` meets its contract, by the laws of Answers.
+-- `json_comment::answer::stands_now` meets its contract, by the laws of Answers.
 use Rattle.json_comment.proofs.Answers.{standing}
 use Rattle.json_comment.proofs.answer.stands_now.Statement.{statement}
 use Rattle.json_comment.proofs.answer.stands_now.Tie as tie

@@ -1,4 +1,4 @@
--- `arguments::arguments::next_argument` meets its contract, by the laws of Listed and an invariant that says: the rest decides as the whole does.
+-- `line_parts::arguments::next_argument` meets its contract, by the laws of Listed and an invariant that says: the rest decides as the whole does.
 use borrow.Author.Needs.{needs}
 use Rattle.line_parts.proofs.Listed.{part-end-fits, listing, Passing}
 use Prim.Native.Nat.{_-_}

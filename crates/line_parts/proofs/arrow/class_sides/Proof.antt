@@ -1,4 +1,4 @@
--- `parts::arrow::class_sides` meets its contract, by the laws of Splits.
+-- `line_parts::arrow::class_sides` meets its contract, by the laws of Splits.
 use Rattle.line_parts.proofs.Splits.{class-sides}
 use Rattle.line_parts.proofs.arrow.class_sides.Statement.{statement}
 use Rattle.line_parts.proofs.arrow.class_sides.Tie as tie

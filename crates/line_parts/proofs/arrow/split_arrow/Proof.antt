@@ -1,4 +1,4 @@
--- `parts::arrow::split_arrow` meets its contract, by the laws of Splits.
+-- `line_parts::arrow::split_arrow` meets its contract, by the laws of Splits.
 use Rattle.line_parts.proofs.Splits.{splitting}
 use Rattle.line_parts.proofs.arrow.split_arrow.Statement.{statement}
 use Rattle.line_parts.proofs.arrow.split_arrow.Tie as tie

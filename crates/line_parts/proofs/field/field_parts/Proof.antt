@@ -1,4 +1,4 @@
--- `parts::field::field_parts` meets its contract, by the laws of Members.
+-- `line_parts::field::field_parts` meets its contract, by the laws of Members.
 use Rattle.line_parts.proofs.Members.{fielding}
 use Rattle.line_parts.proofs.field.field_parts.Statement.{statement}
 use Rattle.line_parts.proofs.field.field_parts.Tie as tie

@@ -1,4 +1,4 @@
--- `parts::method::method_from` meets its contract, by the laws of Methods.
+-- `line_parts::method::method_from` meets its contract, by the laws of Methods.
 use denote.Ref.{now}
 use Rattle.line_parts.specs.declared.method.LineRange.the-variants.{NoLines}
 use Rattle.line_parts.proofs.Methods.{end-inside, method-read, typing}

@@ -1,4 +1,4 @@
--- `parts::method::method_parts` meets its contract, by the laws of Methods.
+-- `line_parts::method::method_parts` meets its contract, by the laws of Methods.
 use Rattle.line_parts.proofs.Methods.{ranging}
 use Rattle.line_parts.proofs.method.method_parts.Statement.{statement}
 use Rattle.line_parts.proofs.method.method_parts.Tie as tie

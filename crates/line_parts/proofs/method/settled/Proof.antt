@@ -1,4 +1,4 @@
--- `parts::method::settled` meets its contract, by the laws of Methods.
+-- `line_parts::method::settled` meets its contract, by the laws of Methods.
 use Rattle.line_parts.proofs.Methods.{settling}
 use Rattle.line_parts.proofs.method.settled.Statement.{statement}
 use Rattle.line_parts.proofs.method.settled.Tie as tie

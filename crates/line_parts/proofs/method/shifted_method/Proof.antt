@@ -1,4 +1,4 @@
--- `parts::method::shifted_method` meets its contract, by the laws of Methods.
+-- `line_parts::method::shifted_method` meets its contract, by the laws of Methods.
 use Rattle.line_parts.proofs.Methods.{method-shifting}
 use Rattle.line_parts.proofs.method.shifted_method.Statement.{statement}
 use Rattle.line_parts.proofs.method.shifted_method.Tie as tie

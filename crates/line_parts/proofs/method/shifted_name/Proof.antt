@@ -1,4 +1,4 @@
--- `parts::method::shifted_name` meets its contract, by the laws of Methods.
+-- `line_parts::method::shifted_name` meets its contract, by the laws of Methods.
 use Rattle.line_parts.proofs.Methods.{shifting}
 use Rattle.line_parts.proofs.method.shifted_name.Statement.{statement}
 use Rattle.line_parts.proofs.method.shifted_name.Tie as tie

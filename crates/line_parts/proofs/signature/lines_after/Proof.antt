@@ -1,4 +1,4 @@
--- `parts::signature::lines_after` meets its contract, by the laws of Members.
+-- `line_parts::signature::lines_after` meets its contract, by the laws of Members.
 use Rattle.line_parts.proofs.Members.{lines-following}
 use Rattle.line_parts.proofs.signature.lines_after.Statement.{statement}
 use Rattle.line_parts.proofs.signature.lines_after.Tie as tie

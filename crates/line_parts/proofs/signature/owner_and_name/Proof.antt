@@ -1,4 +1,4 @@
--- `parts::signature::owner_and_name` meets its contract, by the laws of Members.
+-- `line_parts::signature::owner_and_name` meets its contract, by the laws of Members.
 use Rattle.line_parts.proofs.Members.{naming}
 use Rattle.line_parts.proofs.signature.owner_and_name.Statement.{statement}
 use Rattle.line_parts.proofs.signature.owner_and_name.Tie as tie

@@ -1,4 +1,4 @@
--- `parts::signature::signature_parts` meets its contract, by the laws of Members.
+-- `line_parts::signature::signature_parts` meets its contract, by the laws of Members.
 use Rattle.line_parts.proofs.Members.{signing}
 use Rattle.line_parts.proofs.signature.signature_parts.Statement.{statement}
 use Rattle.line_parts.proofs.signature.signature_parts.Tie as tie

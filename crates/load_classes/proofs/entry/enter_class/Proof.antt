@@ -1,4 +1,4 @@
--- `classes::entry::enter_class` meets its contract, by the laws of Entering.
+-- `load_classes::entry::enter_class` meets its contract, by the laws of Entering.
 use Rattle.load_classes.proofs.Entering.{entering}
 use Rattle.load_classes.proofs.entry.enter_class.Statement.{statement}
 use Rattle.load_classes.proofs.entry.enter_class.Tie as tie

@@ -1,4 +1,4 @@
--- `classes::entry::put_pair` meets its contract, by the laws of Entering.
+-- `load_classes::entry::put_pair` meets its contract, by the laws of Entering.
 use Rattle.load_classes.proofs.Entering.{pairing}
 use Rattle.load_classes.proofs.entry.put_pair.Statement.{statement}
 use Rattle.load_classes.proofs.entry.put_pair.Tie as tie

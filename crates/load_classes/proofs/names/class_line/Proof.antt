@@ -1,4 +1,4 @@
--- `classes::names::class_line` meets its contract, by the laws of Naming.
+-- `load_classes::names::class_line` meets its contract, by the laws of Naming.
 use Rattle.load_classes.proofs.Naming.{naming}
 use Rattle.load_classes.proofs.names.class_line.Statement.{statement}
 use Rattle.load_classes.proofs.names.class_line.Tie as tie

@@ -1,4 +1,4 @@
--- `classes::write::write_classes` meets its contract, by the laws of Writing and an invariant that says what is done and what is left.
+-- `load_classes::write::write_classes` meets its contract, by the laws of Writing and an invariant that says what is done and what is left.
 use Rattle.load_classes.proofs.Writing.{writing, Writing}
 use Prim.Native.Nat.{_-_}
 use lib.ListN.{length}

@@ -1,4 +1,4 @@
--- `members::enter::enter_line` meets its contract, by the laws of Slots.
+-- `load_members::enter::enter_line` meets its contract, by the laws of Slots.
 use Rattle.load_members.proofs.Slots.{line-slots}
 use Rattle.load_members.proofs.enter.enter_line.Statement.{statement}
 use Rattle.load_members.proofs.enter.enter_line.Tie as tie

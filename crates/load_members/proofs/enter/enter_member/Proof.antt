@@ -1,4 +1,4 @@
--- `members::enter::enter_member` meets its contract, by the laws of Slots.
+-- `load_members::enter::enter_member` meets its contract, by the laws of Slots.
 use native.Mathlib.Omega.{arith}
 use Rattle.load_members.proofs.Slots.{member-slots, member-at}
 use Rattle.load_members.proofs.enter.enter_member.Statement.{statement}

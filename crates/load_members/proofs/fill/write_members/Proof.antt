@@ -1,4 +1,4 @@
--- `members::fill::write_members` meets its contract, by the laws of Filling and an invariant that says what is done and what is left.
+-- `load_members::fill::write_members` meets its contract, by the laws of Filling and an invariant that says what is done and what is left.
 use Rattle.load_members.proofs.Filling.{filling, Filling}
 use Prim.Native.Nat.{_-_}
 use lib.ListN.{length}

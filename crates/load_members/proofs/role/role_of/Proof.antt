@@ -1,4 +1,4 @@
--- `members::role::role_of` meets its contract, by the laws of Rowed.
+-- `load_members::role::role_of` meets its contract, by the laws of Rowed.
 use Rattle.load_members.proofs.Rowed.{roles}
 use Rattle.load_members.proofs.role.role_of.Statement.{statement}
 use Rattle.load_members.proofs.role.role_of.Tie as tie

@@ -1,4 +1,4 @@
--- `members::row::member_row` meets its contract, by the laws of Rowed.
+-- `load_members::row::member_row` meets its contract, by the laws of Rowed.
 use Rattle.load_members.proofs.Rowed.{member-rows}
 use Rattle.load_members.proofs.row.member_row.Statement.{statement}
 use Rattle.load_members.proofs.row.member_row.Tie as tie

@@ -1,4 +1,4 @@
--- `members::row::ranges` meets its contract, by the laws of Rowed.
+-- `load_members::row::ranges` meets its contract, by the laws of Rowed.
 use Rattle.load_members.proofs.Rowed.{ranging}
 use Rattle.load_members.proofs.row.ranges.Statement.{statement}
 use Rattle.load_members.proofs.row.ranges.Tie as tie

@@ -1,4 +1,4 @@
--- `raw_types::index::mark_class` meets its contract, by the laws of Marking.
+-- `load_raw_types::index::mark_class` meets its contract, by the laws of Marking.
 use Rattle.load_raw_types.proofs.Marking.{class-marking}
 use Rattle.load_raw_types.proofs.index.mark_class.Statement.{statement}
 use Rattle.load_raw_types.proofs.index.mark_class.Tie as tie

@@ -1,4 +1,4 @@
--- `raw_types::index::mark_of` meets its contract, by the laws of Marking and an invariant that says: the rest decides as the whole does.
+-- `load_raw_types::index::mark_of` meets its contract, by the laws of Marking and an invariant that says: the rest decides as the whole does.
 use Rattle.load_raw_types.proofs.Marking.{marking, Marks}
 use Prim.Native.Nat.{_-_}
 use lib.ListN.{length}

@@ -1,4 +1,4 @@
--- `raw_types::search::is_piece` meets its contract, by the laws of Comparing and an invariant that says what is done and what is left.
+-- `load_raw_types::search::is_piece` meets its contract, by the laws of Comparing and an invariant that says what is done and what is left.
 use Rattle.load_raw_types.proofs.Comparing.{comparing, Alike}
 use Rattle.load_raw_types.proofs.search.is_piece.Statement.{statement}
 use Rattle.load_raw_types.proofs.search.is_piece.Tie as tie

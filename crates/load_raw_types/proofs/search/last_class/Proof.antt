@@ -1,5 +1,5 @@
--- `raw_types::search::last_class` meets its contract, by the laws of Searching and an invariant that says: no row from the number on is the one, and the row before has its mark.
-use Rattle.load_raw_types.proofs.Searching.{behind-more, searching, Behind}
+-- `load_raw_types::search::last_class` meets its contract, by the laws of Searching and an invariant that says: no row from the number on is the one, and the row before has its mark.
+use Rattle.load_raw_types.proofs.Searching.{searching, Behind}
 use Rattle.table_pool.specs.Names.{classPiece}
 use Rattle.load_raw_types.proofs.search.last_class.Statement.{statement}
 use Rattle.load_raw_types.proofs.search.last_class.Tie as tie
@@ -28,26 +28,17 @@ loop-holds c = search searching
 sub-row : tie.Need-sub-row Inv-loop μ-loop
 sub-row c = search searching
 
-mul-wide : tie.Need-mul-wide Inv-loop μ-loop
-mul-wide c = search searching
+mul-unpack-class : tie.Need-mul-unpack-class Inv-loop μ-loop
+mul-unpack-class c = search searching
 
-index-1-wide : tie.Need-index-1-wide Inv-loop μ-loop
-index-1-wide c = search searching
+shared-slice-copy-out-unpack-class : tie.Need-shared-slice-copy-out-unpack-class Inv-loop μ-loop
+shared-slice-copy-out-unpack-class c = search searching
 
-index-2-wide : tie.Need-index-2-wide Inv-loop μ-loop
-index-2-wide c = search searching
+unpack-class-requires : tie.Need-unpack-class-requires Inv-loop μ-loop
+unpack-class-requires c κs = search searching
 
 wide-requires : tie.Need-wide-requires Inv-loop μ-loop
 wide-requires c κs = search searching
-
-mul-wide-2 : tie.Need-mul-wide-2 Inv-loop μ-loop
-mul-wide-2 c = search searching
-
-index-1-wide-2 : tie.Need-index-1-wide-2 Inv-loop μ-loop
-index-1-wide-2 c = search searching
-
-index-2-wide-2 : tie.Need-index-2-wide-2 Inv-loop μ-loop
-index-2-wide-2 c = search searching
 
 wide-requires-2 : tie.Need-wide-requires-2 Inv-loop μ-loop
 wide-requires-2 c κs = search searching
@@ -74,7 +65,7 @@ loop-less : tie.Need-loop-less Inv-loop μ-loop
 loop-less c = search searching
 
 loop-again : tie.Need-loop-again Inv-loop μ-loop
-loop-again c = behind-more (c .before .before .before .before .before .before .before .before .before .before .before .before .before .before .before .before .pre) (c .before .before .before .before .before .before .before .before .before .loop .inv) (c .before .before .before .before .before .before .before .before .loop-test .taken) (c .before .before .before .before .before .before .wide .ensures) (c .before .before .before .before .wide2 .ensures) (c .before .before .before .is-piece .ensures) (c .before .before .if1 .left) (c .wide-number2 .ensures)
+loop-again c = search searching
 
 returns-2 : tie.Need-returns-2 Inv-loop μ-loop
 returns-2 c = search searching
@@ -91,13 +82,10 @@ last-class-spec =
     wide-number-requires
     loop-holds
     sub-row
-    mul-wide
-    index-1-wide
-    index-2-wide
+    mul-unpack-class
+    shared-slice-copy-out-unpack-class
+    unpack-class-requires
     wide-requires
-    mul-wide-2
-    index-1-wide-2
-    index-2-wide-2
     wide-requires-2
     is-piece-requires
     returns

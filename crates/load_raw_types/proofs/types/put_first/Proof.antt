@@ -1,4 +1,4 @@
--- `raw_types::types::put_first` meets its contract, by the laws of Turned.
+-- `load_raw_types::types::put_first` meets its contract, by the laws of Turned.
 use Rattle.load_raw_types.proofs.Turned.{first-pieces}
 use Rattle.load_raw_types.proofs.types.put_first.Statement.{statement}
 use Rattle.load_raw_types.proofs.types.put_first.Tie as tie

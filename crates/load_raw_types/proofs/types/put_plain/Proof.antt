@@ -1,4 +1,4 @@
--- `raw_types::types::put_plain` meets its contract, by the laws of Turned.
+-- `load_raw_types::types::put_plain` meets its contract, by the laws of Turned.
 use Rattle.load_raw_types.proofs.Turned.{plains}
 use Rattle.load_raw_types.proofs.types.put_plain.Statement.{statement}
 use Rattle.load_raw_types.proofs.types.put_plain.Tie as tie

@@ -1,4 +1,4 @@
--- `raw_types::types::put_raw_base` meets its contract, by the laws of Typed.
+-- `load_raw_types::types::put_raw_base` meets its contract, by the laws of Typed.
 use Rattle.load_raw_types.proofs.Typed.{base-turns}
 use Rattle.load_raw_types.proofs.types.put_raw_base.Statement.{statement}
 use Rattle.load_raw_types.proofs.types.put_raw_base.Tie as tie

@@ -1,4 +1,4 @@
--- `raw_types::types::put_raw_piece` meets its contract, by the laws of Turned.
+-- `load_raw_types::types::put_raw_piece` meets its contract, by the laws of Turned.
 use Rattle.load_raw_types.proofs.Turned.{turning-one}
 use Rattle.load_raw_types.proofs.types.put_raw_piece.Statement.{statement}
 use Rattle.load_raw_types.proofs.types.put_raw_piece.Tie as tie
@@ -9,26 +9,17 @@ last-class-requires c κs = search turning-one
 enum-known-row : tie.Need-enum-known-row
 enum-known-row c = search turning-one
 
-mul-wide : tie.Need-mul-wide
-mul-wide c = search turning-one
+mul-unpack-class : tie.Need-mul-unpack-class
+mul-unpack-class c = search turning-one
 
-index-1-wide : tie.Need-index-1-wide
-index-1-wide c = search turning-one
+shared-slice-copy-out-unpack-class : tie.Need-shared-slice-copy-out-unpack-class
+shared-slice-copy-out-unpack-class c = search turning-one
 
-index-2-wide : tie.Need-index-2-wide
-index-2-wide c = search turning-one
+unpack-class-requires : tie.Need-unpack-class-requires
+unpack-class-requires c κs = search turning-one
 
 wide-requires : tie.Need-wide-requires
 wide-requires c κs = search turning-one
-
-mul-wide-2 : tie.Need-mul-wide-2
-mul-wide-2 c = search turning-one
-
-index-1-wide-2 : tie.Need-index-1-wide-2
-index-1-wide-2 c = search turning-one
-
-index-2-wide-2 : tie.Need-index-2-wide-2
-index-2-wide-2 c = search turning-one
 
 wide-requires-2 : tie.Need-wide-requires-2
 wide-requires-2 c κs = search turning-one
@@ -60,13 +51,10 @@ put-raw-piece-spec =
     (tie.spec
     last-class-requires
     enum-known-row
-    mul-wide
-    index-1-wide
-    index-2-wide
+    mul-unpack-class
+    shared-slice-copy-out-unpack-class
+    unpack-class-requires
     wide-requires
-    mul-wide-2
-    index-1-wide-2
-    index-2-wide-2
     wide-requires-2
     put-copy-requires
     enum-told

@@ -1,4 +1,4 @@
--- `raw_types::types::put_raw_type` meets its contract, by the laws of Typed.
+-- `load_raw_types::types::put_raw_type` meets its contract, by the laws of Typed.
 use Rattle.load_raw_types.proofs.Typed.{raw-types}
 use Rattle.load_raw_types.proofs.types.put_raw_type.Statement.{statement}
 use Rattle.load_raw_types.proofs.types.put_raw_type.Tie as tie

@@ -1,4 +1,4 @@
--- `report::decimal::put_decimal` meets its contract, by the laws of Spelling and an invariant that says what is done and what is left.
+-- `load_report::decimal::put_decimal` meets its contract, by the laws of Spelling and an invariant that says what is done and what is left.
 use Rattle.load_report.proofs.Spelling.{spelling, Spelling}
 use Rattle.load_report.proofs.decimal.put_decimal.Statement.{statement}
 use Rattle.load_report.proofs.decimal.put_decimal.Tie as tie

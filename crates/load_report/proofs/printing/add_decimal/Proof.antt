@@ -1,4 +1,4 @@
--- `report::printing::add_decimal` meets its contract, by the laws of Adding.
+-- `load_report::printing::add_decimal` meets its contract, by the laws of Adding.
 use Rattle.load_report.proofs.Adding.{adding}
 use Rattle.load_report.proofs.printing.add_decimal.Statement.{statement}
 use Rattle.load_report.proofs.printing.add_decimal.Tie as tie

@@ -1,4 +1,4 @@
--- `report::printing::add_lines` meets its contract, by the laws of Adding.
+-- `load_report::printing::add_lines` meets its contract, by the laws of Adding.
 use Rattle.load_report.proofs.Adding.{adds-adds, adding}
 use Rattle.ground.specs.Ascii.{ascii}
 use Rattle.load_report.proofs.printing.add_lines.Statement.{statement}

@@ -1,4 +1,4 @@
--- `report::printing::put_refused` meets its contract, by the laws of Adding.
+-- `load_report::printing::put_refused` meets its contract, by the laws of Adding.
 use Rattle.load_report.proofs.Adding.{adds-adds, first-of-all, adding}
 use Rattle.ground.specs.Ascii.{ascii}
 use Rattle.load_report.proofs.printing.put_refused.Statement.{statement}

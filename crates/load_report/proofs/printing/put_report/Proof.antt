@@ -1,4 +1,4 @@
--- `report::printing::put_report` meets its contract, by the laws of Telling.
+-- `load_report::printing::put_report` meets its contract, by the laws of Telling.
 use Rattle.load_report.proofs.Telling.{telling}
 use Rattle.load_report.proofs.printing.put_report.Statement.{statement}
 use Rattle.load_report.proofs.printing.put_report.Tie as tie

@@ -1,4 +1,4 @@
--- `report::printing::report_line` meets its contract, by the laws of Bounds.
+-- `load_report::printing::report_line` meets its contract, by the laws of Bounds.
 use Rattle.load_report.proofs.Bounds.{lining}
 use Rattle.load_report.proofs.printing.report_line.Statement.{statement}
 use Rattle.load_report.proofs.printing.report_line.Tie as tie

@@ -1,4 +1,4 @@
--- `residual::residual::gives_signature` meets its contract, by the laws of Giving.
+-- `load_residual::residual::gives_signature` meets its contract, by the laws of Giving.
 use Rattle.load_residual.proofs.Giving.{given-ones}
 use Rattle.load_residual.proofs.residual.gives_signature.Statement.{statement}
 use Rattle.load_residual.proofs.residual.gives_signature.Tie as tie

@@ -1,4 +1,4 @@
--- `residual::residual::later` meets its contract, by the laws of Giving.
+-- `load_residual::residual::later` meets its contract, by the laws of Giving.
 use Rattle.load_residual.proofs.Giving.{later-ones}
 use Rattle.load_residual.proofs.residual.later.Statement.{statement}
 use Rattle.load_residual.proofs.residual.later.Tie as tie

@@ -1,4 +1,4 @@
--- `residual::residual::opening_of` meets its contract, by the laws of Opened.
+-- `load_residual::residual::opening_of` meets its contract, by the laws of Opened.
 use Rattle.load_residual.proofs.Opened.{opened}
 use Rattle.load_residual.proofs.residual.opening_of.Statement.{statement}
 use Rattle.load_residual.proofs.residual.opening_of.Tie as tie

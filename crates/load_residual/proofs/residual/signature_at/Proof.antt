@@ -1,4 +1,4 @@
--- `residual::residual::signature_at` meets its contract, by the laws of Giving.
+-- `load_residual::residual::signature_at` meets its contract, by the laws of Giving.
 use Rattle.load_residual.proofs.Giving.{giving}
 use Rattle.load_residual.proofs.residual.signature_at.Statement.{statement}
 use Rattle.load_residual.proofs.residual.signature_at.Tie as tie

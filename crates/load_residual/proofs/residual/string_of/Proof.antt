@@ -1,4 +1,4 @@
--- `residual::residual::string_of` meets its contract, by the laws of Giving.
+-- `load_residual::residual::string_of` meets its contract, by the laws of Giving.
 use Rattle.load_residual.proofs.Giving.{stringing}
 use Rattle.load_residual.proofs.residual.string_of.Statement.{statement}
 use Rattle.load_residual.proofs.residual.string_of.Tie as tie

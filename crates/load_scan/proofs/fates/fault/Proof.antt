@@ -1,4 +1,4 @@
--- `scan::fates::fault` meets its contract, by the laws of Faults.
+-- `load_scan::fates::fault` meets its contract, by the laws of Faults.
 use Rattle.load_scan.proofs.Faults.{faulting}
 use Rattle.load_scan.proofs.fates.fault.Statement.{statement}
 use Rattle.load_scan.proofs.fates.fault.Tie as tie
@@ -27,11 +27,11 @@ without-class-requires-2 c κs = search faulting
 enum-known-kind : tie.Need-enum-known-kind
 enum-known-kind c = search faulting
 
+refused-fault-requires : tie.Need-refused-fault-requires
+refused-fault-requires c κs = search faulting
+
 returns : tie.Need-returns
 returns c = search faulting
-
-without-class-requires-3 : tie.Need-without-class-requires-3
-without-class-requires-3 c κs = search faulting
 
 returns-2 : tie.Need-returns-2
 returns-2 c = search faulting
@@ -48,9 +48,6 @@ returns-5 c = search faulting
 returns-6 : tie.Need-returns-6
 returns-6 c = search faulting
 
-returns-7 : tie.Need-returns-7
-returns-7 c = search faulting
-
 pub fault-spec : {M : Type 1} → statement M
 fault-spec =
     tie.close
@@ -63,11 +60,10 @@ fault-spec =
     enum-told-5
     without-class-requires-2
     enum-known-kind
+    refused-fault-requires
     returns
-    without-class-requires-3
     returns-2
     returns-3
     returns-4
     returns-5
-    returns-6
-    returns-7)
+    returns-6)

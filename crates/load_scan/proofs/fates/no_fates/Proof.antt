@@ -1,4 +1,4 @@
--- `scan::fates::no_fates` meets its contract.
+-- `load_scan::fates::no_fates` meets its contract.
 use borrow.Author.Needs.{needs}
 use Rattle.load_scan.proofs.fates.no_fates.Statement.{statement}
 use Rattle.load_scan.proofs.fates.no_fates.Tie as tie

@@ -1,4 +1,4 @@
--- `scan::fates::without_class` meets its contract, by the laws of Faults.
+-- `load_scan::fates::without_class` meets its contract, by the laws of Faults.
 use Rattle.load_scan.proofs.Faults.{faulting}
 use Rattle.load_scan.proofs.fates.without_class.Statement.{statement}
 use Rattle.load_scan.proofs.fates.without_class.Tie as tie

@@ -1,4 +1,4 @@
--- `scan::scan::scan_from` meets its contract, by the laws of Scanning and an invariant that says what is done and what is left.
+-- `load_scan::scan::scan_from` meets its contract, by the laws of Scanning and an invariant that says what is done and what is left.
 use Rattle.load_scan.proofs.Scanning.{scanning, Scanning}
 use Prim.Native.Nat.{_-_}
 use lib.ListN.{length}
@@ -14,11 +14,8 @@ abbrev μ-loop : tie.MeasureT-loop
 loop-holds : tie.Need-loop-holds Inv-loop μ-loop
 loop-holds c = search scanning
 
-next-line-requires : tie.Need-next-line-requires Inv-loop μ-loop
-next-line-requires c κs = search scanning
-
-enum-known-start : tie.Need-enum-known-start Inv-loop μ-loop
-enum-known-start c = search scanning
+next-step-requires : tie.Need-next-step-requires Inv-loop μ-loop
+next-step-requires c κs = search scanning
 
 enum-told : tie.Need-enum-told Inv-loop μ-loop
 enum-told c = search scanning
@@ -26,41 +23,14 @@ enum-told c = search scanning
 returns : tie.Need-returns Inv-loop μ-loop
 returns c = search scanning
 
-sub-read-line : tie.Need-sub-read-line Inv-loop μ-loop
-sub-read-line c = search scanning
-
-part-read-line-start : tie.Need-part-read-line-start Inv-loop μ-loop
-part-read-line-start c = search scanning
-
-part-read-line-end : tie.Need-part-read-line-end Inv-loop μ-loop
-part-read-line-end c = search scanning
-
-read-line-requires : tie.Need-read-line-requires Inv-loop μ-loop
-read-line-requires c κs = search scanning
-
-fault-requires : tie.Need-fault-requires Inv-loop μ-loop
-fault-requires c κs = search scanning
-
-add-t19 : tie.Need-add-t19 Inv-loop μ-loop
-add-t19 c = search scanning
+enum-known-number : tie.Need-enum-known-number Inv-loop μ-loop
+enum-known-number c = search scanning
 
 returns-2 : tie.Need-returns-2 Inv-loop μ-loop
 returns-2 c = search scanning
 
-sub-counted : tie.Need-sub-counted Inv-loop μ-loop
-sub-counted c = search scanning
-
-part-counted-start : tie.Need-part-counted-start Inv-loop μ-loop
-part-counted-start c = search scanning
-
-part-counted-end : tie.Need-part-counted-end Inv-loop μ-loop
-part-counted-end c = search scanning
-
-counted-requires : tie.Need-counted-requires Inv-loop μ-loop
-counted-requires c κs = search scanning
-
-member-after-requires : tie.Need-member-after-requires Inv-loop μ-loop
-member-after-requires c κs = search scanning
+enum-known-line : tie.Need-enum-known-line Inv-loop μ-loop
+enum-known-line c = search scanning
 
 loop-less : tie.Need-loop-less Inv-loop μ-loop
 loop-less c = search scanning
@@ -78,22 +48,12 @@ scan-from-spec =
     Inv-loop
     μ-loop
     loop-holds
-    next-line-requires
-    enum-known-start
+    next-step-requires
     enum-told
     returns
-    sub-read-line
-    part-read-line-start
-    part-read-line-end
-    read-line-requires
-    fault-requires
-    add-t19
+    enum-known-number
     returns-2
-    sub-counted
-    part-counted-start
-    part-counted-end
-    counted-requires
-    member-after-requires
+    enum-known-line
     loop-less
     loop-again
     returns-3)

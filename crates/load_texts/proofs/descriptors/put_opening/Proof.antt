@@ -1,4 +1,4 @@
--- `member_texts::descriptors::put_opening` meets its contract, by the laws of Typing.
+-- `load_texts::descriptors::put_opening` meets its contract, by the laws of Typing.
 use Rattle.load_texts.proofs.Typing.{opening}
 use Rattle.load_texts.proofs.descriptors.put_opening.Statement.{statement}
 use Rattle.load_texts.proofs.descriptors.put_opening.Tie as tie

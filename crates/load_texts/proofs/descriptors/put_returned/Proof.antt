@@ -1,4 +1,4 @@
--- `member_texts::descriptors::put_returned` meets its contract, by the laws of Typing.
+-- `load_texts::descriptors::put_returned` meets its contract, by the laws of Typing.
 use Rattle.load_texts.proofs.Typing.{returning}
 use Rattle.load_texts.proofs.descriptors.put_returned.Statement.{statement}
 use Rattle.load_texts.proofs.descriptors.put_returned.Tie as tie

@@ -1,4 +1,4 @@
--- `member_texts::descriptors::put_signature` meets its contract, by the laws of Signing.
+-- `load_texts::descriptors::put_signature` meets its contract, by the laws of Signing.
 use Rattle.load_texts.proofs.Signing.{signing}
 use Rattle.load_texts.proofs.descriptors.put_signature.Statement.{statement}
 use Rattle.load_texts.proofs.descriptors.put_signature.Tie as tie

@@ -1,4 +1,4 @@
--- `member_texts::descriptors::put_types` meets its contract, by the laws of Typing.
+-- `load_texts::descriptors::put_types` meets its contract, by the laws of Typing.
 use Rattle.load_texts.proofs.Typing.{types}
 use Rattle.load_texts.proofs.descriptors.put_types.Statement.{statement}
 use Rattle.load_texts.proofs.descriptors.put_types.Tie as tie

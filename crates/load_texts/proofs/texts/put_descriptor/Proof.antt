@@ -1,4 +1,4 @@
--- `member_texts::texts::put_descriptor` meets its contract, by the laws of Texting.
+-- `load_texts::texts::put_descriptor` meets its contract, by the laws of Texting.
 use Rattle.load_texts.proofs.Texting.{describing}
 use Rattle.load_texts.proofs.texts.put_descriptor.Statement.{statement}
 use Rattle.load_texts.proofs.texts.put_descriptor.Tie as tie

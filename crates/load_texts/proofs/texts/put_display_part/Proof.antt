@@ -1,4 +1,4 @@
--- `member_texts::texts::put_display_part` meets its contract, by the laws of Texting.
+-- `load_texts::texts::put_display_part` meets its contract, by the laws of Texting.
 use Rattle.load_texts.proofs.Texting.{display-part}
 use Rattle.load_texts.proofs.texts.put_display_part.Statement.{statement}
 use Rattle.load_texts.proofs.texts.put_display_part.Tie as tie

@@ -1,4 +1,4 @@
--- `member_texts::texts::put_display_types` meets its contract, by the laws of Texting.
+-- `load_texts::texts::put_display_types` meets its contract, by the laws of Texting.
 use Rattle.load_texts.proofs.Texting.{displaying}
 use Rattle.load_texts.proofs.texts.put_display_types.Statement.{statement}
 use Rattle.load_texts.proofs.texts.put_display_types.Tie as tie

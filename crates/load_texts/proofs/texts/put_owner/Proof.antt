@@ -1,4 +1,4 @@
--- `member_texts::texts::put_owner` meets its contract, by the laws of Texting.
+-- `load_texts::texts::put_owner` meets its contract, by the laws of Texting.
 use Rattle.load_texts.proofs.Texting.{owning}
 use Rattle.load_texts.proofs.texts.put_owner.Statement.{statement}
 use Rattle.load_texts.proofs.texts.put_owner.Tie as tie

@@ -1,4 +1,4 @@
--- `member_texts::texts::put_raw_part` meets its contract, by the laws of Texting.
+-- `load_texts::texts::put_raw_part` meets its contract, by the laws of Texting.
 use Rattle.load_texts.proofs.Texting.{raw-part}
 use Rattle.load_texts.proofs.texts.put_raw_part.Statement.{statement}
 use Rattle.load_texts.proofs.texts.put_raw_part.Tie as tie

@@ -1,4 +1,4 @@
--- `member_texts::texts::write_texts` meets its contract, by the laws of Texting.
+-- `load_texts::texts::write_texts` meets its contract, by the laws of Texting.
 use Rattle.load_texts.proofs.Texting.{texts}
 use Rattle.load_texts.proofs.texts.write_texts.Statement.{statement}
 use Rattle.load_texts.proofs.texts.write_texts.Tie as tie

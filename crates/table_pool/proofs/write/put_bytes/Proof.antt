@@ -1,4 +1,4 @@
--- `pool::write::put_bytes` meets its contract, by the laws of Writes and an invariant that says: the rest decides as the whole does.
+-- `table_pool::write::put_bytes` meets its contract, by the laws of Writes and an invariant that says: the rest decides as the whole does.
 use Rattle.table_pool.proofs.Writes.{bytes, Pasting}
 use lib.ListN.{replicate}
 use Prim.Native.Nat.{_-_}

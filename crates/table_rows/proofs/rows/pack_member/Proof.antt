@@ -1,4 +1,4 @@
--- `rows::rows::pack_member` meets its contract, by the laws of Packing.
+-- `table_rows::rows::pack_member` meets its contract, by the laws of Packing.
 use Rattle.table_rows.proofs.Packing.{packing}
 use Rattle.table_rows.proofs.rows.pack_member.Statement.{statement}
 use Rattle.table_rows.proofs.rows.pack_member.Tie as tie

@@ -1,4 +1,4 @@
--- `rows::rows::unpack_member` meets its contract, by the laws of Packing.
+-- `table_rows::rows::unpack_member` meets its contract, by the laws of Packing.
 use Rattle.table_rows.proofs.Packing.{member-unpacking}
 use Rattle.table_rows.proofs.rows.unpack_member.Statement.{statement}
 use Rattle.table_rows.proofs.rows.unpack_member.Tie as tie

@@ -1,4 +1,4 @@
--- `rows::rows::unpack_ranges` meets its contract, by the laws of Packing.
+-- `table_rows::rows::unpack_ranges` meets its contract, by the laws of Packing.
 use Rattle.table_rows.proofs.Packing.{unpacking}
 use Rattle.table_rows.proofs.rows.unpack_ranges.Statement.{statement}
 use Rattle.table_rows.proofs.rows.unpack_ranges.Tie as tie

@@ -1,4 +1,4 @@
--- `rows::zero::zero_members` meets its contract, by the laws of Zeroing and an invariant that says: the rest decides as the whole does.
+-- `table_rows::zero::zero_members` meets its contract, by the laws of Zeroing and an invariant that says: the rest decides as the whole does.
 use Rattle.table_rows.proofs.Zeroing.{filling, Filling}
 use Rattle.table_rows.specs.Rows.{zeroMember}
 use Prim.Native.Nat.{_-_}

@@ -1,4 +1,4 @@
--- `cases::ranges::replayed` meets its contract, by the laws of Safe.
+-- `text_cases::ranges::replayed` meets its contract, by the laws of Safe.
 use Rattle.text_cases.proofs.Safe.{splitting}
 use Rattle.text_cases.proofs.ranges.replayed.Statement.{statement}
 use Rattle.text_cases.proofs.ranges.replayed.Tie as tie

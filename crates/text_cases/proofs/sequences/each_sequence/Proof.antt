@@ -1,4 +1,4 @@
--- `cases::sequences::each_sequence` meets its contract, by the laws of Safe and an invariant that says: the rest decides as the whole does.
+-- `text_cases::sequences::each_sequence` meets its contract, by the laws of Safe and an invariant that says: the rest decides as the whole does.
 use Rattle.text_places.proofs.Taking.{Taking}
 use Rattle.text_cases.proofs.Safe.{taking}
 use Prim.Native.Nat.{_-_}

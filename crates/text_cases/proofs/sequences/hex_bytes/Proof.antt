@@ -1,4 +1,4 @@
--- `cases::sequences::hex_bytes` meets its contract, by the laws of Safe and an invariant that says: the rest decides as the whole does.
+-- `text_cases::sequences::hex_bytes` meets its contract, by the laws of Safe and an invariant that says: the rest decides as the whole does.
 use Rattle.text_cases.proofs.Safe.{filling, Filling}
 use Prim.Native.Nat.{_-_, _+_}
 use lib.ListN.{length}

@@ -1,4 +1,4 @@
--- `cases::sequences::replay` meets its contract, by the laws of Safe.
+-- `text_cases::sequences::replay` meets its contract, by the laws of Safe.
 use Rattle.text_cases.proofs.Safe.{filled}
 use Rattle.text_cases.proofs.sequences.replay.Statement.{statement}
 use Rattle.text_cases.proofs.sequences.replay.Tie as tie

@@ -1,8 +1,8 @@
--- `places::blocks::after_blocks` meets its contract, by the laws of BlockLaws and an invariant that says: the rest decides as the whole does.
+-- `text_places::blocks::after_blocks` meets its contract, by the laws of BlockLaws and an invariant that says: the rest decides as the whole does.
 use Rattle.text_places.proofs.BlockLaws.{blocks}
 use Prim.Native.Nat.{_-_}
 use lib.ListN.{length}
-use Rattle.text_places.specs.Blocks.{Without}
+use Rattle.text_places.specs.inner.Blocks.{Without}
 use Rattle.text_places.proofs.blocks.after_blocks.Statement.{statement}
 use Rattle.text_places.proofs.blocks.after_blocks.Tie as tie
 

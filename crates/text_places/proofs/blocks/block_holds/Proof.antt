@@ -1,4 +1,4 @@
--- `places::blocks::block_holds` meets its contract, by the laws of BlockLaws and an invariant that says: the rest decides as the whole does.
+-- `text_places::blocks::block_holds` meets its contract, by the laws of BlockLaws and an invariant that says: the rest decides as the whole does.
 use Rattle.text_places.proofs.BlockLaws.{passing, Passed}
 use Prim.Native.Nat.{_-_}
 use Rattle.text_places.proofs.blocks.block_holds.Statement.{statement}

@@ -1,4 +1,4 @@
--- `places::blocks::marked` meets its contract, by the laws of Cases.
+-- `text_places::blocks::marked` meets its contract, by the laws of Cases.
 use Rattle.ground.proofs.Cases.{cases}
 use Rattle.text_places.proofs.blocks.marked.Statement.{statement}
 use Rattle.text_places.proofs.blocks.marked.Tie as tie

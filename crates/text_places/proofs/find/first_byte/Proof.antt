@@ -1,4 +1,4 @@
--- `places::find::first_byte` meets its contract, by the laws of BlockLaws and an invariant that says: the rest decides as the whole does.
+-- `text_places::find::first_byte` meets its contract, by the laws of BlockLaws and an invariant that says: the rest decides as the whole does.
 use Rattle.text_places.proofs.BlockLaws.{seeking-blocks}
 use Rattle.text_places.proofs.PlaceLaws.{Seeking}
 use Prim.Native.Nat.{_-_}

@@ -1,4 +1,4 @@
--- `places::find::last_byte` meets its contract, by the laws of PlaceLaws and an invariant that says: the rest decides as the whole does.
+-- `text_places::find::last_byte` meets its contract, by the laws of PlaceLaws and an invariant that says: the rest decides as the whole does.
 use Rattle.text_places.proofs.PlaceLaws.{backing, Backing}
 use Rattle.text_places.specs.Places.{starts}
 use Rattle.text_places.proofs.find.last_byte.Statement.{statement}

@@ -1,4 +1,4 @@
--- `places::lines::cr_end` meets its contract, by the laws of LineLaws and an invariant that says: the rest decides as the whole does.
+-- `text_places::lines::cr_end` meets its contract, by the laws of LineLaws and an invariant that says: the rest decides as the whole does.
 use Rattle.text_places.proofs.LineLaws.{cr-ending, CrEnd}
 use Rattle.text_places.proofs.lines.cr_end.Statement.{statement}
 use Rattle.text_places.proofs.lines.cr_end.Tie as tie

@@ -1,4 +1,4 @@
--- `places::lines::next_line` meets its contract, by the laws of LineLaws.
+-- `text_places::lines::next_line` meets its contract, by the laws of LineLaws.
 use Rattle.text_places.proofs.LineLaws.{next-line}
 use Rattle.text_places.proofs.lines.next_line.Statement.{statement}
 use Rattle.text_places.proofs.lines.next_line.Tie as tie

@@ -1,4 +1,4 @@
--- `utf8::check::ascii_bytes` meets its contract, by the laws of Ascii and an invariant that says: the rest decides as the whole does.
+-- `text_utf8::check::ascii_bytes` meets its contract, by the laws of Ascii and an invariant that says: the rest decides as the whole does.
 use Rattle.text_utf8.proofs.Ascii.{ascii-runs}
 use Prim.Native.Nat.{_-_}
 use lib.ListN.{length}

@@ -1,4 +1,4 @@
--- `utf8::sequence::first_bits` meets its contract, by the laws of Leads.
+-- `text_utf8::sequence::first_bits` meets its contract, by the laws of Leads.
 use Rattle.text_utf8.proofs.Leads.{leads}
 use Rattle.text_utf8.proofs.sequence.first_bits.Statement.{statement}
 use Rattle.text_utf8.proofs.sequence.first_bits.Tie as tie

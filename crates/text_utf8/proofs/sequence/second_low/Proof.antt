@@ -1,4 +1,4 @@
--- `utf8::sequence::second_low` meets its contract, by the laws of Leads.
+-- `text_utf8::sequence::second_low` meets its contract, by the laws of Leads.
 use Rattle.text_utf8.proofs.Leads.{leads}
 use Rattle.text_utf8.proofs.sequence.second_low.Statement.{statement}
 use Rattle.text_utf8.proofs.sequence.second_low.Tie as tie

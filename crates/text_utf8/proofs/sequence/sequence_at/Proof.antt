@@ -1,4 +1,4 @@
--- `utf8::sequence::sequence_at` meets its contract, by the laws of Sequences.
+-- `text_utf8::sequence::sequence_at` meets its contract, by the laws of Sequences.
 use Rattle.text_utf8.proofs.Sequences.{sequences}
 use Rattle.text_utf8.proofs.sequence.sequence_at.Statement.{statement}
 use Rattle.text_utf8.proofs.sequence.sequence_at.Tie as tie

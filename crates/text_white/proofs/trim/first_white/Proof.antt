@@ -1,4 +1,4 @@
--- `text::trim::first_white` meets its contract, by the laws of TrimLaws and an invariant that says: the rest decides as the whole does.
+-- `text_white::trim::first_white` meets its contract, by the laws of TrimLaws and an invariant that says: the rest decides as the whole does.
 use Rattle.text_places.proofs.PlaceLaws.{Seeking}
 use Rattle.text_white.proofs.TrimLaws.{first-white}
 use Prim.Native.Nat.{_-_}

@@ -1,4 +1,4 @@
--- `text::trim::is_ink` meets its contract, by the laws of Ink.
+-- `text_white::trim::is_ink` meets its contract, by the laws of Ink.
 use Rattle.text_white.proofs.Ink.{ink-byte}
 use Rattle.text_white.proofs.trim.is_ink.Statement.{statement}
 use Rattle.text_white.proofs.trim.is_ink.Tie as tie

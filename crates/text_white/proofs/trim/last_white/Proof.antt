@@ -1,4 +1,4 @@
--- `text::trim::last_white` meets its contract, by the laws of TrimLaws and an invariant that says: the rest decides as the whole does.
+-- `text_white::trim::last_white` meets its contract, by the laws of TrimLaws and an invariant that says: the rest decides as the whole does.
 use Rattle.text_places.proofs.PlaceLaws.{Backing}
 use Rattle.text_white.proofs.TrimLaws.{last-white}
 use Rattle.text_white.specs.Trim.{startsWhite}

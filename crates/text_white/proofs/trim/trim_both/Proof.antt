@@ -1,4 +1,4 @@
--- `text::trim::trim_both` meets its contract, by the laws of TrimLaws.
+-- `text_white::trim::trim_both` meets its contract, by the laws of TrimLaws.
 use Rattle.text_white.proofs.TrimLaws.{both-trims}
 use Rattle.text_white.proofs.trim.trim_both.Statement.{statement}
 use Rattle.text_white.proofs.trim.trim_both.Tie as tie

@@ -1,4 +1,4 @@
--- `text::trim::trim_end` meets its contract, by the laws of Sync and an invariant that says: the rest decides as the whole does.
+-- `text_white::trim::trim_end` meets its contract, by the laws of Sync and an invariant that says: the rest decides as the whole does.
 use Rattle.text_white.proofs.Sync.{ending, Ending}
 use Rattle.text_white.proofs.trim.trim_end.Statement.{statement}
 use Rattle.text_white.proofs.trim.trim_end.Tie as tie

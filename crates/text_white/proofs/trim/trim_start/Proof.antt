@@ -1,4 +1,4 @@
--- `text::trim::trim_start` meets its contract, by the laws of Ink and an invariant that says: the rest decides as the whole does.
+-- `text_white::trim::trim_start` meets its contract, by the laws of Ink and an invariant that says: the rest decides as the whole does.
 use Rattle.text_white.proofs.Ink.{running-to-ink}
 use Rattle.text_white.proofs.TrimLaws.{Running}
 use Prim.Native.Nat.{_-_}

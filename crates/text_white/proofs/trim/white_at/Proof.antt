@@ -1,4 +1,4 @@
--- `text::trim::white_at` meets its contract, by the laws of Ink.
+-- `text_white::trim::white_at` meets its contract, by the laws of Ink.
 use Rattle.text_white.proofs.Ink.{white-or-ink}
 use Rattle.text_white.proofs.trim.white_at.Statement.{statement}
 use Rattle.text_white.proofs.trim.white_at.Tie as tie

@@ -1,4 +1,4 @@
--- `text::trim::white_before` meets its contract, by the laws of Sync and an invariant that says: the rest decides as the whole does.
+-- `text_white::trim::white_before` meets its contract, by the laws of Sync and an invariant that says: the rest decides as the whole does.
 use Rattle.text_white.proofs.Sync.{trying, Trying}
 use Prim.Native.Nat.{_-_}
 use Rattle.text_white.proofs.trim.white_before.Statement.{statement}

@@ -1,4 +1,4 @@
--- `text::trim::white_length` meets its contract, by the laws of TrimLaws.
+-- `text_white::trim::white_length` meets its contract, by the laws of TrimLaws.
 use Rattle.text_white.proofs.TrimLaws.{white-here}
 use Rattle.text_white.proofs.trim.white_length.Statement.{statement}
 use Rattle.text_white.proofs.trim.white_length.Tie as tie

@@ -1,4 +1,4 @@
--- `text::white::in_ranges` meets its contract, by the laws of Ranges and an invariant that says: the rest decides as the whole does.
+-- `text_white::white::in_ranges` meets its contract, by the laws of Ranges and an invariant that says: the rest decides as the whole does.
 use Rattle.text_white.proofs.Ranges.{ranging, Ranging}
 use Prim.Native.Nat.{_-_}
 use lib.ListN.{length}

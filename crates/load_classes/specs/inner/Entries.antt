@@ -6,8 +6,8 @@ use lib.ListN.{length, set}
 use Rattle.table_pool.specs.declared.write.Wrote.{Wrote}
 use Rattle.table_pool.specs.declared.write.Wrote.the-variants as wrote
 use Rattle.table_rows.specs.Classes.{Pair}
-use Rattle.table_pool.specs.Wrote.{Written}
-use Rattle.load_raw_types.specs.Marks.{markOf, chained}
+use Rattle.table_pool.specs.inner.Wrote.{Written}
+use Rattle.load_raw_types.specs.inner.Marks.{markOf, chained}
 use Rattle.load_rule.specs.Classes.{classText, classRow}
 use Rattle.load_classes.specs.declared.entry.PairPlaces.{PairPlaces}
 use Rattle.load_classes.specs.declared.entry.PairPlaces.the-variants.{At, NoRoom}

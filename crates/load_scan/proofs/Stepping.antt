@@ -1,12 +1,13 @@
 -- One line. Assumes nothing.
 use mathlib.Core.Path.{_≡_, sym, _∙_, ap}
 use mathlib.Core.Bool.{Bool}
-use mathlib.Core.List.{List, []}
+use mathlib.Core.List.{List, [], _∷_}
 use Prim.Native.Nat.{ℕ, _+_, _-_, _≤_}
 use native.Mathlib.Omega.{arith}
 use lib.ListN.{length, take, drop}
 use mir.Val.{Fits}
 use mir.Syntax.{w32}
+use borrow.Author.Tests.{ne-eqb}
 use borrow.Author.Needs.{needs}
 use Rattle.text_places.specs.declared.lines.NextLine.{NextLine}
 use Rattle.text_places.specs.declared.lines.NextLine.the-variants.{Line, NoLine}
@@ -14,24 +15,40 @@ use Rattle.text_places.specs.Lines.{lines, nextLine}
 use Rattle.text_places.proofs.Taking.{line-taken, none-taken}
 use Rattle.line.specs.declared.line.Line as line
 use Rattle.line.specs.Kinds.{lineOf}
+use Rattle.load_rule.specs.declared.Fate.{Fate}
 use Rattle.load_rule.specs.declared.Fates.{Fates}
 use Rattle.load_rule.specs.declared.Scan.the-variants as scan
-use Rattle.load_rule.specs.Fates.{plus, fateOf, memberAfter, faultOf}
-use Rattle.load_scan.specs.Bounds.{Within}
-use Rattle.load_scan.proofs.Scanning.{scanOn, within-more, scan-fault}
-use Rattle.load_members.specs.declared.step.LineStep.{LineStep}
-use Rattle.load_members.specs.declared.step.Step.{Step}
-use Rattle.load_members.specs.declared.step.Step.the-variants as steps
-use Rattle.load_members.specs.declared.role.Role.{Role}
-use Rattle.load_members.specs.Roles.{roleOf}
-use Rattle.load_members.specs.Steps.{StepLine, StepBy}
+use Rattle.load_rule.specs.Fates.{plus, one, fateOf, memberAfter, faultOf, fatesFrom, faultsFrom}
+use Rattle.load_rule.specs.Loading.{mostText}
+use Rattle.load_scan.specs.declared.step.LineStep.{LineStep}
+use Rattle.load_scan.specs.declared.step.Step.{Step}
+use Rattle.load_scan.specs.declared.step.Step.the-variants as steps
+use Rattle.load_scan.specs.inner.Bounds.{Within}
+use Rattle.load_scan.specs.inner.Steps.{scanOn, StepLine, StepBy}
+
+pub within-more : (f : Fates) (a n : ℕ) → Within f a → a ≤ n → Within f n
+within-more f a n v h = record {
+  lines = omega (arith, v .lines);
+  blank = v .blank;
+  applied = v .applied;
+  idle = v .idle;
+  class = v .class;
+  field = v .field;
+  method = v .method;
+  short = v .short;
+}
+
+pub scan-fault : (f : Fates) (member : Bool) (l : List ℕ) (ls : List (List ℕ)) → (faultOf (f .class) (lineOf l) ≡ 0 → ⊥) →
+    scanOn f member (l ∷ ls) ≡ scan.Faulty (faultOf (f .class) (lineOf l)) (f .lines + 1)
+unfolding fatesFrom faultsFrom
+scan-fault f member l ls n = rw (ne-eqb (faultOf (f .class) (lineOf l)) 0 n)
 
 module _ (s : List ℕ) (at : ℕ) (f : Fates) (member : Bool) where
-  pub step-fits : length s ≤ 1048576 → at ≤ length s → Within f at → Fits w32 (f .lines + 1)
+  pub step-fits : length s ≤ mostText → at ≤ length s → Within f at → Fits w32 (f .lines + 1)
   step-fits h i w = let l = w .lines in omega arith
 
-  pub step-bounds : length s ≤ 1048576 → at ≤ length s → Within f at → Within f 1048576
-  step-bounds h i w = within-more f at 1048576 w (omega arith)
+  pub step-bounds : length s ≤ mostText → at ≤ length s → Within f at → Within f mostText
+  step-bounds h i w = within-more f at mostText w (omega arith)
 
   module _ {t : NextLine} (b : t ≡ nextLine s at) where
     pub step-end : t ≡ NoLine → lines (drop at s) ≡ []
@@ -58,14 +75,15 @@ module _ (s : List ℕ) (at : ℕ) (f : Fates) (member : Bool) where
               ap (scanOn f member) (line-taken s at b q .split) ∙ scan-fault f member (take (e - a) (drop a s)) (lines (drop n s)) no
               ∙ ap (λ y. scan.Faulty y (f .lines + 1)) (sym told)
 
-          pub step-line : number ≡ 0 → {g : Fates} → g ≡ plus f (fateOf member (take (e - a) (drop a s)) kind) → {has : Bool} → has ≡ memberAfter member kind →
-              {role : Role} → role ≡ roleOf kind → StepLine s at f member (record { start = a; «end» = e; next = n; sum = g; «has_member» = has; role = role })
-          step-line z u v y = record {
+          pub step-line : number ≡ 0 → {k : Fate} → k ≡ fateOf member (take (e - a) (drop a s)) kind → {g : Fates} → g ≡ plus f (one k) →
+              {has : Bool} → has ≡ memberAfter member kind →
+              StepLine s at f member (record { start = a; «end» = e; next = n; sum = g; «has_member» = has; kind = kind })
+          step-line z y u v = record {
             taken = line-taken s at b q;
+            is = r;
             clean = sym told ∙ z;
-            sum = u ∙ ap (λ k. plus f (fateOf member (take (e - a) (drop a s)) k)) r;
+            sum = u ∙ ap (λ x. plus f (one x)) (y ∙ ap (fateOf member (take (e - a) (drop a s))) r);
             after = v ∙ ap (memberAfter member) r;
-            is = y ∙ ap roleOf r;
           }
 
 pub ruleset stepping = (step-fits, step-bounds, step-end, step-order, step-inside, step-kind, step-fault, step-line, needs)

@@ -8,13 +8,21 @@ use lib.Dec.{eqb}
 use lib.ListN.{length, getD, set}
 use Rattle.ground.specs.Choice.{pick}
 use Rattle.table_pool.specs.Names.{slash}
-use Rattle.table_rows.specs.Rows.{unpackClass}
+use Rattle.table_rows.specs.Rows.{unpackClass, mostClasses}
 use Rattle.tables.specs.Back.{textIn}
+
+-- how many marks there are
+abbrev pub markCount : ℕ
+markCount = 8192
+
+-- the numbers of the table: one for each mark, one for each row
+abbrev pub indexSize : ℕ
+indexSize = 12288
 
 -- a dot counts as a slash, so that a name with dots has the mark of its descriptor
 unfoldable pub markFrom : ℕ → List ℕ → ℕ
 markFrom h [] = h
-markFrom h (b ∷ s) = markFrom ((h * 31 + slash b) % 8192) s
+markFrom h (b ∷ s) = markFrom ((h * 31 + slash b) % markCount) s
 
 abbrev pub markOf : List ℕ → ℕ
 markOf d = markFrom 0 d
@@ -30,7 +38,7 @@ lastBelow f h (suc n) = pick (eqb (f n) h) (suc n) (lastBelow f h n)
 
 -- the table with one row more, of the mark `m`: it is linked to the row that was the last with that mark, and is the last itself
 abbrev pub chained : List ℕ → ℕ → ℕ → List ℕ
-chained index m count = set (set index (8192 + count) (getD index m 0)) m (count + 1)
+chained index m count = set (set index (markCount + count) (getD index m 0)) m (count + 1)
 
 -- The first `at` bytes of the pool hold the descriptors of all class rows, and the table says for each mark where the search starts, and for each row
 -- where it goes on.
@@ -38,7 +46,7 @@ pub record Indexed (rows : List (List ℕ)) (pool index : List ℕ) (at : ℕ) :
   pub room : at ≤ length pool
   pub raw-below : (i : ℕ) → i < length rows → unpackClass (getD rows i []) .raw .place + unpackClass (getD rows i []) .raw .length ≤ at
   pub display-below : (i : ℕ) → i < length rows → unpackClass (getD rows i []) .display .place + unpackClass (getD rows i []) .display .length ≤ at
-  pub size : length index ≡ 12288
-  pub few : length rows ≤ 4096
-  pub starts : (h : ℕ) → h < 8192 → getD index h 0 ≡ lastBelow (rowMark rows pool) h (length rows)
-  pub links : (i : ℕ) → i < length rows → getD index (8192 + i) 0 ≡ lastBelow (rowMark rows pool) (rowMark rows pool i) i
+  pub size : length index ≡ indexSize
+  pub few : length rows ≤ mostClasses
+  pub starts : (h : ℕ) → h < markCount → getD index h 0 ≡ lastBelow (rowMark rows pool) h (length rows)
+  pub links : (i : ℕ) → i < length rows → getD index (markCount + i) 0 ≡ lastBelow (rowMark rows pool) (rowMark rows pool i) i

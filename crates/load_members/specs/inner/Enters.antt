@@ -8,21 +8,23 @@ use Rattle.text_places.specs.Lines.{lines}
 use Rattle.text_places.specs.declared.spans.Span.{Span}
 use Rattle.text_places.specs.Spans.{span, partOf, Lies}
 use Rattle.table_rows.specs.Classes.{Pair}
-use Rattle.table_rows.specs.Rows.{packMember}
+use Rattle.table_rows.specs.Rows.{packMember, mostPool}
 use Rattle.tables.specs.Back.{readBack}
-use Rattle.load_raw_types.specs.Marks.{Indexed}
+use Rattle.load_raw_types.specs.inner.Marks.{Indexed}
 use Rattle.load_rule.specs.Comments.{residualIn}
+use Rattle.load_rule.specs.Loading.{mostText}
 use Rattle.load_texts.specs.declared.texts.MemberLine.{MemberLine}
 use Rattle.load_texts.specs.declared.texts.Places.{Places}
-use Rattle.load_texts.specs.Texts.{MemberIn, MemberTexts, textsOf, allTexts}
-use Rattle.load_texts.specs.Places.{EnteredTexts, memberPlaced}
+use Rattle.load_texts.specs.inner.Texts.{MemberIn, MemberTexts, textsOf, allTexts}
+use Rattle.load_texts.specs.inner.Places.{EnteredTexts, memberPlaced}
 use Rattle.load_members.specs.declared.role.Role.{Role}
 use Rattle.load_members.specs.declared.role.Role.the-variants.{Class, Member, Neither}
-use Rattle.load_members.specs.declared.step.LineStep.{LineStep}
+use Rattle.load_scan.specs.declared.step.LineStep.{LineStep}
 use Rattle.load_members.specs.declared.enter.Slot.{Slot}
 use Rattle.load_members.specs.declared.enter.NextSlot.{NextSlot}
 use Rattle.load_members.specs.declared.enter.NextSlot.the-variants.{At, NoRoom}
-use Rattle.load_members.specs.Steps.{bytesOf}
+use Rattle.load_scan.specs.inner.Steps.{bytesOf}
+use Rattle.load_members.specs.inner.Roles.{roleOf}
 
 abbrev pub slotAt : ℕ → ℕ → ℕ → ℕ → Slot
 slotAt row place own own-end = record { row = row; place = place; own = own; «own_end» = own-end }
@@ -39,15 +41,15 @@ RoleReady (Member parts) s x = MemberReady s x parts
 
 -- the line `x` of the text `s` can be entered at `t`
 pub record Ready (s : List ℕ) (rows : List (List ℕ)) (index : List ℕ) (x : LineStep) (t : Slot) (p : List ℕ) : Type 0 where
-  pub short : length s ≤ 1048576
+  pub short : length s ≤ mostText
   pub order : x .start ≤ x .«end»
   pub inside : x .«end» ≤ length s
   pub rest : x .next ≤ length s
   pub own-order : t .own ≤ t .«own_end»
   pub own-inside : t .«own_end» ≤ length s
-  pub pool : length p ≤ 4194304
+  pub pool : length p ≤ mostPool
   pub indexed : Indexed rows p index (t .place)
-  pub role : RoleReady (x .role) s x
+  pub role : RoleReady (roleOf (x .kind)) s x
 
 -- the texts of the member of a line
 abbrev pub textsIn : List ℕ → List Pair → LineStep → Slot → MemberLine → MemberTexts

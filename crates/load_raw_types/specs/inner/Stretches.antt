@@ -6,7 +6,7 @@ use Prim.Native.Nat.{ℕ, _+_, _≤_, _<_}
 use lib.ListN.{length, drop}
 use Rattle.ground.specs.Look.{Look}
 use Rattle.descriptor.specs.Pieces.{turn}
-use Rattle.table_pool.specs.Wrote.{Written}
+use Rattle.table_pool.specs.inner.Wrote.{Written}
 use Rattle.load_raw_types.specs.declared.types.Stretch.{Stretch}
 use Rattle.load_raw_types.specs.declared.types.Stretch.the-variants.{More, Last, NoRoom}
 use Rattle.table_pool.specs.Names.{nameBytes, classPiece}

@@ -1,7 +1,7 @@
--- `members::step::next_step` meets its contract, by the laws of Stepping.
-use Rattle.load_members.proofs.Stepping.{stepping}
-use Rattle.load_members.proofs.step.next_step.Statement.{statement}
-use Rattle.load_members.proofs.step.next_step.Tie as tie
+-- `load_scan::step::next_step` meets its contract, by the laws of Stepping.
+use Rattle.load_scan.proofs.Stepping.{stepping}
+use Rattle.load_scan.proofs.step.next_step.Statement.{statement}
+use Rattle.load_scan.proofs.step.next_step.Tie as tie
 
 next-line-requires : tie.Need-next-line-requires
 next-line-requires c κs = search stepping
@@ -15,14 +15,14 @@ enum-told c = search stepping
 returns : tie.Need-returns
 returns c = search stepping
 
-sub-read-line : tie.Need-sub-read-line
-sub-read-line c = search stepping
+sub-line : tie.Need-sub-line
+sub-line c = search stepping
 
-part-read-line-start : tie.Need-part-read-line-start
-part-read-line-start c = search stepping
+part-line-start : tie.Need-part-line-start
+part-line-start c = search stepping
 
-part-read-line-end : tie.Need-part-read-line-end
-part-read-line-end c = search stepping
+part-line-end : tie.Need-part-line-end
+part-line-end c = search stepping
 
 read-line-requires : tie.Need-read-line-requires
 read-line-requires c κs = search stepping
@@ -36,23 +36,14 @@ add-t16 c = search stepping
 returns-2 : tie.Need-returns-2
 returns-2 c = search stepping
 
-sub-counted : tie.Need-sub-counted
-sub-counted c = search stepping
-
-part-counted-start : tie.Need-part-counted-start
-part-counted-start c = search stepping
-
-part-counted-end : tie.Need-part-counted-end
-part-counted-end c = search stepping
+fate-of-requires : tie.Need-fate-of-requires
+fate-of-requires c κs = search stepping
 
 counted-requires : tie.Need-counted-requires
 counted-requires c κs = search stepping
 
 member-after-requires : tie.Need-member-after-requires
 member-after-requires c κs = search stepping
-
-role-of-requires : tie.Need-role-of-requires
-role-of-requires c κs = search stepping
 
 returns-3 : tie.Need-returns-3
 returns-3 c = search stepping
@@ -65,17 +56,14 @@ next-step-spec =
     enum-known-start
     enum-told
     returns
-    sub-read-line
-    part-read-line-start
-    part-read-line-end
+    sub-line
+    part-line-start
+    part-line-end
     read-line-requires
     fault-requires
     add-t16
     returns-2
-    sub-counted
-    part-counted-start
-    part-counted-end
+    fate-of-requires
     counted-requires
     member-after-requires
-    role-of-requires
     returns-3)

@@ -12,21 +12,22 @@ use Rattle.load_rule.specs.declared.Scan.{Scan}
 use Rattle.load_rule.specs.declared.Scan.the-variants as scan
 use Rattle.load_rule.specs.declared.Load.{Load}
 use Rattle.load_rule.specs.declared.Load.the-variants.{Loaded, Faulty, NoClasses, FewClassRows, FewMemberRows, ShortPool}
-use Rattle.load_rule.specs.Loading.{Lent, linesLoad, isLoaded, poolOf, classRowsOf, memberRowsOf}
+use Rattle.load_rule.specs.Loading.{Lent, linesLoad, isLoaded, poolOf, classRowsOf, memberRowsOf, mostText}
+use Rattle.table_rows.specs.Rows.{mostMembers, mostClasses, mostPool}
 
 -- the sizes of a text and of what is lent, at most the largest ones
 pub record Limits (s c m p : ℕ) : Type 0 where
-  pub text : s ≤ 1048576
-  pub classes : c ≤ 4096
-  pub members : m ≤ 32768
-  pub pool : p ≤ 4194304
+  pub text : s ≤ mostText
+  pub classes : c ≤ mostClasses
+  pub members : m ≤ mostMembers
+  pub pool : p ≤ mostPool
 
 abbrev pub lent : ℕ → ℕ → ℕ → Lent
 lent c m p = record { classes = c; members = m; pool = p }
 
 -- the counts of members can be added
 abbrev pub Counted : Scan → Type 0
-Counted (scan.Sound f) = f .field + f .method ≤ 1048576
+Counted (scan.Sound f) = f .field + f .method ≤ mostText
 Counted (scan.Faulty number line) = Unit {0}
 
 -- "then 3 to 7 for the first faulty line ..., then 8, 9, 10, 11", where all does not fit

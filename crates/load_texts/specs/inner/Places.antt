@@ -3,7 +3,7 @@ use mathlib.Core.Path.{_≡_}
 use mathlib.Core.List.{List, _++_}
 use Prim.Native.Nat.{ℕ, _+_, _-_, _≤_, _<_}
 use lib.ListN.{length}
-use Rattle.table_pool.specs.Wrote.{Written}
+use Rattle.table_pool.specs.inner.Wrote.{Written}
 use Rattle.table_rows.specs.declared.rows.Member.{Member}
 use Rattle.table_rows.specs.declared.rows.Ranges.the-variants.{None}
 use Rattle.table_rows.specs.Rows.{text}
@@ -15,7 +15,7 @@ use Rattle.load_texts.specs.declared.texts.Entered.{Entered}
 use Rattle.load_texts.specs.declared.texts.Entered.the-variants.{At, NoRoom}
 use Rattle.load_texts.specs.declared.texts.TwoTexts.{TwoTexts}
 use Rattle.load_texts.specs.declared.texts.TwoTexts.the-variants as two
-use Rattle.load_texts.specs.Texts.{MemberTexts, allTexts}
+use Rattle.load_texts.specs.inner.Texts.{MemberTexts, allTexts}
 
 -- the texts `a` and `b` are written into the pool `d` at the place `at`: `m` is where the second one starts, and `q` the place after it
 pub record TwoAt (m q : ℕ) (d : List ℕ) (at : ℕ) (a b d₁ : List ℕ) : Type 0 where

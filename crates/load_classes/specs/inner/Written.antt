@@ -4,9 +4,9 @@ use mathlib.Core.List.{List}
 use Prim.Native.Nat.{ℕ, _≤_, _<_}
 use lib.ListN.{length}
 use Rattle.ground.specs.Put.{put}
-use Rattle.table_pool.specs.Wrote as pool
+use Rattle.table_pool.specs.inner.Wrote as pool
 use Rattle.tables.specs.Back.{readBack}
-use Rattle.load_raw_types.specs.Marks.{Indexed}
+use Rattle.load_raw_types.specs.inner.Marks.{Indexed}
 use Rattle.load_rule.specs.Classes.{classesOf, classPool, classRows}
 use Rattle.load_classes.specs.declared.write.Classes.{Classes}
 use Rattle.load_classes.specs.declared.write.Classes.the-variants.{Written, FewRows, ShortPool}

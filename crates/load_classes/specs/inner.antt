@@ -1,0 +1,4 @@
+-- Words of inner contracts: no rule cites them.
+pub mod Names
+pub mod Entries
+pub mod Written

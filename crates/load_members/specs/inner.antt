@@ -1,0 +1,4 @@
+-- Words of inner contracts: no rule cites them.
+pub mod Roles
+pub mod Enters
+pub mod Filled
