@@ -13,8 +13,7 @@ use borrow.Author.Needs.{needs}
 use Rattle.ground.specs.Ascii.{ascii}
 use Rattle.ground.specs.Choice.{pick}
 use Rattle.text_places.specs.Places.{same}
-use Rattle.json_grammar.specs.Reader.{Out, got, bad, isWs, structural, charsFrom, enclosedOf, Item, item, memberOf, valueOf, allRead, membersOf}
-use Rattle.json_grammar.specs.Members.{found, lastOf}
+use Rattle.json_grammar.specs.Reader.{Out, got, bad, isWs, structural, charsFrom, enclosedOf, Item, item, memberOf, valueOf, allRead, membersOf, found, lastOf}
 use Rattle.json_grammar.proofs.Took.{never-bad}
 use Rattle.json_grammar.proofs.Onward.{Parts, member-parts, value-text, value-other, no-value, last-later}
 use Rattle.json_string.specs.declared.after.After.{After}

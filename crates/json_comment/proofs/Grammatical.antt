@@ -12,13 +12,14 @@ use borrow.Author.Tests.{eqb-true}
 use Rattle.ground.specs.Ascii.{ascii}
 use Rattle.text_utf8.specs.Grammar.{UTF8-octets}
 use Rattle.json_grammar.specs.Grammar.{Meaning, text, other, Named, JsonText}
-use Rattle.json_grammar.specs.Reader.{Out, got, bad, charsFrom, Item, valueOf, membersOf}
-use Rattle.json_grammar.specs.Members.{Unnamed, Last, Found, missing, found, lastOf}
+use Rattle.json_grammar.specs.Members.{Unnamed, Last}
+use Rattle.json_grammar.specs.Reader.{Out, got, bad, charsFrom, Item, valueOf, membersOf, names, Found, missing, found, lastOf}
+use Rattle.json_grammar.specs.Onward.{Standing}
 use Rattle.json_grammar.proofs.Took.{never-bad, same-value}
-use Rattle.json_grammar.proofs.ValuesTook.{names, json-took}
+use Rattle.json_grammar.proofs.ValuesTook.{json-took}
 use Rattle.json_grammar.proofs.ValuesAll.{json-all}
-use Rattle.json_grammar.proofs.Readable.{unreadable, missing-unnamed, unnamed-missing, found-last, last-found}
-use Rattle.json_grammar.proofs.Onward.{Standing, value-text, value-other, no-value, members-stand, each-last}
+use Rattle.json_grammar.proofs.Readable.{missing-unnamed, unnamed-missing, found-last, last-found}
+use Rattle.json_grammar.proofs.Onward.{value-text, value-other, no-value, members-stand, each-last}
 use Rattle.json_grammar.proofs.WellFormed.{reader-octets}
 use Rattle.json_comment.specs.declared.answer.Stands.{Stands}
 use Rattle.json_comment.specs.declared.answer.Stands.the-variants.{Missing, Other, Text}

@@ -8,8 +8,8 @@ use Rattle.ground.specs.Ascii.{ascii}
 use Rattle.text_utf8.specs.Grammar.{UTF8-octets}
 use Rattle.text_utf8.proofs.Boundaries.{octets-as}
 use Rattle.json_grammar.specs.Grammar.{Meaning, text, other, Named}
-use Rattle.json_grammar.specs.Reader.{got, charsFrom, Item, membersOf}
-use Rattle.json_grammar.specs.Members.{Last, Found, missing, found, lastOf}
+use Rattle.json_grammar.specs.Members.{Last}
+use Rattle.json_grammar.specs.Reader.{got, charsFrom, Item, membersOf, Found, missing, found, lastOf}
 use Rattle.json_grammar.proofs.ValuesAll.{json-all}
 use Rattle.json_grammar.proofs.Readable.{found-last}
 use Rattle.json_decode.specs.Decoded.{decoded}

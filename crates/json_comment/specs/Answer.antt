@@ -7,8 +7,7 @@ use lib.ListN.{length}
 use Rattle.ground.specs.Ascii.{ascii}
 use Rattle.ground.specs.Choice.{pick}
 use Rattle.json_grammar.specs.Grammar.{Meaning, text, other}
-use Rattle.json_grammar.specs.Reader.{Out, got, bad, Item, membersOf}
-use Rattle.json_grammar.specs.Members.{Found, missing, found, lastOf}
+use Rattle.json_grammar.specs.Reader.{Out, got, bad, Item, membersOf, Found, missing, found, lastOf}
 use Rattle.json_decode.specs.Decoded.{decodedIs}
 use Rattle.json_comment.specs.declared.answer.Stands.{Stands}
 use Rattle.json_comment.specs.declared.answer.Stands.the-variants.{Missing, Other, Text}

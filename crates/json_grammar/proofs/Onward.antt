@@ -10,19 +10,14 @@ use Rattle.ground.specs.Ascii.{ascii}
 use Rattle.ground.specs.Choice.{pick}
 use Rattle.ground.proofs.Cases.{clash}
 use Rattle.text_places.specs.Places.{same}
-use Rattle.json_grammar.specs.Grammar.{Meaning, text, other}
-use Rattle.json_grammar.specs.Reader.{Out, got, bad, andThen, skip, structural, charsFrom, stringOf, pastWord, jsonNumber, asText, asOther, flatOf, afterItem, itemsOf, insideOf, enclosedOf, Item, item, memberOf, nestedOf, valueOf, membersOf}
-use Rattle.json_grammar.specs.Members.{Found, missing, found, orEarlier, lastOf}
+use Rattle.json_grammar.specs.Grammar.{Meaning, other}
+use Rattle.json_grammar.specs.Reader.{Out, got, bad, andThen, skip, structural, charsFrom, stringOf, pastWord, jsonNumber, asText, asOther, flatOf, afterItem, itemsOf, insideOf, enclosedOf, Item, item, memberOf, nestedOf, valueOf, membersOf, Found, missing, found, orEarlier, lastOf}
+use Rattle.json_grammar.specs.Onward.{Texted, Within, Standing, Each, each-none, each-one}
 use Rattle.json_grammar.proofs.Took.{Took, and-got, same-value, same-rest, never-bad, skip-took, structural-took}
 use Rattle.json_grammar.proofs.StringsTook.{string-took}
 use Rattle.json_grammar.proofs.ValuesTook.{word-took, value-took, all-read}
 
 -- A value that begins with a quotation mark is a string, and no other is.
-pub record Texted (l : List ℕ) (m : Meaning) (r : List ℕ) : Type 0 where
-  pub bytes : List ℕ
-  pub is : m ≡ text bytes
-  pub chars : charsFrom 0 l ≡ got bytes r
-
 as-text : (l : List ℕ) {m : Meaning} {r : List ℕ} → asText (charsFrom 0 l) ≡ got m r → Texted l m r
 as-text l e =
     let t = and-got (charsFrom 0 l) e in
@@ -126,25 +121,11 @@ last-later k items i = after k items i ∙ pick-found (same (i .named .key) k) i
         ∙ earlier-again (pick (same (i .named .key) k) (found i) missing) (lastOf k items) (pick (same (j .named .key) k) (found j) missing)
 
 -- Where a member's value stands in the whole text.
-pub record Within (s l : List ℕ) : Type 0 where
-  pub front : List ℕ
-  pub cut : s ≡ front ++ l
-
 pub within-all : (s : List ℕ) → Within s s
 within-all s = record { front = []; cut = refl }
 
 within-took : {A : List ℕ → Type 0} {s l r : List ℕ} → Within s l → Took A l r → Within s r
 within-took {r = r} w t = record { front = w .front ++ t .part; cut = w .cut ∙ ap (λ x. w .front ++ x) (t .cut) ∙ sym (append-assoc (w .front) (t .part) r) }
-
--- the value that an item names is read where its text starts
-pub record Standing (depth : ℕ) (s : List ℕ) (i : Item) : Type 0 where
-  pub within : Within s (i .onward)
-  pub rest : List ℕ
-  pub valued : valueOf depth (i .onward) ≡ got (i .named .value) rest
-
-pub data Each (P : Item → Type 0) : List Item → Type 0 where
-  each-none : Each P []
-  each-one : {i : Item} {items : List Item} → P i → Each P items → Each P (i ∷ items)
 
 module _ (depth : ℕ) (s : List ℕ) where
   standing-as : {i j : Item} → i ≡ j → Standing depth s i → Standing depth s j

@@ -1,7 +1,7 @@
 -- Sound: the values and members that the reader takes are those of the grammar. Assumes nothing.
 use mathlib.Core.Path.{_≡_, refl, sym, _∙_, ap}
 use mathlib.Core.Bool.{Bool, true, false}
-use mathlib.Core.List.{List, [], _∷_, _++_, append-assoc, map}
+use mathlib.Core.List.{List, [], _∷_, _++_, append-assoc}
 use Prim.Native.Nat.{ℕ, zero, suc}
 use native.Mathlib.Omega.{arith}
 use lib.Dec.{eqb}
@@ -13,7 +13,7 @@ use Rattle.ground.specs.Choice.{pick}
 use Rattle.ground.proofs.Cases.{within-yes}
 use Rattle.json_grammar.specs.Grammar
 use Rattle.json_grammar.specs.Grammar.{Meaning, other, Named}
-use Rattle.json_grammar.specs.Reader.{pastAll, Out, got, bad, andThen, isWs, skip, structural, jsonNumber, stringOf, pastWord, asText, asOther, flatOf, afterItem, itemsOf, insideOf, enclosedOf, Item, item, memberOf, nestedOf, valueOf, allRead, membersOf}
+use Rattle.json_grammar.specs.Reader.{pastAll, Out, got, bad, andThen, isWs, skip, structural, jsonNumber, stringOf, pastWord, asText, asOther, flatOf, afterItem, itemsOf, insideOf, enclosedOf, Item, item, memberOf, nestedOf, valueOf, allRead, membersOf, names}
 use Rattle.json_grammar.proofs.Took.{Took, took-as, took-to, took-cat, and-got, same-rest, same-value, never-bad, skip-took, structural-took, number-took}
 use Rattle.json_grammar.proofs.StringsTook.{string-took}
 
@@ -72,6 +72,10 @@ skip-twice (x ∷ s) = go (isWs x) refl (skip-twice s)
     go : (b : Bool) → isWs x ≡ b → skip (skip s) ≡ skip s → skip (pick b (skip s) (x ∷ s)) ≡ pick b (skip s) (x ∷ s)
     go true e again = again
     go false e again = rw e
+
+-- what stands between two structural characters, by their octets
+abbrev pub Between : {X : Type 0} → ℕ → ℕ → (List ℕ → X → Type 0) → List ℕ → List X → Type 0
+Between opening closing P = Grammar.Enclosed (Grammar.Structural opening) (Grammar.Structural closing) P
 
 -- Items and what encloses them, over any reader of an item.
 module _ {X : Type 0} (P : List ℕ → X → Type 0) (p : List ℕ → Out X) (item-took : (s : List ℕ) (x : X) (r : List ℕ) → p s ≡ got x r → Took (λ a. P a x) s r) (closing : ℕ) where
@@ -134,20 +138,20 @@ module _ {X : Type 0} (P : List ℕ → X → Type 0) (p : List ℕ → Out X) (
 
   module _ (opening : ℕ) where
     enclosed-as : (s : List ℕ) {xs ys : List X} {r q : List ℕ} → xs ≡ ys → r ≡ q →
-        Took (λ a. Grammar.Enclosed opening closing P a xs) s r → Took (λ a. Grammar.Enclosed opening closing P a ys) s q
+        Took (λ a. Between opening closing P a xs) s r → Took (λ a. Between opening closing P a ys) s q
     enclosed-as s {xs} {ys} {r} {q} e f t = took-to f (value t)
       where
-        value : Took (λ a. Grammar.Enclosed opening closing P a xs) s r → Took (λ a. Grammar.Enclosed opening closing P a ys) s r
+        value : Took (λ a. Between opening closing P a xs) s r → Took (λ a. Between opening closing P a ys) s r
         value u = rw e at u
 
-    empty-took : (s m r : List ℕ) → Took (Grammar.Structural opening) s m → Took (Grammar.Structural closing) m r → Took (λ a. Grammar.Enclosed opening closing P a []) s r
+    empty-took : (s m r : List ℕ) → Took (Grammar.Structural opening) s m → Took (Grammar.Structural closing) m r → Took (λ a. Between opening closing P a []) s r
     empty-took s m r o c = record {
       part = o .part ++ c .part;
       cut = o .cut ∙ ap (λ l. o .part ++ l) (c .cut) ∙ sym (append-assoc (o .part) (c .part) r);
       is = Grammar.empty (o .is) (c .is);
     }
 
-    filled-took : (s m : List ℕ) (xs : List X) (r : List ℕ) → Took (Grammar.Structural opening) s m → ItemsTook m xs r → Took (λ a. Grammar.Enclosed opening closing P a xs) s r
+    filled-took : (s m : List ℕ) (xs : List X) (r : List ℕ) → Took (Grammar.Structural opening) s m → ItemsTook m xs r → Took (λ a. Between opening closing P a xs) s r
     filled-took s m xs r o i = record {
       part = o .part ++ (i .items ++ i .close);
       cut =
@@ -156,23 +160,23 @@ module _ {X : Type 0} (P : List ℕ → X → Type 0) (p : List ℕ → Out X) (
     }
 
     inside-took : (s l : List ℕ) (xs : List X) (r : List ℕ) → Took (Grammar.Structural opening) s l → skip l ≡ l →
-        insideOf p closing l ≡ got xs r → Took (λ a. Grammar.Enclosed opening closing P a xs) s r
+        insideOf p closing l ≡ got xs r → Took (λ a. Between opening closing P a xs) s r
     unfolding insideOf
     inside-took s [] xs r o k e = never-bad e
     inside-took s (y ∷ t) xs r o k e = go (eqb y closing) refl e
       where
         go : (b : Bool) → eqb y closing ≡ b → pick b (got [] (skip t)) (itemsOf p closing (length (y ∷ t)) (y ∷ t)) ≡ got xs r →
-            Took (λ a. Grammar.Enclosed opening closing P a xs) s r
+            Took (λ a. Between opening closing P a xs) s r
         go true q f = enclosed-as s (same-value f) (same-rest f) (empty-took s (y ∷ t) (skip t) o (structural-here closing (y ∷ t) t y k q))
         go false q f = filled-took s (y ∷ t) xs r o (items-took (length (y ∷ t)) (y ∷ t) xs r f)
 
     pub enclosed-took : (s : List ℕ) (xs : List X) (r : List ℕ) → skip s ≡ s → enclosedOf p opening closing s ≡ got xs r →
-        Took (λ a. Grammar.Enclosed opening closing P a xs) s r
+        Took (λ a. Between opening closing P a xs) s r
     unfolding enclosedOf
     enclosed-took [] xs r k e = never-bad e
     enclosed-took (x ∷ s) xs r k e = go (eqb x opening) refl e
       where
-        go : (b : Bool) → eqb x opening ≡ b → pick b (insideOf p closing (skip s)) bad ≡ got xs r → Took (λ a. Grammar.Enclosed opening closing P a xs) (x ∷ s) r
+        go : (b : Bool) → eqb x opening ≡ b → pick b (insideOf p closing (skip s)) bad ≡ got xs r → Took (λ a. Between opening closing P a xs) (x ∷ s) r
         go true q f = inside-took (x ∷ s) (skip s) xs r (structural-here opening (x ∷ s) s x k q) (skip-twice s) f
         go false q f = never-bad f
 
@@ -204,16 +208,13 @@ member-took Inner inner inner-took s i r e =
         took-to g (member-as Inner s q (ap (λ j. j .named) f) whole)
 
 -- The names and meanings of items are what the grammar speaks of.
-abbrev pub names : List Item → List Named
-names items = map (λ i. i .named) items
-
 named-items : {Inner : List ℕ → Meaning → Type 0} {a : List ℕ} {items : List Item} →
     Grammar.Separated (λ b i. Grammar.Member Inner b (i .named)) a items → Grammar.Separated (Grammar.Member Inner) a (names items)
 named-items (Grammar.one m) = Grammar.one m
 named-items (Grammar.and m c s) = Grammar.and m c (named-items s)
 
 named-object : {Inner : List ℕ → Meaning → Type 0} {a : List ℕ} {items : List Item} →
-    Grammar.Enclosed 0x7B 0x7D (λ b i. Grammar.Member Inner b (i .named)) a items → Grammar.Object Inner a (names items)
+    Between 0x7B 0x7D (λ b i. Grammar.Member Inner b (i .named)) a items → Grammar.Object Inner a (names items)
 named-object (Grammar.empty o c) = Grammar.empty o c
 named-object (Grammar.filled o s c) = Grammar.filled o (named-items s) c
 
