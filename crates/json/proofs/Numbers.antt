@@ -12,8 +12,8 @@ use Rattle.ground.proofs.Cases.{within-yes, within-low, within-high}
 use Rattle.json_grammar.specs.Reader.{Out, bad, andThen, isDigit, isSign, isMinus, isE, past, optional, digits, int, frac, exp, jsonNumber}
 use Rattle.json_string.specs.declared.after.After.{After}
 use Rattle.json_string.specs.declared.after.After.the-variants.{Next, Unread}
-use Rattle.json_string.specs.Means.{Reached, Means}
-use Rattle.json.specs.Runs.{Past, PastOne}
+use Rattle.json_string.specs.inner.Means.{Reached, Means}
+use Rattle.json.specs.inner.Runs.{Past, PastOne}
 use Rattle.json.proofs.Spaces.{passing-starts, passing-ends, passing-stops, passing-more, apart}
 
 -- What an answer means, case by case.

@@ -3,8 +3,8 @@ use json_string::After;
 ghost use Prim.Native.Nat.{_≤_};
 ghost use lib.ListN.{length, drop};
 ghost use Rattle.json_grammar.specs.Reader.{isDigit, isSign, isMinus, digits, int, frac, exp, jsonNumber};
-ghost use Rattle.json_string.specs.Means.{Means};
-ghost use Rattle.json.specs.Runs.{Past, PastOne};
+ghost use Rattle.json_string.specs.inner.Means.{Means};
+ghost use Rattle.json.specs.inner.Runs.{Past, PastOne};
 
 // The first place from `start` on at which no digit stands.
 fn past_digits(s: &[u8], start: usize) -> usize

@@ -4,8 +4,8 @@ ghost use mathlib.Core.Path.{_≡_};
 ghost use Prim.Native.Nat.{_+_, _≤_, _<_};
 ghost use lib.ListN.{length, drop};
 ghost use Rattle.json_grammar.specs.Reader.{hexdig, hexValue, hex4, second, unicode, escape, pieceOf, charsFrom};
-ghost use Rattle.json_string.specs.Means.{Means};
-ghost use Rattle.json_string.specs.Pieces.{PieceMeans, shortByte};
+ghost use Rattle.json_string.specs.inner.Means.{Means};
+ghost use Rattle.json_string.specs.inner.Pieces.{PieceMeans, shortByte};
 
 // What stands at a place inside a string, and the place after it.
 pub enum Piece {

@@ -1,4 +1,4 @@
--- `comment::answer::ended` meets its contract, by the laws of Answers.
+-- `json_comment::answer::ended` meets its contract, by the laws of Answers.
 use Rattle.json_comment.proofs.Answers.{ending}
 use Rattle.json_comment.proofs.answer.ended.Statement.{statement}
 use Rattle.json_comment.proofs.answer.ended.Tie as tie

@@ -1,4 +1,4 @@
--- `comment::answer::is_residual` meets its contract, by the laws of Answers.
+-- `json_comment::answer::is_residual` meets its contract, by the laws of Answers.
 use Rattle.ground.specs.Ascii.{ascii}
 use Rattle.json_comment.proofs.Answers.{ending}
 use Rattle.json_comment.proofs.answer.is_residual.Statement.{statement}

@@ -1,4 +1,4 @@
--- `comment::answer::value_stands` meets its contract, by the laws of Answers.
+-- `json_comment::answer::value_stands` meets its contract, by the laws of Answers.
 use Rattle.json_comment.proofs.Answers.{value-standing}
 use Rattle.json_comment.proofs.answer.value_stands.Statement.{statement}
 use Rattle.json_comment.proofs.answer.value_stands.Tie as tie

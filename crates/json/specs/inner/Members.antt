@@ -5,8 +5,8 @@ use Prim.Native.Nat.{ℕ, _≤_}
 use lib.ListN.{length, drop}
 use Rattle.json_grammar.specs.Grammar.{Meaning}
 use Rattle.json_grammar.specs.Reader.{Out, got, bad, Item, item}
-use Rattle.json_comment.specs.declared.value.Member.{Member}
-use Rattle.json_comment.specs.declared.value.Member.the-variants.{Read, NoMember}
+use Rattle.json.specs.declared.value.Member.{Member}
+use Rattle.json.specs.declared.value.Member.the-variants.{Read, NoMember}
 
 -- a member was read, its value from the place `value` on, and what is left starts at the place `next`
 pub record ReadMember (s : List ℕ) (value next : ℕ) (o : Out Item) : Type 0 where

@@ -1,15 +1,15 @@
 // Values, objects and arrays (RFC 8259, sections 3 to 5). Their readers call each other; the depth allowance is passed down.
-use json::flat_at;
-use json::skip_space;
-use json::structural_at;
+use crate::flat::flat_at;
+use crate::space::skip_space;
+use crate::space::structural_at;
 use json_string::After;
 use json_string::string_end;
 ghost use mathlib.Core.Path.{_≡_};
 ghost use Prim.Native.Nat.{_≤_, _<_};
 ghost use lib.ListN.{length, getD, drop};
 ghost use Rattle.json_grammar.specs.Reader.{memberOf, enclosedOf, valueOf};
-ghost use Rattle.json_string.specs.Means.{Means};
-ghost use Rattle.json_comment.specs.Members.{MemberMeans};
+ghost use Rattle.json_string.specs.inner.Means.{Means};
+ghost use Rattle.json.specs.inner.Members.{MemberMeans};
 
 // A member: the place of its value, and where reading goes on.
 pub enum Member {

@@ -12,9 +12,9 @@ use Rattle.json_grammar.proofs.ValuesTook.{skip-twice}
 use Rattle.json_grammar.proofs.Items.{before, before-nothing, before-both, structural-shorter, inside-closed, inside-items, after-comma, after-closed, after-wrong, items-none, items-item}
 use Rattle.json_string.specs.declared.after.After.{After}
 use Rattle.json_string.specs.declared.after.After.the-variants.{Next, Unread}
-use Rattle.json_string.specs.Means.{Reached, Means}
-use Rattle.json.specs.Runs.{Past}
+use Rattle.json_string.specs.inner.Means.{Reached, Means}
+use Rattle.json.specs.inner.Runs.{Past}
 use Rattle.json.proofs.Numbers.{means-next, means-unread}
 
 -- `whole` is what all of the items give; from `place` on they are still to be read
 pub record Listing {X : Type 0} (p : List ℕ → Out X) (closing : ℕ) (whole : Out (List X)) (s : List ℕ) (place : ℕ) : Type 0 where

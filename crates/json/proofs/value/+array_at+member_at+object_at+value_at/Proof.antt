@@ -4,27 +4,27 @@ use Prim.Native.Nat.{ℕ, _+_, _-_, _*_, _<_}
 use lib.ListN.{length, drop}
 use borrow.Fn.Kinds.{In}
 use borrow.Fn.PlainCycle.{Measures, is, falls, and}
-use Rattle.json_comment.proofs.value.array_at.Reads as array-at
-use Rattle.json_comment.proofs.value.array_at.Kinds as array-at-kinds
-use Rattle.json_comment.proofs.value.+array_at+member_at+object_at+value_at.Lts-array_at as array-at-lts
-use Rattle.json_comment.proofs.value.member_at.Reads as member-at
-use Rattle.json_comment.proofs.value.member_at.Kinds as member-at-kinds
-use Rattle.json_comment.proofs.value.+array_at+member_at+object_at+value_at.Lts-member_at as member-at-lts
-use Rattle.json_comment.proofs.value.object_at.Reads as object-at
-use Rattle.json_comment.proofs.value.object_at.Kinds as object-at-kinds
-use Rattle.json_comment.proofs.value.+array_at+member_at+object_at+value_at.Lts-object_at as object-at-lts
-use Rattle.json_comment.proofs.value.value_at.Reads as value-at
-use Rattle.json_comment.proofs.value.value_at.Kinds as value-at-kinds
-use Rattle.json_comment.proofs.value.+array_at+member_at+object_at+value_at.Lts-value_at as value-at-lts
-use Rattle.json.proofs.flat_at.Reads as flat-at-reads
-use Rattle.json.proofs.skip_space.Reads as skip-space-reads
-use Rattle.json.proofs.structural_at.Reads as structural-at-reads
+use Rattle.json.proofs.value.array_at.Reads as array-at
+use Rattle.json.proofs.value.array_at.Kinds as array-at-kinds
+use Rattle.json.proofs.value.+array_at+member_at+object_at+value_at.Lts-array_at as array-at-lts
+use Rattle.json.proofs.value.member_at.Reads as member-at
+use Rattle.json.proofs.value.member_at.Kinds as member-at-kinds
+use Rattle.json.proofs.value.+array_at+member_at+object_at+value_at.Lts-member_at as member-at-lts
+use Rattle.json.proofs.value.object_at.Reads as object-at
+use Rattle.json.proofs.value.object_at.Kinds as object-at-kinds
+use Rattle.json.proofs.value.+array_at+member_at+object_at+value_at.Lts-object_at as object-at-lts
+use Rattle.json.proofs.value.value_at.Reads as value-at
+use Rattle.json.proofs.value.value_at.Kinds as value-at-kinds
+use Rattle.json.proofs.value.+array_at+member_at+object_at+value_at.Lts-value_at as value-at-lts
+use Rattle.json.proofs.flat.flat_at.Reads as flat-at-reads
+use Rattle.json.proofs.space.skip_space.Reads as skip-space-reads
+use Rattle.json.proofs.space.structural_at.Reads as structural-at-reads
 use Rattle.json_string.proofs.string_end.Reads as string-end-reads
 use Rattle.json_grammar.specs.Reader.{enclosedOf, memberOf, valueOf}
-use Rattle.json_comment.proofs.Listing.{Listing}
-use Rattle.json_comment.proofs.Values.{valuing, membering, arraying, objecting}
-use Rattle.json_comment.proofs.value.+array_at+member_at+object_at+value_at.{statement}
-use Rattle.json_comment.proofs.value.+array_at+member_at+object_at+value_at.Tie.{close}
+use Rattle.json.proofs.Listing.{Listing}
+use Rattle.json.proofs.Values.{valuing, membering, arraying, objecting}
+use Rattle.json.proofs.value.+array_at+member_at+object_at+value_at.{statement}
+use Rattle.json.proofs.value.+array_at+member_at+object_at+value_at.Tie.{close}
 
 abbrev μ-array-at : Measures 1 array-at-kinds.ps ℕ
 μ-array-at κs a = 3 * a .1 .1 .0 + 1

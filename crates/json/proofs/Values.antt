@@ -14,14 +14,14 @@ use Rattle.json_grammar.proofs.Items.{value-shorter, member-shorter}
 use Rattle.json_grammar.proofs.Onward.{no-value}
 use Rattle.json_string.specs.declared.after.After.{After}
 use Rattle.json_string.specs.declared.after.After.the-variants.{Next, Unread}
-use Rattle.json_string.specs.Means.{Means}
-use Rattle.json.specs.Runs.{Past}
+use Rattle.json_string.specs.inner.Means.{Means}
+use Rattle.json.specs.inner.Runs.{Past}
 use Rattle.json.proofs.Numbers.{means-next, means-unread, means-as}
 use Rattle.json.proofs.Flats.{means-map}
-use Rattle.json_comment.specs.declared.value.Member.{Member}
-use Rattle.json_comment.specs.declared.value.Member.the-variants.{Read, NoMember}
-use Rattle.json_comment.specs.Members.{ReadMember, MemberMeans}
-use Rattle.json_comment.proofs.Listing.{Listing, Turn, listing-none, listing-on, listing-falls, listing-ends, listing-empty, listing-starts}
+use Rattle.json.specs.declared.value.Member.{Member}
+use Rattle.json.specs.declared.value.Member.the-variants.{Read, NoMember}
+use Rattle.json.specs.inner.Members.{ReadMember, MemberMeans}
+use Rattle.json.proofs.Listing.{Listing, Turn, listing-none, listing-on, listing-falls, listing-ends, listing-empty, listing-starts}
 
 -- what is left starts no earlier than what was given
 goes : (s : List ℕ) (place next : ℕ) → place ≤ length s → next ≤ length s → length (drop next s) ≤ length (drop place s) → place ≤ next
