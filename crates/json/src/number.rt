@@ -49,16 +49,10 @@ fn int_at(s: &[u8], at: usize) -> After
     if s.len() <= at {
         return After::Unread;
     }
-    if s[at] < b'0' {
-        return After::Unread;
-    }
-    if b'9' < s[at] {
-        return After::Unread;
-    }
     if s[at] == b'0' {
         return After::Next(at + 1);
     }
-    After::Next(past_digits(s, at + 1))
+    digits_at(s, at)
 }
 
 // A point and digits, if there is a point.

@@ -12,13 +12,13 @@ pub record Texted (l : List ℕ) (m : Meaning) (r : List ℕ) : Type 0 where
   pub chars : charsFrom 0 l ≡ got bytes r
 
 -- the text `s` ends in `l`
-pub record Within (s l : List ℕ) : Type 0 where
+pub record EndsIn (s l : List ℕ) : Type 0 where
   pub front : List ℕ
   pub cut : s ≡ front ++ l
 
 -- the value that an item names is read where its text starts
 pub record Standing (depth : ℕ) (s : List ℕ) (i : Item) : Type 0 where
-  pub within : Within s (i .onward)
+  pub within : EndsIn s (i .onward)
   pub rest : List ℕ
   pub valued : valueOf depth (i .onward) ≡ got (i .named .value) rest
 

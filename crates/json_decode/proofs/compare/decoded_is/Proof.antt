@@ -1,4 +1,4 @@
--- `decode::compare::decoded_is` meets its contract, by the laws of Comparing and an invariant that says: the rest decides as the whole does.
+-- `json_decode::compare::decoded_is` meets its contract, by the laws of Comparing and an invariant that says: the rest decides as the whole does.
 use Rattle.json_decode.proofs.Comparing.{comparing, Comparing}
 use Prim.Native.Nat.{_-_}
 use lib.ListN.{length}

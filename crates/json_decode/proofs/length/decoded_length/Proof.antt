@@ -1,4 +1,4 @@
--- `decode::length::decoded_length` meets its contract, by the laws of Lengths and an invariant that says: the rest decides as the whole does.
+-- `json_decode::length::decoded_length` meets its contract, by the laws of Lengths and an invariant that says: the rest decides as the whole does.
 use Rattle.json_decode.proofs.Lengths.{counting}
 use Prim.Native.Nat.{_-_}
 use lib.ListN.{length}

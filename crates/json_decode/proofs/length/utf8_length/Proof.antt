@@ -1,4 +1,4 @@
--- `decode::length::utf8_length` meets its contract, by the laws of Lengths.
+-- `json_decode::length::utf8_length` meets its contract, by the laws of Lengths.
 use Rattle.json_decode.proofs.Lengths.{utf8-lengths}
 use Rattle.json_decode.proofs.length.utf8_length.Statement.{statement}
 use Rattle.json_decode.proofs.length.utf8_length.Tie as tie

@@ -1,4 +1,4 @@
--- `decode::octets::has_octets` meets its contract, by the laws of OctetLaws and an invariant that says: the rest decides as the whole does.
+-- `json_decode::octets::has_octets` meets its contract, by the laws of OctetLaws and an invariant that says: the rest decides as the whole does.
 use Rattle.json_decode.proofs.OctetLaws.{heading-more}
 use Rattle.json_decode.proofs.OctetLaws.{heading, Heading}
 use Prim.Native.Nat.{_-_}

@@ -1,4 +1,4 @@
--- `decode::octets::octet` meets its contract, by the laws of OctetLaws.
+-- `json_decode::octets::octet` meets its contract, by the laws of OctetLaws.
 use Rattle.json_decode.proofs.OctetLaws.{octets}
 use Rattle.json_decode.proofs.octets.octet.Statement.{statement}
 use Rattle.json_decode.proofs.octets.octet.Tie as tie

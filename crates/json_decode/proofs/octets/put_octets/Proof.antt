@@ -1,4 +1,4 @@
--- `decode::octets::put_octets` meets its contract, by the laws of OctetLaws and an invariant that says: the rest decides as the whole does.
+-- `json_decode::octets::put_octets` meets its contract, by the laws of OctetLaws and an invariant that says: the rest decides as the whole does.
 use Rattle.json_decode.proofs.OctetLaws.{putting, Putting}
 use Prim.Native.Nat.{_-_}
 use Rattle.json_decode.proofs.octets.put_octets.Statement.{statement}

@@ -1,4 +1,4 @@
--- `decode::write::decode_at` meets its contract, by the laws of Writing.
+-- `json_decode::write::decode_at` meets its contract, by the laws of Writing.
 use Rattle.json_decode.proofs.Writing.{deciding}
 use Rattle.json_decode.proofs.write.decode_at.Statement.{statement}
 use Rattle.json_decode.proofs.write.decode_at.Tie as tie

@@ -1,4 +1,4 @@
--- `decode::write::write_pieces` meets its contract, by the laws of Writing and an invariant that says: the rest decides as the whole does.
+-- `json_decode::write::write_pieces` meets its contract, by the laws of Writing and an invariant that says: the rest decides as the whole does.
 use Rattle.json_decode.proofs.Writing.{writing, Writing}
 use Prim.Native.Nat.{_-_}
 use lib.ListN.{length}
