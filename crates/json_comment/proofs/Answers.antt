@@ -20,20 +20,20 @@ use Rattle.json_grammar.proofs.Onward.{Parts, member-parts, value-text, value-o
 use Rattle.json_string.specs.declared.after.After.{After}
 use Rattle.json_string.specs.declared.after.After.the-variants.{Next, Unread}
 use Rattle.json_string.specs.inner.Means.{Means}
-use Rattle.json.specs.inner.Runs.{Past}
-use Rattle.json.proofs.Numbers.{means-next, means-unread}
-use Rattle.json_decode.specs.Decoded.{decodedIs}
 use Rattle.json.specs.declared.value.Member.{Member}
 use Rattle.json.specs.declared.value.Member.the-variants.{Read, NoMember}
+use Rattle.json.specs.inner.Runs.{Past}
+use Rattle.json.specs.inner.Members.{ReadMember, MemberMeans}
+use Rattle.json.proofs.Numbers.{means-next, means-unread}
+use Rattle.json.proofs.Listing.{Listing, Turn, listing-on, listing-passed, listing-closed, listing-wrong, empty-reads, listing-starts, starts-passed}
+use Rattle.json.proofs.Values.{member-told, member-turn, object-cut, object-none, object-falls, space-inside, read-inside, member-inside}
+use Rattle.json_decode.specs.Decoded.{decodedIs}
 use Rattle.json_comment.specs.declared.answer.Stands.{Stands}
 use Rattle.json_comment.specs.declared.answer.Stands.the-variants.{Missing, Other, Text}
 use Rattle.json_comment.specs.declared.answer.Comment.{Comment}
 use Rattle.json_comment.specs.declared.answer.Comment.the-variants.{Unreadable, Readable}
-use Rattle.json.specs.inner.Members.{ReadMember, MemberMeans}
 use Rattle.json_comment.specs.Answer.{standsAs, standsIn, commentAnswer, commentOf}
 use Rattle.json_comment.specs.inner.Steps.{headStands, givenFor, laterCounts, endOf}
-use Rattle.json.proofs.Listing.{Listing, Turn, listing-on, listing-passed, listing-closed, listing-wrong, empty-reads, listing-starts, starts-passed}
-use Rattle.json.proofs.Values.{member-told, member-turn, object-cut, object-none, object-falls, space-inside, read-inside, member-inside}
 
 -- A value by its first byte.
 module _ (s : List ℕ) (value : ℕ) (h : value < length s) where
