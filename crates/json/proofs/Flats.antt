@@ -14,7 +14,7 @@ use Rattle.json_grammar.specs.Grammar.{text, other}
 use Rattle.json_grammar.specs.Reader.{Out, got, bad, andThen, charsFrom, stringOf, pastWord, asText, asOther, flatOf, jsonNumber}
 use Rattle.json_string.specs.declared.after.After.{After}
 use Rattle.json_string.specs.declared.after.After.the-variants.{Next, Unread}
-use Rattle.json_string.specs.Means.{Reached, Means}
+use Rattle.json_string.specs.inner.Means.{Reached, Means}
 use Rattle.json.proofs.Numbers.{means-as}
 
 -- A literal name: what is left of it decides.

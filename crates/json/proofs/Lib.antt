@@ -3,3 +3,5 @@ pub mod Spaces
 pub mod Numbers
 pub mod Flats
 pub mod Once
+pub mod Listing
+pub mod Values

@@ -1,19 +1,21 @@
 -- Numbers, by places. Assumes nothing.
-use mathlib.Core.Path.{_≡_, _∙_, ap}
+use mathlib.Core.Path.{_≡_, refl, sym, _∙_, ap}
 use mathlib.Core.Bool.{Bool, true, false}
 use mathlib.Core.List.{List, _∷_}
-use Prim.Native.Nat.{ℕ, _+_, _≤_, _<_}
+use mathlib.Core.Logic.{_⊎_, inl, inr}
+use Prim.Native.Nat.{ℕ, suc, _+_, _≤_, _<_}
 use native.Mathlib.Numerals.{add-one}
 use native.Mathlib.Omega.{arith}
 use lib.ListN.{length, getD, drop, drop-of-length-le}
 use lib.Seq.{drop-cons}
 use borrow.Author.Needs.{needs}
-use Rattle.ground.proofs.Cases.{within-yes, within-low, within-high}
-use Rattle.json_grammar.specs.Reader.{Out, bad, andThen, isDigit, isSign, isMinus, isE, past, optional, digits, int, frac, exp, jsonNumber}
+use Rattle.ground.specs.Choice.{pick, within}
+use Rattle.ground.proofs.Cases.{within-yes, within-low, within-high, le-or-lt}
+use Rattle.json_grammar.specs.Reader.{Out, got, bad, andThen, isDigit, pastDigits, isSign, isMinus, isE, past, optional, digits, int, frac, exp, jsonNumber}
 use Rattle.json_string.specs.declared.after.After.{After}
 use Rattle.json_string.specs.declared.after.After.the-variants.{Next, Unread}
-use Rattle.json_string.specs.Means.{Reached, Means}
-use Rattle.json.specs.Runs.{Past, PastOne}
+use Rattle.json_string.specs.inner.Means.{Reached, Means}
+use Rattle.json.specs.inner.Runs.{Past, PastOne}
 use Rattle.json.proofs.Spaces.{passing-starts, passing-ends, passing-stops, passing-more, apart}
 
 -- What an answer means, case by case.
@@ -68,14 +70,6 @@ module _ (s : List ℕ) (at : ℕ) (h : at < length s) where
     reads = rw (drop-cons s at 0 h, within-yes 0x30 0x39 (getD s at 0) l u, ← add-one, q .rest);
   }
 
-  pub int-low : getD s at 0 < 0x30 → int (drop at s) ≡ bad
-  unfolding int
-  int-low b = rw (drop-cons s at 0 h, within-low 0x30 0x30 (getD s at 0) b, within-low 0x31 0x39 (getD s at 0) (omega arith))
-
-  pub int-high : 0x39 < getD s at 0 → int (drop at s) ≡ bad
-  unfolding int
-  int-high b = rw (drop-cons s at 0 h, within-high 0x30 0x30 (getD s at 0) (omega arith), within-high 0x31 0x39 (getD s at 0) b)
-
   pub int-zero : getD s at 0 ≡ 0x30 → Reached s (at + 1) (int (drop at s))
   unfolding int
   int-zero e = record {
@@ -84,15 +78,28 @@ module _ (s : List ℕ) (at : ℕ) (h : at < length s) where
     reads = rw (drop-cons s at 0 h, within-yes 0x30 0x30 (getD s at 0) (omega arith) (omega arith), add-one);
   }
 
-  pub int-reached : 0x30 ≤ getD s at 0 → getD s at 0 ≤ 0x39 → (getD s at 0 ≡ 0x30 → ⊥) → {r : ℕ} → Past isDigit s (at + 1) r → Reached s r (int (drop at s))
-  unfolding int
-  int-reached l u n q = record {
-    inside = q .inside;
-    value = getD s at 0;
-    reads = rw (drop-cons s at 0 h, apart 0x30 (getD s at 0) n, within-yes 0x31 0x39 (getD s at 0) (omega arith) u, ← add-one, q .rest);
-  }
+  -- where no zero stands, any digit is one of the nine others
+  module _ (n : getD s at 0 ≡ 0x30 → ⊥) where
+    no-zero : within 0x31 0x39 (getD s at 0) ≡ within 0x30 0x39 (getD s at 0)
+    no-zero = go (le-or-lt 0x30 (getD s at 0)) (le-or-lt (getD s at 0) 0x39)
+      where
+        go : (0x30 ≤ getD s at 0) ⊎ (getD s at 0 < 0x30) → (getD s at 0 ≤ 0x39) ⊎ (0x39 < getD s at 0) → within 0x31 0x39 (getD s at 0) ≡ within 0x30 0x39 (getD s at 0)
+        go (inl l) (inl u) = within-yes 0x31 0x39 (getD s at 0) (omega arith) u ∙ sym (within-yes 0x30 0x39 (getD s at 0) l u)
+        go (inl l) (inr u) = within-high 0x31 0x39 (getD s at 0) u ∙ sym (within-high 0x30 0x39 (getD s at 0) u)
+        go (inr l) o = within-low 0x31 0x39 (getD s at 0) (omega arith) ∙ sym (within-low 0x30 0x39 (getD s at 0) l)
 
-pub ruleset digit-reading = (digits-end, digits-low, digits-high, next-inside, digits-reached, int-end, int-low, int-high, int-zero, int-reached, needs)
+    int-digits : int (drop at s) ≡ digits (drop at s)
+    unfolding int digits andThen
+    int-digits = rw (drop-cons s at 0 h, apart 0x30 (getD s at 0) n, no-zero) (go (within 0x30 0x39 (getD s at 0)))
+      where
+        go : (b : Bool) → pick b (got (getD s at 0) (pastDigits (drop (suc at) s))) bad ≡ andThen (pick b (got (getD s at 0) (drop (suc at) s)) bad) (λ x r. got x (pastDigits r))
+        go true = refl
+        go false = refl
+
+    pub int-other : (r : After) → Means s r (digits (drop at s)) → Means s r (int (drop at s))
+    int-other r m = means-as s (digits (drop at s)) (int (drop at s)) r int-digits m
+
+pub ruleset digit-reading = (digits-end, digits-low, digits-high, next-inside, digits-reached, int-end, int-zero, int-other, needs)
 
 -- Options.
 module _ (s : List ℕ) (at : ℕ) where

@@ -13,8 +13,8 @@ use borrow.Author.Needs.{needs}
 use Rattle.ground.specs.Choice.{within}
 use Rattle.ground.proofs.Cases.{within-yes, within-both}
 use Rattle.json_grammar.specs.Reader.{got, bad, andThen, pastAll, isWs, skip, oneOf, structural}
-use Rattle.json_string.specs.Means.{Reached}
-use Rattle.json.specs.Runs.{Past}
+use Rattle.json_string.specs.inner.Means.{Reached}
+use Rattle.json.specs.inner.Runs.{Past}
 
 -- White space.
 module _ (b : ℕ) where

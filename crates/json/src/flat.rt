@@ -5,7 +5,7 @@ use json_string::string_end;
 ghost use Prim.Native.Nat.{_≤_};
 ghost use lib.ListN.{length, drop};
 ghost use Rattle.json_grammar.specs.Reader.{pastWord, flatOf};
-ghost use Rattle.json_string.specs.Means.{Means};
+ghost use Rattle.json_string.specs.inner.Means.{Means};
 
 // A literal name.
 fn word_at(s: &[u8], at: usize, word: &[u8]) -> After

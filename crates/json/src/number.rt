@@ -3,8 +3,8 @@ use json_string::After;
 ghost use Prim.Native.Nat.{_≤_};
 ghost use lib.ListN.{length, drop};
 ghost use Rattle.json_grammar.specs.Reader.{isDigit, isSign, isMinus, digits, int, frac, exp, jsonNumber};
-ghost use Rattle.json_string.specs.Means.{Means};
-ghost use Rattle.json.specs.Runs.{Past, PastOne};
+ghost use Rattle.json_string.specs.inner.Means.{Means};
+ghost use Rattle.json.specs.inner.Runs.{Past, PastOne};
 
 // The first place from `start` on at which no digit stands.
 fn past_digits(s: &[u8], start: usize) -> usize
@@ -49,16 +49,10 @@ fn int_at(s: &[u8], at: usize) -> After
     if s.len() <= at {
         return After::Unread;
     }
-    if s[at] < b'0' {
-        return After::Unread;
-    }
-    if b'9' < s[at] {
-        return After::Unread;
-    }
     if s[at] == b'0' {
         return After::Next(at + 1);
     }
-    After::Next(past_digits(s, at + 1))
+    digits_at(s, at)
 }
 
 // A point and digits, if there is a point.

@@ -4,8 +4,8 @@ ghost use mathlib.Core.Path.{_≡_};
 ghost use Prim.Native.Nat.{_≤_};
 ghost use lib.ListN.{length, drop};
 ghost use Rattle.json_grammar.specs.Reader.{isWs, structural};
-ghost use Rattle.json_string.specs.Means.{Means};
-ghost use Rattle.json.specs.Runs.{Past};
+ghost use Rattle.json_string.specs.inner.Means.{Means};
+ghost use Rattle.json.specs.inner.Runs.{Past};
 
 // Whether a byte is white space.
 pub fn is_space(b: u8) -> bool

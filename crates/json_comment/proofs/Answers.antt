@@ -13,26 +13,27 @@ use borrow.Author.Needs.{needs}
 use Rattle.ground.specs.Ascii.{ascii}
 use Rattle.ground.specs.Choice.{pick}
 use Rattle.text_places.specs.Places.{same}
-use Rattle.json_grammar.specs.Reader.{Out, got, bad, isWs, structural, charsFrom, enclosedOf, Item, item, memberOf, valueOf, allRead, membersOf}
-use Rattle.json_grammar.specs.Members.{found, lastOf}
+use Rattle.json_grammar.specs.Grammar.{Meaning, text, other}
+use Rattle.json_grammar.specs.Reader.{Out, got, bad, isWs, structural, charsFrom, enclosedOf, Item, item, memberOf, valueOf, allRead, membersOf, found, lastOf}
 use Rattle.json_grammar.proofs.Took.{never-bad}
 use Rattle.json_grammar.proofs.Onward.{Parts, member-parts, value-text, value-other, no-value, last-later}
 use Rattle.json_string.specs.declared.after.After.{After}
 use Rattle.json_string.specs.declared.after.After.the-variants.{Next, Unread}
-use Rattle.json_string.specs.Means.{Means}
-use Rattle.json.specs.Runs.{Past}
+use Rattle.json_string.specs.inner.Means.{Means}
+use Rattle.json.specs.declared.value.Member.{Member}
+use Rattle.json.specs.declared.value.Member.the-variants.{Read, NoMember}
+use Rattle.json.specs.inner.Runs.{Past}
+use Rattle.json.specs.inner.Members.{ReadMember, MemberMeans}
 use Rattle.json.proofs.Numbers.{means-next, means-unread}
+use Rattle.json.proofs.Listing.{Listing, Turn, listing-on, listing-passed, listing-closed, listing-wrong, empty-reads, listing-starts, starts-passed}
+use Rattle.json.proofs.Values.{member-told, member-turn, object-cut, object-none, object-falls, space-inside, read-inside, member-inside}
 use Rattle.json_decode.specs.Decoded.{decodedIs}
-use Rattle.json_comment.specs.declared.value.Member.{Member}
-use Rattle.json_comment.specs.declared.value.Member.the-variants.{Read, NoMember}
 use Rattle.json_comment.specs.declared.answer.Stands.{Stands}
 use Rattle.json_comment.specs.declared.answer.Stands.the-variants.{Missing, Other, Text}
 use Rattle.json_comment.specs.declared.answer.Comment.{Comment}
 use Rattle.json_comment.specs.declared.answer.Comment.the-variants.{Unreadable, Readable}
-use Rattle.json_comment.specs.Members.{ReadMember, MemberMeans}
-use Rattle.json_comment.specs.Answer.{standsAs, standsIn, commentAnswer, commentOf, headStands, endOf}
-use Rattle.json_comment.proofs.Listing.{Listing, Turn, listing-on, listing-passed, listing-closed, listing-wrong, empty-reads, listing-starts, starts-passed}
-use Rattle.json_comment.proofs.Values.{member-told, member-turn, object-cut, object-none, object-falls, space-inside, read-inside, member-inside}
+use Rattle.json_comment.specs.Answer.{standsAs, standsIn, commentAnswer, commentOf}
+use Rattle.json_comment.specs.inner.Steps.{headStands, givenFor, laterCounts, endOf}
 
 -- A value by its first byte.
 module _ (s : List ℕ) (value : ℕ) (h : value < length s) where
@@ -44,13 +45,32 @@ module _ (s : List ℕ) (value : ℕ) (h : value < length s) where
 
 pub ruleset value-standing = (stands-text, stands-other, needs)
 
-pub stands-new : (a b : Stands) {t : Bool} (w : Bool) → w ≡ t → w ≡ true → {r : Stands} → r ≡ a → r ≡ pick t a b
-stands-new a b w e f g = g ∙ rw (← e, f)
+-- What a member gives for a name.
+module _ (s : List ℕ) (key : ℕ) (name : List ℕ) (value : ℕ) (w : Bool) (e : w ≡ decodedIs name (charsFrom 0 (drop key s))) where
+  pub given-value : w ≡ true → {r : Stands} → r ≡ headStands value (drop value s) → r ≡ givenFor s key name value
+  given-value f g = g ∙ rw (← e, f)
 
-pub stands-kept : (a b : Stands) {t : Bool} (w : Bool) → w ≡ t → w ≡ false → b ≡ pick t a b
-stands-kept a b w e f = rw (← e, f)
+  pub given-nothing : w ≡ false → Missing ≡ givenFor s key name value
+  given-nothing f = rw (← e, f)
 
-pub ruleset standing = (stands-new, stands-kept, needs)
+pub ruleset giving = (given-value, given-nothing, needs)
+
+-- The later counts.
+pub later-missing : (later before : Stands) → later ≡ Missing → before ≡ laterCounts later before
+later-missing later before e = rw e
+
+pub later-other : (later before : Stands) → later ≡ Other → Other ≡ laterCounts later before
+later-other later before e = rw e
+
+pub later-text : (later before : Stands) {at : ℕ} → later ≡ Text at → Text at ≡ laterCounts later before
+later-text later before e = rw e
+
+pub ruleset later-counting = (later-missing, later-other, later-text, needs)
+
+pub later-given : (before : Stands) {given later r : Stands} → given ≡ later → r ≡ laterCounts given before → r ≡ laterCounts later before
+later-given before e f = f ∙ ap (λ x. laterCounts x before) e
+
+pub ruleset standing = (later-given, needs)
 
 -- What is left after the object.
 pub ended-more : (s : List ℕ) (end : ℕ) (id signature : Stands) → end < length s → Unreadable ≡ endOf (drop end s) id signature
@@ -129,12 +149,16 @@ module _ (s : List ℕ) (place : ℕ) (h : place < length s) {value next : ℕ} 
   this-stands = let e : length s - length (drop value s) ≡ value = let d = length-drop value s in omega (arith, m .starts) in head-is ∙ ap (standsAs (m .meaning)) (sym e)
 
   later-stands : (name : List ℕ) (items : List Item) {before now : Stands} → before ≡ standsIn s (lastOf name items) →
-      now ≡ pick (decodedIs name (charsFrom 0 (drop (place + 1) s))) (headStands value (drop value s)) before → now ≡ standsIn s (lastOf name (items ++ (this ∷ [])))
+      now ≡ laterCounts (givenFor s (place + 1) name value) before → now ≡ standsIn s (lastOf name (items ++ (this ∷ [])))
   later-stands name items {before} e f =
       f ∙ rw (ap (decodedIs name) (parts .named), this-stands, e) (among (same (m .key) name)) ∙ ap (standsIn s) (sym (last-later name items this))
     where
-      among : (b : Bool) → pick b (standsIn s (found this)) (standsIn s (lastOf name items)) ≡ standsIn s (pick b (found this) (lastOf name items))
-      among true = refl
+      counts : (v : Meaning) (at : ℕ) (x : Stands) → laterCounts (standsAs v at) x ≡ standsAs v at
+      counts (text w) at x = refl
+      counts other at x = refl
+
+      among : (b : Bool) → laterCounts (pick b (standsIn s (found this)) Missing) (standsIn s (lastOf name items)) ≡ standsIn s (pick b (found this) (lastOf name items))
+      among true = counts (m .meaning) (length s - length (drop value s)) (standsIn s (lastOf name items))
       among false = refl
 
 -- From member to member.
@@ -172,9 +196,9 @@ module _ {s : List ℕ} {at place : ℕ} {id signature : Stands} (k : Reading s 
       turned : Turn (memberOf (valueOf 126)) s place next (item (told .key) (told .meaning) (drop value s))
       turned = member-turn s 126 place (k .listing .inside) told
 
-      module _ {id₁ : Stands} (i : id₁ ≡ pick (decodedIs (0x69 ∷ 0x64 ∷ []) (charsFrom 0 (drop (place + 1) s))) (headStands value (drop value s)) id)
-          {signature₁ : Stands} (g : signature₁ ≡ pick (decodedIs (0x73 ∷ 0x69 ∷ 0x67 ∷ 0x6E ∷ 0x61 ∷ 0x74 ∷ 0x75 ∷ 0x72 ∷ 0x65 ∷ []) (charsFrom 0 (drop (place + 1) s)))
-          (headStands value (drop value s)) signature) where
+      module _ {id₁ : Stands} (i : id₁ ≡ laterCounts (givenFor s (place + 1) (0x69 ∷ 0x64 ∷ []) value) id)
+          {signature₁ : Stands}
+          (g : signature₁ ≡ laterCounts (givenFor s (place + 1) (0x73 ∷ 0x69 ∷ 0x67 ∷ 0x6E ∷ 0x61 ∷ 0x74 ∷ 0x75 ∷ 0x72 ∷ 0x65 ∷ []) value) signature) where
         id-now : id₁ ≡ standsIn s (lastOf (ascii "id") (k .listing .passed ++ (item (told .key) (told .meaning) (drop value s) ∷ [])))
         unfolding ascii
         id-now = later-stands s place h told (ascii "id") (k .listing .passed) (k .id-is) i

@@ -12,18 +12,20 @@ use borrow.Author.Tests.{eqb-true}
 use Rattle.ground.specs.Ascii.{ascii}
 use Rattle.text_utf8.specs.Grammar.{UTF8-octets}
 use Rattle.json_grammar.specs.Grammar.{Meaning, text, other, Named, JsonText}
-use Rattle.json_grammar.specs.Reader.{Out, got, bad, charsFrom, Item, valueOf, membersOf}
-use Rattle.json_grammar.specs.Members.{Unnamed, Last, Found, missing, found, lastOf}
+use Rattle.json_grammar.specs.Members.{Unnamed, Last}
+use Rattle.json_grammar.specs.Reader.{Out, got, bad, charsFrom, Item, valueOf, membersOf, names, Found, missing, found, lastOf}
+use Rattle.json_grammar.specs.Onward.{Standing}
 use Rattle.json_grammar.proofs.Took.{never-bad, same-value}
-use Rattle.json_grammar.proofs.ValuesTook.{names, json-took}
+use Rattle.json_grammar.proofs.ValuesTook.{json-took}
 use Rattle.json_grammar.proofs.ValuesAll.{json-all}
-use Rattle.json_grammar.proofs.Readable.{unreadable, missing-unnamed, unnamed-missing, found-last, last-found}
-use Rattle.json_grammar.proofs.Onward.{Standing, value-text, value-other, no-value, members-stand, each-last}
+use Rattle.json_grammar.proofs.Readable.{missing-unnamed, unnamed-missing, found-last, last-found}
+use Rattle.json_grammar.proofs.Onward.{value-text, value-other, no-value, members-stand, each-last}
 use Rattle.json_grammar.proofs.WellFormed.{reader-octets}
 use Rattle.json_comment.specs.declared.answer.Stands.{Stands}
 use Rattle.json_comment.specs.declared.answer.Stands.the-variants.{Missing, Other, Text}
 use Rattle.json_comment.specs.declared.answer.Comment.the-variants.{Unreadable, Readable}
 use Rattle.json_comment.specs.Answer.{standsAs, standsIn, commentAnswer, commentOf}
+use Rattle.json_comment.specs.Says.{Told, Says}
 
 -- A comment is unreadable exactly where it is no JSON text.
 pub readable-text : (s : List ℕ) {i g : Stands} → commentOf s ≡ Readable i g → (ms : List Named) × JsonText s ms
@@ -35,13 +37,6 @@ readable-text s {i} {g} e = go (membersOf s) refl e
 
 pub unreadable-text : (s : List ℕ) → commentOf s ≡ Unreadable → (ms : List Named) → JsonText s ms → ⊥
 unreadable-text s e ms j = let (items, n, f) = json-all j in let z : _≡_ {A = ℕ} 0 1 = cc in omega arith
-
--- A string that the answer names: the text before its quotation mark, what it stands for, and what is left after it.
-pub record Told (s : List ℕ) (p : ℕ) (v : List ℕ) : Type 0 where
-  pub front : List ℕ
-  pub cut : s ≡ front ++ (0x22 ∷ drop p s)
-  pub rest : List ℕ
-  pub chars : charsFrom 0 (drop p s) ≡ got v rest
 
 -- where a text starts in another
 place-is : (s front l : List ℕ) → s ≡ front ++ l → length s - length l ≡ length front
@@ -106,24 +101,32 @@ module _ (s : List ℕ) {items : List Item} (e : membersOf s ≡ got items []) (
       back : Last k other (names items) → standsIn s (lastOf k items) ≡ Other
       back l = let (j, q, v) = last-found k items l in ap (standsIn s) q ∙ ap (λ m. standsAs m (length s - length (j .onward))) v
 
-  -- the answer names a string, and it stands for `v`
-  pub stands-text : {v : List ℕ} → ((p : ℕ) × (standsIn s (lastOf k items) ≡ Text p) × Told s p v) ↔ Last k (text v) (names items)
-  stands-text {v} = ((λ (p, m, t). to p (lastOf k items) refl m t), back)
+  is-text : (m : Meaning) (q p : ℕ) → standsAs m q ≡ Text p → (w : List ℕ) × (m ≡ text w) × (q + 1 ≡ p)
+  is-text (text w) q p h = (w, refl, cc)
+  is-text other q p h = absurd (let z : _≡_ {A = ℕ} 0 1 = cc in omega arith)
+
+  told-as : {a b : ℕ} {w : List ℕ} → a ≡ b → Told s a w → Told s b w
+  told-as q t = rw q at t
+
+  -- the answer names a string: it is there, and it stands last
+  pub named-text : {p : ℕ} → standsIn s (lastOf k items) ≡ Text p → (v : List ℕ) × Last k (text v) (names items) × Told s p v
+  named-text {p} h = go (lastOf k items) refl h
     where
-      is-text : (m : Meaning) (q p : ℕ) → standsAs m q ≡ Text p → (w : List ℕ) × (m ≡ text w) × (q + 1 ≡ p)
-      is-text (text w) q p h = (w, refl, cc)
-      is-text other q p h = absurd (let z : _≡_ {A = ℕ} 0 1 = cc in omega arith)
+      go : (f : Found) → lastOf k items ≡ f → standsIn s f ≡ Text p → (v : List ℕ) × Last k (text v) (names items) × Told s p v
+      go missing q g = absurd (let z : _≡_ {A = ℕ} 0 1 = cc in omega arith)
+      go (found j) q g =
+          let (w, is, at) = is-text (j .named .value) (length s - length (j .onward)) p g in
+          (w, last-as is (found-last k items q), told-as at (text-told s j (each-last k items (members-stand s e) q) is))
 
-      told-as : {a b : ℕ} {w : List ℕ} → a ≡ b → Told s a w → Told s b w
-      told-as q t = rw q at t
-
-      to : (p : ℕ) (f : Found) → lastOf k items ≡ f → standsIn s f ≡ Text p → Told s p v → Last k (text v) (names items)
-      to p missing q h t = absurd (let z : _≡_ {A = ℕ} 0 1 = cc in omega arith)
-      to p (found j) q h t =
-          let (w, is, at) = is-text (j .named .value) (length s - length (j .onward)) p h in
-          let u : Told s p w = told-as at (text-told s j (each-last k items (members-stand s e) q) is) in
+  -- and it stands for `v`
+  pub stands-text : {v : List ℕ} → ((p : ℕ) × (standsIn s (lastOf k items) ≡ Text p) × Told s p v) ↔ Last k (text v) (names items)
+  stands-text {v} = ((λ (p, h, t). to p h t), back)
+    where
+      to : (p : ℕ) → standsIn s (lastOf k items) ≡ Text p → Told s p v → Last k (text v) (names items)
+      to p h t =
+          let (w, l, u) = named-text h in
           let both : got w (u .rest) ≡ got v (t .rest) = sym (u .chars) ∙ t .chars in
-          last-as (is ∙ ap text (same-value both)) (found-last k items q)
+          last-as (ap text (same-value both)) l
 
       back : Last k (text v) (names items) → (p : ℕ) × (standsIn s (lastOf k items) ≡ Text p) × Told s p v
       back l =
@@ -131,29 +134,31 @@ module _ (s : List ℕ) {items : List Item} (e : membersOf s ≡ got items []) (
           (length s - length (j .onward) + 1, ap (standsIn s) q ∙ ap (λ m. standsAs m (length s - length (j .onward))) is, text-told s j (each-last k items (members-stand s e) q) is)
 
 -- The same of the answer, over the grammar's own members.
-pub record Says (s : List ℕ) (ms : List Named) (k : List ℕ) (stands : Stands) : Type 0 where
-  pub if-missing : (stands ≡ Missing) ↔ Unnamed k ms
-  pub if-other : (stands ≡ Other) ↔ Last k other ms
-  pub if-text : (v : List ℕ) → ((p : ℕ) × (stands ≡ Text p) × Told s p v) ↔ Last k (text v) ms
-
 says-as : {s : List ℕ} {ms ns : List Named} {k : List ℕ} {a b : Stands} → ms ≡ ns → a ≡ b → Says s ms k a → Says s ns k b
 says-as e f t = rw (e, f) at t
 
--- what is answered for `id` and for `signature` is what stands last under them in the text
-pub answer-says : (s : List ℕ) {ms : List Named} → JsonText s ms → {i g : Stands} → commentOf s ≡ Readable i g → Says s ms (ascii "id") i × Says s ms (ascii "signature") g
-answer-says s {ms} j {i} {g} e =
-    let (items, n, f) = json-all j in
-    let both : Readable (standsIn s (lastOf (ascii "id") items)) (standsIn s (lastOf (ascii "signature") items)) ≡ Readable i g = sym (ap (commentAnswer s) f) ∙ e in
-    (says-as n (same-id both) (says items f (ascii "id")), says-as n (same-signature both) (says items f (ascii "signature")))
+-- the two parts of the answer, by the members that were read
+pub answer-parts : (s : List ℕ) {items : List Item} → membersOf s ≡ got items [] → {i g : Stands} → commentOf s ≡ Readable i g →
+    (standsIn s (lastOf (ascii "id") items) ≡ i) × (standsIn s (lastOf (ascii "signature") items) ≡ g)
+answer-parts s {items} f e =
+    let both : Readable (standsIn s (lastOf (ascii "id") items)) (standsIn s (lastOf (ascii "signature") items)) ≡ Readable _ _ = sym (ap (commentAnswer s) f) ∙ e in
+    (same-id both, same-signature both)
   where
-    says : (items : List Item) → membersOf s ≡ got items [] → (k : List ℕ) → Says s (names items) k (standsIn s (lastOf k items))
-    says items f k = record { if-missing = stands-missing s f k; if-other = stands-other s f k; if-text = λ v. stands-text s f k }
-
     same-id : {a b c d : Stands} → Readable a b ≡ Readable c d → a ≡ c
     same-id q = cc
 
     same-signature : {a b c d : Stands} → Readable a b ≡ Readable c d → b ≡ d
     same-signature q = cc
+
+-- what is answered for `id` and for `signature` is what stands last under them in the text
+pub answer-says : (s : List ℕ) {ms : List Named} → JsonText s ms → {i g : Stands} → commentOf s ≡ Readable i g → Says s ms (ascii "id") i × Says s ms (ascii "signature") g
+answer-says s {ms} j {i} {g} e =
+    let (items, n, f) = json-all j in
+    let (p, q) = answer-parts s f e in
+    (says-as n p (says items f (ascii "id")), says-as n q (says items f (ascii "signature")))
+  where
+    says : (items : List Item) → membersOf s ≡ got items [] → (k : List ℕ) → Says s (names items) k (standsIn s (lastOf k items))
+    says items f k = record { if-missing = stands-missing s f k; if-other = stands-other s f k; if-text = λ v. stands-text s f k }
 
 -- What such a string stands for is well-formed UTF-8 where the text is.
 pub told-octets : (s : List ℕ) (p : ℕ) {v : List ℕ} → Told s p v → UTF8-octets s → UTF8-octets v

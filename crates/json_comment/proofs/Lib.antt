@@ -1,6 +1,4 @@
 -- Laws of reading a comment by places, one file a subject.
-pub mod Listing
-pub mod Values
 pub mod Answers
 pub mod Grammatical
 pub mod Strings

@@ -1,14 +1,11 @@
 -- Document 01 "Comments": what stands last under `id` and under `signature`, over the members that RFC 8259's reader gives.
 use mathlib.Core.Bool.{Bool}
-use mathlib.Core.List.{List, [], _∷_}
+use mathlib.Core.List.{List}
 use Prim.Native.Nat.{ℕ, _+_, _-_}
-use lib.Dec.{eqb}
 use lib.ListN.{length}
 use Rattle.ground.specs.Ascii.{ascii}
-use Rattle.ground.specs.Choice.{pick}
 use Rattle.json_grammar.specs.Grammar.{Meaning, text, other}
-use Rattle.json_grammar.specs.Reader.{Out, got, bad, Item, membersOf}
-use Rattle.json_grammar.specs.Members.{Found, missing, found, lastOf}
+use Rattle.json_grammar.specs.Reader.{Out, got, bad, Item, membersOf, Found, missing, found, lastOf}
 use Rattle.json_decode.specs.Decoded.{decodedIs}
 use Rattle.json_comment.specs.declared.answer.Stands.{Stands}
 use Rattle.json_comment.specs.declared.answer.Stands.the-variants.{Missing, Other, Text}
@@ -36,13 +33,3 @@ commentOf s = commentAnswer s (membersOf s)
 -- "`id` is compared with `com.android.tools.r8.residualsignature`"
 abbrev pub residualOf : Out (List ℕ) → Bool
 residualOf o = decodedIs (ascii "com.android.tools.r8.residualsignature") o
-
--- a value by the text from the place `at` on
-abbrev pub headStands : ℕ → List ℕ → Stands
-headStands at [] = Other
-headStands at (x ∷ l) = pick (eqb x 0x22) (Text (at + 1)) Other
-
--- the answer where this text is left after the object
-abbrev pub endOf : List ℕ → Stands → Stands → Comment
-endOf [] id signature = Readable id signature
-endOf (x ∷ l) id signature = Unreadable

@@ -3,8 +3,7 @@ use mathlib.Core.Path.{_≡_, refl}
 use Rattle.ground.specs.Ascii.{ascii}
 use Rattle.text_places.specs.Places.{same}
 use Rattle.json_grammar.specs.Encode.{utf8}
-use Rattle.json_grammar.specs.Members.{lastOf}
-use Rattle.json_grammar.specs.Reader.{andThen, pastAll, structural, digits, optional, int, past, jsonNumber, hex4, second, unicode, shortEscape, escape, pieceOf, charsFrom, stringOf, pastWord, flatOf, afterItem, itemsOf, insideOf, enclosedOf, memberOf, nestedOf, valueOf, membersOf}
+use Rattle.json_grammar.specs.Reader.{andThen, pastAll, structural, digits, optional, int, past, jsonNumber, hex4, second, unicode, shortEscape, escape, pieceOf, charsFrom, stringOf, pastWord, flatOf, afterItem, itemsOf, insideOf, enclosedOf, memberOf, nestedOf, valueOf, membersOf, lastOf}
 use Rattle.json_comment.specs.declared.answer.Stands.the-variants.{Missing, Other, Text}
 use Rattle.json_comment.specs.declared.answer.Comment.the-variants.{Unreadable, Readable}
 use Rattle.json_comment.specs.Answer.{commentOf}

@@ -1,17 +1,17 @@
 // The answer for a comment: its members are read once, from first to last.
-use crate::value::Member;
-use crate::value::member_at;
+use json::Member;
+use json::member_at;
 use json::skip_space;
 use json::structural_at;
 use json_decode::decoded_is;
 use json_string::After;
 ghost use mathlib.Core.Path.{_≡_};
-ghost use Prim.Native.Nat.{_+_, _<_};
+ghost use Prim.Native.Nat.{_≤_, _<_};
 ghost use lib.ListN.{length, drop};
-ghost use Rattle.ground.specs.Choice.{pick};
-ghost use Rattle.json_grammar.specs.Reader.{charsFrom};
-ghost use Rattle.json_decode.specs.Decoded.{decodedIs};
-ghost use Rattle.json_comment.specs.Answer.{headStands, endOf, commentOf, residualOf};
+ghost use Rattle.json_grammar.specs.Reader.{charsFrom, memberOf, valueOf};
+ghost use Rattle.json.specs.inner.Members.{MemberMeans};
+ghost use Rattle.json_comment.specs.Answer.{commentOf, residualOf};
+ghost use Rattle.json_comment.specs.inner.Steps.{headStands, givenFor, laterCounts, endOf};
 
 // What stands last under a name.
 pub enum Stands {
@@ -38,15 +38,42 @@ fn value_stands(s: &[u8], value: usize) -> Stands
     Stands::Other
 }
 
-// What stands last under `name` once a member is read whose name is the string at `key`: its value, or what stood before.
-fn stands_now(s: &[u8], key: usize, name: &[u8], value: usize, before: Stands) -> Stands
+// What a member gives for `name`, where its own name is the string at `key`: its value, or nothing where it has another name.
+fn given_for(s: &[u8], key: usize, name: &[u8], value: usize) -> Stands
     requires { ⌜ value < length (now s) ⌝ }
-    ensures { λ r. ⌜ r ≡ pick (decodedIs (now (name .entry)) (charsFrom 0 (drop key (now (s .entry))))) (headStands value (drop value (now (s .entry)))) before ⌝ }
+    ensures { λ r. ⌜ r ≡ givenFor (now (s .entry)) key (now (name .entry)) value ⌝ }
 {
     if decoded_is(s, key, name) {
         return value_stands(s, value);
     }
-    before
+    Stands::Missing
+}
+
+// What stands last: what is given later, or what stood before where that is nothing.
+fn later_counts(later: Stands, before: Stands) -> Stands
+    ensures { λ r. ⌜ r ≡ laterCounts later before ⌝ }
+{
+    match later {
+        Stands::Missing => before,
+        Stands::Other => Stands::Other,
+        Stands::Text(at) => Stands::Text(at),
+    }
+}
+
+// What stands last under `name` once one more member is read.
+fn stands_now(s: &[u8], key: usize, name: &[u8], value: usize, before: Stands) -> Stands
+    requires { ⌜ value < length (now s) ⌝ }
+    ensures { λ r. ⌜ r ≡ laterCounts (givenFor (now (s .entry)) key (now (name .entry)) value) before ⌝ }
+{
+    later_counts(given_for(s, key, name, value), before)
+}
+
+// A member of the comment's object. That is the first of the 127 levels that are read, so that a value nests 126 at most.
+fn comment_member(s: &[u8], at: usize) -> Member
+    requires { ⌜ at ≤ length (now s) ⌝ }
+    ensures { λ r. ⌜ MemberMeans (now (s .entry)) r (memberOf (valueOf 126) (drop at (now (s .entry)))) ⌝ }
+{
+    member_at(s, at, 126)
 }
 
 // The answer once the object is read, up to the place `end`: nothing may be left.
@@ -77,7 +104,7 @@ pub fn read_comment(s: &[u8]) -> Comment
     let mut id = Stands::Missing;
     let mut signature = Stands::Missing;
     while place < s.len() {
-        let Member::Read { value, next } = member_at(s, place, 126) else {
+        let Member::Read { value, next } = comment_member(s, place) else {
             return Comment::Unreadable;
         };
         id = stands_now(s, place + 1, b"id", value, id);

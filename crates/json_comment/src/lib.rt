@@ -1,6 +1,5 @@
-// JSON in comments: values, objects and arrays, and what stands last under the two names that count.
+// JSON in comments: what stands last under the two names that count, `id` and `signature`.
 mod answer;
-mod value;
 
 pub use answer::Comment;
 pub use answer::Stands;

@@ -20,9 +20,10 @@ use Rattle.json_grammar.specs.Reader.{Out, got, bad, andThen, pieceOf, charsFro
 use Rattle.json_grammar.proofs.Items.{before}
 use Rattle.json_string.specs.declared.string.Piece.{Piece}
 use Rattle.json_string.specs.declared.string.Piece.the-variants.{Byte, Code, Closes, Wrong}
-use Rattle.json_string.specs.Pieces.{Stood, PieceMeans}
+use Rattle.json_string.specs.inner.Pieces.{Stood, PieceMeans}
 use Rattle.json_string.proofs.Strings.{Stringing, coded-told, string-starts, starts-passed, string-cut, stood-on, stood-passed, closed-value, string-closed, string-wrong, byte-falls, code-falls}
-use Rattle.json_decode.specs.Decoded.{decodedIs, heads}
+use Rattle.json_decode.specs.Decoded.{decodedIs}
+use Rattle.json_decode.specs.inner.Octets.{heads}
 
 -- Sameness after a common start.
 same-after : (a x y : List ℕ) → same (a ++ x) (a ++ y) ≡ same x y

@@ -14,7 +14,7 @@ use Rattle.json_decode.specs.declared.length.Decoded.the-variants.{Bytes
 use Rattle.json_string.specs.declared.string.Piece.{Piece}
 use Rattle.json_string.specs.declared.string.Piece.the-variants.{Byte, Code, Closes, Wrong}
 use Rattle.json_decode.specs.Decoded.{decodedLength}
-use Rattle.json_string.specs.Pieces.{Stood, PieceMeans}
+use Rattle.json_string.specs.inner.Pieces.{Stood, PieceMeans}
 use Rattle.json_string.proofs.Strings.{Stringing, coded-told, string-starts, starts-passed, string-cut, stood-on, stood-passed, closed-value, string-closed, string-wrong, byte-falls, code-falls}
 
 module _ (c : ℕ) where

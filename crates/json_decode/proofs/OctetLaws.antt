@@ -14,7 +14,7 @@ use Rattle.ground.specs.Put.{put}
 use Rattle.ground.proofs.PutLaws.{paste-put}
 use Rattle.json_grammar.specs.Encode.{utf8}
 use Rattle.json_grammar.proofs.EncodeLaws.{utf8-two, utf8-three, utf8-four}
-use Rattle.json_decode.specs.Decoded.{heads}
+use Rattle.json_decode.specs.inner.Octets.{heads}
 
 -- an element by its number
 octet-at : (c k n : ℕ) {l : List ℕ} → utf8 c ≡ l → k ≡ n → getD l n 0 ≡ getD (utf8 c) k 0

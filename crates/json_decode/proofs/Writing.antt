@@ -19,12 +19,13 @@ use Rattle.json_grammar.proofs.Took.{same-value, never-bad}
 use Rattle.json_grammar.proofs.Items.{before}
 use Rattle.json_string.specs.declared.string.Piece.{Piece}
 use Rattle.json_string.specs.declared.string.Piece.the-variants.{Byte, Code, Closes, Wrong}
-use Rattle.json_string.specs.Pieces.{Stood, PieceMeans}
+use Rattle.json_string.specs.inner.Pieces.{Stood, PieceMeans}
 use Rattle.json_string.proofs.Strings.{Stringing, coded-told, string-starts, starts-passed, string-cut, stood-on, stood-passed, closed-value, string-closed, string-wrong, byte-falls, code-falls}
 use Rattle.json_decode.specs.declared.length.Decoded.{Decoded}
 use Rattle.json_decode.specs.declared.length.Decoded.the-variants.{Bytes, NoString}
 use Rattle.json_decode.specs.declared.write.Written.the-variants as written
-use Rattle.json_decode.specs.Decoded.{Fitting, decodedLength, decoded, writtenOf, roomOf}
+use Rattle.json_decode.specs.Decoded.{decodedLength, decoded, writtenOf, roomOf}
+use Rattle.json_decode.specs.inner.Octets.{Fitting}
 use Rattle.json_decode.proofs.Comparing.{code-small, code-large}
 
 -- what stands before a string's rest is no longer than all of it

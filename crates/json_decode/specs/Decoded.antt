@@ -1,11 +1,10 @@
 -- What a string stands for, in terms of RFC 8259's reader on lists: its length, whether it is a given text, and its bytes in a lent slice.
-use mathlib.Core.Path.{_≡_}
-use mathlib.Core.Bool.{Bool, true, false}
-use mathlib.Core.List.{List, [], _∷_}
-use Prim.Native.Nat.{ℕ, _+_, _≤_}
-use lib.Dec.{eqb, leb}
+use mathlib.Core.Bool.{Bool, false}
+use mathlib.Core.List.{List, []}
+use Prim.Native.Nat.{ℕ, _+_}
+use lib.Dec.{leb}
 use lib.ListN.{length}
-use Rattle.ground.specs.Choice.{pick, both}
+use Rattle.ground.specs.Choice.{pick}
 use Rattle.ground.specs.Put.{put}
 use Rattle.text_places.specs.Places.{same}
 use Rattle.json_grammar.specs.Reader.{Out, got, bad}
@@ -38,16 +37,3 @@ writtenOf bad at n = written.NoString
 abbrev pub roomOf : Out (List ℕ) → ℕ → List ℕ → List ℕ
 roomOf (got v r) at d = pick (leb (at + length v) (length d)) (put d at v) d
 roomOf bad at d = d
-
--- there is a string, and what it stands for fits into a room of `n` bytes at the place `at`
-pub record Fitting (o : Out (List ℕ)) (at n : ℕ) : Type 0 where
-  pub value : List ℕ
-  pub rest : List ℕ
-  pub reads : o ≡ got value rest
-  pub fits : at + length value ≤ n
-
--- the bytes `v` stand at the head
-unfoldable pub heads : List ℕ → List ℕ → Bool
-heads [] l = true
-heads (x ∷ v) [] = false
-heads (x ∷ v) (y ∷ l) = both (eqb x y) (heads v l)

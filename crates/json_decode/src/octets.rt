@@ -5,7 +5,7 @@ ghost use Prim.Native.Nat.{_+_, _≤_, _<_};
 ghost use lib.ListN.{length, getD, drop};
 ghost use Rattle.ground.specs.Put.{put};
 ghost use Rattle.json_grammar.specs.Encode.{utf8};
-ghost use Rattle.json_decode.specs.Decoded.{heads};
+ghost use Rattle.json_decode.specs.inner.Octets.{heads};
 
 // The octet with the number `k`, from 0 on.
 fn octet(code: u32, k: usize) -> u8

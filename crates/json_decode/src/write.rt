@@ -9,7 +9,8 @@ ghost use mathlib.Core.Path.{_≡_};
 ghost use lib.ListN.{length, drop};
 ghost use Rattle.ground.specs.Put.{put};
 ghost use Rattle.json_grammar.specs.Reader.{charsFrom};
-ghost use Rattle.json_decode.specs.Decoded.{Fitting, decoded, writtenOf, roomOf};
+ghost use Rattle.json_decode.specs.Decoded.{decoded, writtenOf, roomOf};
+ghost use Rattle.json_decode.specs.inner.Octets.{Fitting};
 
 pub enum Written {
     // All bytes are written; the place after them.

@@ -86,7 +86,9 @@ digits-all (_⨾_ {b = b} (octet x e) d) r f = (x, rw (e, digits-past d r f))
 int-all : {a : List ℕ} → Grammar.Int a → (r : List ℕ) → free isDigit r ≡ true → (y : ℕ) × (int (a ++ r) ≡ got y r)
 unfolding int
 int-all (left (octet x e)) r f = (x, rw e)
-int-all (right (octet x e ⨾ d)) r f = (x, rw (apart-above 0x31 0x39 0x30 0x30 x (lit< tt) e, e, digits-past d r f))
+int-all (right (octet x e ⨾ d)) r f =
+    let w = within-both _ _ x e in
+    (x, rw (within-high 0x30 0x30 x (omega arith), within-yes 0x31 0x39 x (omega arith) (omega arith), digits-past d r f))
 
 -- an option that is absent
 not-there : (p : ℕ → Bool) (k : List ℕ → Out ℕ) (r : List ℕ) → free p r ≡ true → optional p k r ≡ got 0 r

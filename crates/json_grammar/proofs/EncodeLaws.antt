@@ -11,38 +11,29 @@ use Rattle.ground.specs.Abnf.{Octet, octet, _⨾_, left, right}
 use Rattle.ground.specs.Choice.{within}
 use Rattle.ground.proofs.Cases.{within-yes, clash, le-or-lt}
 use Rattle.text_utf8.specs.Grammar.{UTF8-tail, UTF8-char}
-use Rattle.json_grammar.specs.Encode.{utf8}
+use Rattle.json_grammar.specs.Encode.{twoOctets, threeOctets, fourOctets, utf8}
 
 -- The four forms.
 module _ (c : ℕ) where
-  abbrev pub two : List ℕ
-  two = (0xC0 + c / 64) ∷ (0x80 + c % 64) ∷ []
-
-  abbrev pub three : List ℕ
-  three = (0xE0 + c / 4096) ∷ (0x80 + c / 64 % 64) ∷ (0x80 + c % 64) ∷ []
-
-  abbrev pub four : List ℕ
-  four = (0xF0 + c / 262144) ∷ (0x80 + c / 4096 % 64) ∷ (0x80 + c / 64 % 64) ∷ (0x80 + c % 64) ∷ []
-
   pub utf8-one : c < 0x80 → utf8 c ≡ c ∷ []
   unfolding utf8
   utf8-one h = rw (lt-ltb c 0x80 h)
 
-  pub utf8-two : 0x80 ≤ c → c < 0x800 → utf8 c ≡ two
+  pub utf8-two : 0x80 ≤ c → c < 0x800 → utf8 c ≡ twoOctets c
   unfolding utf8
   utf8-two l h = rw (le-ltb c 0x80 l, lt-ltb c 0x800 h)
 
-  pub utf8-three : 0x800 ≤ c → c < 0x10000 → utf8 c ≡ three
+  pub utf8-three : 0x800 ≤ c → c < 0x10000 → utf8 c ≡ threeOctets c
   unfolding utf8
   utf8-three l h = rw (le-ltb c 0x80 (omega arith), le-ltb c 0x800 l, lt-ltb c 0x10000 h)
 
-  pub utf8-four : 0x10000 ≤ c → utf8 c ≡ four
+  pub utf8-four : 0x10000 ≤ c → utf8 c ≡ fourOctets c
   unfolding utf8
   utf8-four l = rw (le-ltb c 0x80 (omega arith), le-ltb c 0x800 (omega arith), le-ltb c 0x10000 l)
 
 -- a code point has one of them
-pub by-form : (P : List ℕ → Type 0) (c : ℕ) → (c < 0x80 → P (c ∷ [])) → (0x80 ≤ c → c < 0x800 → P (two c)) →
-    (0x800 ≤ c → c < 0x10000 → P (three c)) → (0x10000 ≤ c → P (four c)) → P (utf8 c)
+pub by-form : (P : List ℕ → Type 0) (c : ℕ) → (c < 0x80 → P (c ∷ [])) → (0x80 ≤ c → c < 0x800 → P (twoOctets c)) →
+    (0x800 ≤ c → c < 0x10000 → P (threeOctets c)) → (0x10000 ≤ c → P (fourOctets c)) → P (utf8 c)
 by-form P c f g h i = go (le-or-lt 0x80 c) (le-or-lt 0x800 c) (le-or-lt 0x10000 c)
   where
     go : (0x80 ≤ c) ⊎ (c < 0x80) → (0x800 ≤ c) ⊎ (c < 0x800) → (0x10000 ≤ c) ⊎ (c < 0x10000) → P (utf8 c)
@@ -70,31 +61,34 @@ tail x = octet-in 0x80 0xBF (0x80 + x % 64) (omega arith) (omega arith)
 pub one-octet : (c : ℕ) → c < 0x80 → UTF8-char (c ∷ [])
 one-octet c h = left (octet-in 0x00 0x7F c (omega arith) (omega arith))
 
-two-octets : (c : ℕ) → 0x80 ≤ c → c < 0x800 → UTF8-char (two c)
-two-octets c l h = right (left (octet-in 0xC2 0xDF (0xC0 + c / 64) (omega arith) (omega arith) ⨾ tail c))
+lead-tail : (x y : ℕ) → 0xC2 ≤ x → x ≤ 0xDF → 0x80 ≤ y → y ≤ 0xBF → UTF8-char (x ∷ y ∷ [])
+lead-tail x y a b c d = right (left (octet-in 0xC2 0xDF x a b ⨾ octet-in 0x80 0xBF y c d))
+
+two-octets : (c : ℕ) → 0x80 ≤ c → c < 0x800 → UTF8-char (twoOctets c)
+two-octets c l h = lead-tail _ _ (omega arith) (omega arith) (omega arith) (omega arith)
 
 -- Three octets, by the row of the grammar.
 module _ (c : ℕ) where
-  first-E0 : 0x800 ≤ c → c < 0x1000 → UTF8-char (three c)
+  first-E0 : 0x800 ≤ c → c < 0x1000 → UTF8-char (threeOctets c)
   first-E0 l h =
       right (right (left (left (octet-in 0xE0 0xE0 (0xE0 + c / 4096) (omega arith) (omega arith) ⨾
       octet-in 0xA0 0xBF (0x80 + c / 64 % 64) (omega arith) (omega arith) ⨾ tail c))))
 
-  first-E1 : 0x1000 ≤ c → c < 0xD000 → UTF8-char (three c)
+  first-E1 : 0x1000 ≤ c → c < 0xD000 → UTF8-char (threeOctets c)
   first-E1 l h = right (right (left (right (left (octet-in 0xE1 0xEC (0xE0 + c / 4096) (omega arith) (omega arith) ⨾ tail (c / 64) ⨾ tail c)))))
 
-  first-ED : 0xD000 ≤ c → c < 0xD800 → UTF8-char (three c)
+  first-ED : 0xD000 ≤ c → c < 0xD800 → UTF8-char (threeOctets c)
   first-ED l h =
       right (right (left (right (right (left (octet-in 0xED 0xED (0xE0 + c / 4096) (omega arith) (omega arith) ⨾
       octet-in 0x80 0x9F (0x80 + c / 64 % 64) (omega arith) (omega arith) ⨾ tail c))))))
 
-  first-EE : 0xE000 ≤ c → c < 0x10000 → UTF8-char (three c)
+  first-EE : 0xE000 ≤ c → c < 0x10000 → UTF8-char (threeOctets c)
   first-EE l h = right (right (left (right (right (right (octet-in 0xEE 0xEF (0xE0 + c / 4096) (omega arith) (omega arith) ⨾ tail (c / 64) ⨾ tail c))))))
 
-  three-octets : 0x800 ≤ c → c < 0x10000 → within 0xD800 0xDFFF c ≡ false → UTF8-char (three c)
+  three-octets : 0x800 ≤ c → c < 0x10000 → within 0xD800 0xDFFF c ≡ false → UTF8-char (threeOctets c)
   three-octets l h e = go (le-or-lt 0x1000 c) (le-or-lt 0xD000 c) (outside 0xD800 0xDFFF c e)
     where
-      go : (0x1000 ≤ c) ⊎ (c < 0x1000) → (0xD000 ≤ c) ⊎ (c < 0xD000) → (c < 0xD800) ⊎ (0xDFFF < c) → UTF8-char (three c)
+      go : (0x1000 ≤ c) ⊎ (c < 0x1000) → (0xD000 ≤ c) ⊎ (c < 0xD000) → (c < 0xD800) ⊎ (0xDFFF < c) → UTF8-char (threeOctets c)
       go (inr p) o n = first-E0 l p
       go (inl p) (inr q) n = first-E1 p q
       go (inl p) (inl q) (inl n) = first-ED q n
@@ -102,24 +96,24 @@ module _ (c : ℕ) where
 
 -- Four octets, by the row of the grammar.
 module _ (c : ℕ) where
-  first-F0 : 0x10000 ≤ c → c < 0x40000 → UTF8-char (four c)
+  first-F0 : 0x10000 ≤ c → c < 0x40000 → UTF8-char (fourOctets c)
   first-F0 l h =
       right (right (right (left (octet-in 0xF0 0xF0 (0xF0 + c / 262144) (omega arith) (omega arith) ⨾
       octet-in 0x90 0xBF (0x80 + c / 4096 % 64) (omega arith) (omega arith) ⨾ tail (c / 64) ⨾ tail c))))
 
-  first-F1 : 0x40000 ≤ c → c < 0x100000 → UTF8-char (four c)
+  first-F1 : 0x40000 ≤ c → c < 0x100000 → UTF8-char (fourOctets c)
   first-F1 l h =
       right (right (right (right (left (octet-in 0xF1 0xF3 (0xF0 + c / 262144) (omega arith) (omega arith) ⨾ tail (c / 4096) ⨾ tail (c / 64) ⨾ tail c)))))
 
-  first-F4 : 0x100000 ≤ c → c < 0x110000 → UTF8-char (four c)
+  first-F4 : 0x100000 ≤ c → c < 0x110000 → UTF8-char (fourOctets c)
   first-F4 l h =
       right (right (right (right (right (octet-in 0xF4 0xF4 (0xF0 + c / 262144) (omega arith) (omega arith) ⨾
       octet-in 0x80 0x8F (0x80 + c / 4096 % 64) (omega arith) (omega arith) ⨾ tail (c / 64) ⨾ tail c)))))
 
-  four-octets : 0x10000 ≤ c → c < 0x110000 → UTF8-char (four c)
+  four-octets : 0x10000 ≤ c → c < 0x110000 → UTF8-char (fourOctets c)
   four-octets l h = go (le-or-lt 0x40000 c) (le-or-lt 0x100000 c)
     where
-      go : (0x40000 ≤ c) ⊎ (c < 0x40000) → (0x100000 ≤ c) ⊎ (c < 0x100000) → UTF8-char (four c)
+      go : (0x40000 ≤ c) ⊎ (c < 0x40000) → (0x100000 ≤ c) ⊎ (c < 0x100000) → UTF8-char (fourOctets c)
       go (inr p) o = first-F0 l p
       go (inl p) (inr q) = first-F1 p q
       go (inl p) (inl q) = first-F4 q h
@@ -159,20 +153,20 @@ utf8-once c d = by-form (λ l. l ≡ utf8 d → c ≡ d) c ones twos threes four
         by-form (λ m. c ∷ [] ≡ m → c ≡ d) d (λ l e. let p = ap (λ m. getD m 0 0) e in omega arith) (λ l u e. let n = ap length e in omega arith)
         (λ l u e. let n = ap length e in omega arith) (λ l e. let n = ap length e in omega arith)
 
-    twos : 0x80 ≤ c → c < 0x800 → two c ≡ utf8 d → c ≡ d
+    twos : 0x80 ≤ c → c < 0x800 → twoOctets c ≡ utf8 d → c ≡ d
     twos h i =
-        by-form (λ m. two c ≡ m → c ≡ d) d (λ l e. let n = ap length e in omega arith)
+        by-form (λ m. twoOctets c ≡ m → c ≡ d) d (λ l e. let n = ap length e in omega arith)
         (λ l u e. let p = ap (λ m. getD m 0 0) e in let q = ap (λ m. getD m 1 0) e in omega arith)
         (λ l u e. let n = ap length e in omega arith) (λ l e. let n = ap length e in omega arith)
 
-    threes : 0x800 ≤ c → c < 0x10000 → three c ≡ utf8 d → c ≡ d
+    threes : 0x800 ≤ c → c < 0x10000 → threeOctets c ≡ utf8 d → c ≡ d
     threes h i =
-        by-form (λ m. three c ≡ m → c ≡ d) d (λ l e. let n = ap length e in omega arith) (λ l u e. let n = ap length e in omega arith)
+        by-form (λ m. threeOctets c ≡ m → c ≡ d) d (λ l e. let n = ap length e in omega arith) (λ l u e. let n = ap length e in omega arith)
         (λ l u e. same-two c d (without 0xE0 _ _ (ap (λ m. getD m 0 0) e)) (without 0x80 _ _ (ap (λ m. getD m 1 0) e)) (without 0x80 _ _ (ap (λ m. getD m 2 0) e)))
         (λ l e. let n = ap length e in omega arith)
 
-    fours : 0x10000 ≤ c → four c ≡ utf8 d → c ≡ d
+    fours : 0x10000 ≤ c → fourOctets c ≡ utf8 d → c ≡ d
     fours h =
-        by-form (λ m. four c ≡ m → c ≡ d) d (λ l e. let n = ap length e in omega arith) (λ l u e. let n = ap length e in omega arith)
+        by-form (λ m. fourOctets c ≡ m → c ≡ d) d (λ l e. let n = ap length e in omega arith) (λ l u e. let n = ap length e in omega arith)
         (λ l u e. let n = ap length e in omega arith)
         (λ l e. same-three c d (without 0xF0 _ _ (ap (λ m. getD m 0 0) e)) (without 0x80 _ _ (ap (λ m. getD m 1 0) e)) (without 0x80 _ _ (ap (λ m. getD m 2 0) e)) (without 0x80 _ _ (ap (λ m. getD m 3 0) e)))

@@ -10,19 +10,14 @@ use Rattle.ground.specs.Ascii.{ascii}
 use Rattle.ground.specs.Choice.{pick}
 use Rattle.ground.proofs.Cases.{clash}
 use Rattle.text_places.specs.Places.{same}
-use Rattle.json_grammar.specs.Grammar.{Meaning, text, other}
-use Rattle.json_grammar.specs.Reader.{Out, got, bad, andThen, skip, structural, charsFrom, stringOf, pastWord, jsonNumber, asText, asOther, flatOf, afterItem, itemsOf, insideOf, enclosedOf, Item, item, memberOf, nestedOf, valueOf, membersOf}
-use Rattle.json_grammar.specs.Members.{Found, missing, found, orEarlier, lastOf}
+use Rattle.json_grammar.specs.Grammar.{Meaning, other}
+use Rattle.json_grammar.specs.Reader.{Out, got, bad, andThen, skip, structural, charsFrom, stringOf, pastWord, jsonNumber, asText, asOther, flatOf, afterItem, itemsOf, insideOf, enclosedOf, Item, item, memberOf, nestedOf, valueOf, membersOf, Found, missing, found, orEarlier, lastOf}
+use Rattle.json_grammar.specs.Onward.{Texted, EndsIn, Standing, Each, each-none, each-one}
 use Rattle.json_grammar.proofs.Took.{Took, and-got, same-value, same-rest, never-bad, skip-took, structural-took}
 use Rattle.json_grammar.proofs.StringsTook.{string-took}
 use Rattle.json_grammar.proofs.ValuesTook.{word-took, value-took, all-read}
 
 -- A value that begins with a quotation mark is a string, and no other is.
-pub record Texted (l : List ℕ) (m : Meaning) (r : List ℕ) : Type 0 where
-  pub bytes : List ℕ
-  pub is : m ≡ text bytes
-  pub chars : charsFrom 0 l ≡ got bytes r
-
 as-text : (l : List ℕ) {m : Meaning} {r : List ℕ} → asText (charsFrom 0 l) ≡ got m r → Texted l m r
 as-text l e =
     let t = and-got (charsFrom 0 l) e in
@@ -126,25 +121,11 @@ last-later k items i = after k items i ∙ pick-found (same (i .named .key) k) i
         ∙ earlier-again (pick (same (i .named .key) k) (found i) missing) (lastOf k items) (pick (same (j .named .key) k) (found j) missing)
 
 -- Where a member's value stands in the whole text.
-pub record Within (s l : List ℕ) : Type 0 where
-  pub front : List ℕ
-  pub cut : s ≡ front ++ l
-
-pub within-all : (s : List ℕ) → Within s s
+pub within-all : (s : List ℕ) → EndsIn s s
 within-all s = record { front = []; cut = refl }
 
-within-took : {A : List ℕ → Type 0} {s l r : List ℕ} → Within s l → Took A l r → Within s r
+within-took : {A : List ℕ → Type 0} {s l r : List ℕ} → EndsIn s l → Took A l r → EndsIn s r
 within-took {r = r} w t = record { front = w .front ++ t .part; cut = w .cut ∙ ap (λ x. w .front ++ x) (t .cut) ∙ sym (append-assoc (w .front) (t .part) r) }
-
--- the value that an item names is read where its text starts
-pub record Standing (depth : ℕ) (s : List ℕ) (i : Item) : Type 0 where
-  pub within : Within s (i .onward)
-  pub rest : List ℕ
-  pub valued : valueOf depth (i .onward) ≡ got (i .named .value) rest
-
-pub data Each (P : Item → Type 0) : List Item → Type 0 where
-  each-none : Each P []
-  each-one : {i : Item} {items : List Item} → P i → Each P items → Each P (i ∷ items)
 
 module _ (depth : ℕ) (s : List ℕ) where
   standing-as : {i j : Item} → i ≡ j → Standing depth s i → Standing depth s j
@@ -153,29 +134,29 @@ module _ (depth : ℕ) (s : List ℕ) where
   each-as : {a b : List Item} → a ≡ b → Each (Standing depth s) a → Each (Standing depth s) b
   each-as e t = rw e at t
 
-  within-as : {a b : List ℕ} → a ≡ b → Within s a → Within s b
+  within-as : {a b : List ℕ} → a ≡ b → EndsIn s a → EndsIn s b
   within-as e t = rw e at t
 
   -- a member's value, and what is left after it
-  member-stands : (l : List ℕ) (i : Item) (r : List ℕ) → Within s l → memberOf (valueOf depth) l ≡ got i r → Standing depth s i × Within s r
+  member-stands : (l : List ℕ) (i : Item) (r : List ℕ) → EndsIn s l → memberOf (valueOf depth) l ≡ got i r → Standing depth s i × EndsIn s r
   unfolding memberOf
   member-stands l i r w e =
       let t = and-got (stringOf l) e in
       let u = and-got (structural 0x3A (t .left-over)) (t .goes) in
       let v = and-got (valueOf depth (u .left-over)) (u .goes) in
-      let named : Within s (t .left-over) = within-took w (string-took l (t .reads)) in
-      let onward : Within s (u .left-over) = within-took named (structural-took 0x3A (t .left-over) (u .reads)) in
-      let left : Within s (v .left-over) = within-took onward (value-took depth (u .left-over) (v .first) (v .left-over) (v .reads)) in
+      let named : EndsIn s (t .left-over) = within-took w (string-took l (t .reads)) in
+      let onward : EndsIn s (u .left-over) = within-took named (structural-took 0x3A (t .left-over) (u .reads)) in
+      let left : EndsIn s (v .left-over) = within-took onward (value-took depth (u .left-over) (v .first) (v .left-over) (v .reads)) in
       (standing-as (same-value (v .goes)) (record { within = onward; rest = v .left-over; valued = v .reads }), within-as (same-rest (v .goes)) left)
 
-  skip-within : (l : List ℕ) → Within s l → Within s (skip l)
+  skip-within : (l : List ℕ) → EndsIn s l → EndsIn s (skip l)
   skip-within l w = within-took w (skip-took l)
 
-  tail-within : (x : ℕ) (l : List ℕ) → Within s (x ∷ l) → Within s l
+  tail-within : (x : ℕ) (l : List ℕ) → EndsIn s (x ∷ l) → EndsIn s l
   tail-within x l w = record { front = w .front ++ (x ∷ []); cut = w .cut ∙ sym (append-assoc (w .front) (x ∷ []) l) }
 
-  after-stands : (i : Item) (more : List ℕ → Out (List Item)) (xs : List Item) (r l : List ℕ) → Standing depth s i → Within s l →
-      ((q : List ℕ) (ys : List Item) (t : List ℕ) → Within s q → more q ≡ got ys t → Each (Standing depth s) ys) → afterItem 0x7D i more l ≡ got xs r → Each (Standing depth s) xs
+  after-stands : (i : Item) (more : List ℕ → Out (List Item)) (xs : List Item) (r l : List ℕ) → Standing depth s i → EndsIn s l →
+      ((q : List ℕ) (ys : List Item) (t : List ℕ) → EndsIn s q → more q ≡ got ys t → Each (Standing depth s) ys) → afterItem 0x7D i more l ≡ got xs r → Each (Standing depth s) xs
   unfolding afterItem
   after-stands i more xs r [] t w again e = never-bad e
   after-stands i more xs r (y ∷ l) t w again e = go (eqb y 0x2C) (eqb y 0x7D) e
@@ -187,7 +168,7 @@ module _ (depth : ℕ) (s : List ℕ) where
       go false true f = each-as (same-value f) (each-one t each-none)
       go false false f = never-bad f
 
-  items-stand : (n : ℕ) (l : List ℕ) (xs : List Item) (r : List ℕ) → Within s l → itemsOf (memberOf (valueOf depth)) 0x7D n l ≡ got xs r → Each (Standing depth s) xs
+  items-stand : (n : ℕ) (l : List ℕ) (xs : List Item) (r : List ℕ) → EndsIn s l → itemsOf (memberOf (valueOf depth)) 0x7D n l ≡ got xs r → Each (Standing depth s) xs
   unfolding itemsOf
   items-stand zero l xs r w e = never-bad e
   items-stand (suc n) l xs r w e =
@@ -196,7 +177,7 @@ module _ (depth : ℕ) (s : List ℕ) where
       after-stands (t .first) (itemsOf (memberOf (valueOf depth)) 0x7D n) xs r (skip (t .left-over)) m (skip-within (t .left-over) left)
       (λ q ys z v f. items-stand n q ys z v f) (t .goes)
 
-  inside-stands : (l : List ℕ) (xs : List Item) (r : List ℕ) → Within s l → insideOf (memberOf (valueOf depth)) 0x7D l ≡ got xs r → Each (Standing depth s) xs
+  inside-stands : (l : List ℕ) (xs : List Item) (r : List ℕ) → EndsIn s l → insideOf (memberOf (valueOf depth)) 0x7D l ≡ got xs r → Each (Standing depth s) xs
   unfolding insideOf
   inside-stands [] xs r w e = never-bad e
   inside-stands (y ∷ l) xs r w e = go (eqb y 0x7D) e
@@ -205,7 +186,7 @@ module _ (depth : ℕ) (s : List ℕ) where
       go true f = each-as (same-value f) each-none
       go false f = items-stand (length (y ∷ l)) (y ∷ l) xs r w f
 
-  object-stands : (l : List ℕ) (xs : List Item) (r : List ℕ) → Within s l → enclosedOf (memberOf (valueOf depth)) 0x7B 0x7D l ≡ got xs r → Each (Standing depth s) xs
+  object-stands : (l : List ℕ) (xs : List Item) (r : List ℕ) → EndsIn s l → enclosedOf (memberOf (valueOf depth)) 0x7B 0x7D l ≡ got xs r → Each (Standing depth s) xs
   unfolding enclosedOf
   object-stands [] xs r w e = never-bad e
   object-stands (y ∷ l) xs r w e = go (eqb y 0x7B) e

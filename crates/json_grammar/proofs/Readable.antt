@@ -10,9 +10,9 @@ use Rattle.ground.proofs.Cases.{clash}
 use Rattle.text_places.specs.Places.{same}
 use Rattle.text_places.proofs.PlaceLaws.{same-equal, same-refl}
 use Rattle.json_grammar.specs.Grammar.{Meaning, Named, JsonText}
-use Rattle.json_grammar.specs.Reader.{got, bad, Item, membersOf}
-use Rattle.json_grammar.specs.Members.{Unnamed, nobody, nor, Last, this, later, Found, missing, found, orEarlier, lastOf}
-use Rattle.json_grammar.proofs.ValuesTook.{names, json-took}
+use Rattle.json_grammar.specs.Members.{Unnamed, nobody, nor, Last, this, later}
+use Rattle.json_grammar.specs.Reader.{got, bad, Item, membersOf, names, Found, missing, found, orEarlier, lastOf}
+use Rattle.json_grammar.proofs.ValuesTook.{json-took}
 use Rattle.json_grammar.proofs.ValuesAll.{json-all}
 
 -- a text is read exactly where it is a JSON text
@@ -26,7 +26,18 @@ members-are s {items} {ms} e j = let (xs, n, f) = json-all j in let same-items :
 pub unreadable : (s : List ℕ) {ms : List Named} → membersOf s ≡ bad → JsonText s ms → ⊥
 unreadable s e j = let (xs, n, f) = json-all j in let z : _≡_ {A = ℕ} 0 1 = cc in omega arith
 
--- The last member with a name.
+-- The last member with a name. There is one such value at most
+pub unnamed-none : {k : List ℕ} {m : Meaning} {ns : List Named} → Unnamed k ns → Last k m ns → ⊥
+unnamed-none (nor f u) (this e v w) = f e
+unnamed-none (nor f u) (later l) = unnamed-none u l
+
+pub last-once : {k : List ℕ} {m o : Meaning} {ns : List Named} → Last k m ns → Last k o ns → m ≡ o
+last-once (this e v w) (this f x y) = sym v ∙ x
+last-once (this e v w) (later l) = absurd (unnamed-none w l)
+last-once (later l) (this e v w) = absurd (unnamed-none w l)
+last-once (later l) (later o) = last-once l o
+
+-- The reader finds it.
 not-named : (k l : List ℕ) → same l k ≡ false → l ≡ k → ⊥
 not-named k l q e = clash (ap (λ x. same x k) e ∙ same-refl k) q
 
@@ -53,17 +64,6 @@ found-last k (i ∷ items) {j} e = go (lastOf k items) refl (same (i .named .key
         let is : i ≡ j = cc in
         this (same-equal (i .named .key) k q) (ap (λ x. x .named .value) is) (missing-unnamed k items p)
     go missing p false q again g = absurd (let z : _≡_ {A = ℕ} 0 1 = cc in omega arith)
-
--- there is one such value at most
-unnamed-none : {k : List ℕ} {m : Meaning} {ns : List Named} → Unnamed k ns → Last k m ns → ⊥
-unnamed-none (nor f u) (this e v w) = f e
-unnamed-none (nor f u) (later l) = unnamed-none u l
-
-last-once : {k : List ℕ} {m o : Meaning} {ns : List Named} → Last k m ns → Last k o ns → m ≡ o
-last-once (this e v w) (this f x y) = sym v ∙ x
-last-once (this e v w) (later l) = absurd (unnamed-none w l)
-last-once (later l) (this e v w) = absurd (unnamed-none w l)
-last-once (later l) (later o) = last-once l o
 
 -- "the last member named k has the value m" is what the reader answers
 pub last-found : (k : List ℕ) (items : List Item) {m : Meaning} → Last k m (names items) → (j : Item) × (lastOf k items ≡ found j) × (j .named .value ≡ m)

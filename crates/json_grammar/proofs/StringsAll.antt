@@ -110,13 +110,13 @@ record CharRead (a v r : List ℕ) : Type 0 where
 
 char-all : {a v : List ℕ} → Grammar.Char a v → (r : List ℕ) → CharRead a v r
 char-all (Grammar.unescaped-low x e) r =
-    let w = within-both 0x20 0x21 x e in
+    let w = within-both _ _ x e in
     record { n = 0; size = refl; reads = plain x r (λ q. omega arith) (λ q. omega arith) (omega arith) (omega arith) }
 char-all (Grammar.unescaped-middle x e) r =
-    let w = within-both 0x23 0x5B x e in
+    let w = within-both _ _ x e in
     record { n = 0; size = refl; reads = plain x r (λ q. omega arith) (λ q. omega arith) (omega arith) (omega arith) }
 char-all (Grammar.unescaped-high x e) r =
-    let w = within-both 0x5D 0xFF x e in
+    let w = within-both _ _ x e in
     record { n = 0; size = refl; reads = plain x r (λ q. omega arith) (λ q. omega arith) (omega arith) (omega arith) }
 char-all (Grammar.short s) r = record { n = 1; size = refl; reads = short-reads s r }
 char-all (Grammar.plane c n) r = record { n = 5; size = four-length c; reads = plane-reads c n r }

@@ -240,9 +240,9 @@ unescaped x p q e = go (le-or-lt x 0x21) (le-or-lt x 0x5B)
     b = within-both 0x20 0xFF x e
 
     go : (x ≤ 0x21) ⊎ (0x21 < x) → (x ≤ 0x5B) ⊎ (0x5B < x) → Grammar.Char (x ∷ []) (x ∷ [])
-    go (inl h) o = Grammar.unescaped-low x (within-yes 0x20 0x21 x (b .0) h)
-    go (inr h) (inl k) = Grammar.unescaped-middle x (within-yes 0x23 0x5B x (let n = eqb-false x 0x22 p in omega arith) k)
-    go (inr h) (inr k) = Grammar.unescaped-high x (within-yes 0x5D 0xFF x (let n = eqb-false x 0x5C q in omega arith) (b .1))
+    go (inl h) o = Grammar.unescaped-low x (within-yes _ _ x (omega (arith, b .0)) (omega arith))
+    go (inr h) (inl k) = Grammar.unescaped-middle x (within-yes _ _ x (let n = eqb-false x 0x22 p in omega arith) (omega arith))
+    go (inr h) (inr k) = Grammar.unescaped-high x (within-yes _ _ x (let n = eqb-false x 0x5C q in omega arith) (omega (arith, b .1)))
 
 pub piece-took : (s v : List ℕ) (n : ℕ) → pieceOf s ≡ stands v n → CharTook s v n
 unfolding pieceOf

@@ -6,7 +6,7 @@ use Prim.Native.Nat.{ℕ}
 use native.Mathlib.Omega.{arith}
 use Rattle.ground.specs.Abnf.{Octet, _⊹_, _∣_, Opt, Star, octet, _⨾_, left, right, absent, present, none, more}
 use Rattle.ground.specs.Choice.{pick, either, within}
-use Rattle.ground.proofs.Cases.{clash}
+use Rattle.ground.proofs.Cases.{clash, within-yes, within-both}
 use Rattle.json_grammar.specs.Grammar
 use Rattle.json_grammar.specs.Reader.{pastAll, Out, got, bad, andThen, isWs, skip, oneOf, structural, isDigit, pastDigits, digits, optional, int, isMinus, isSign, past, isPoint, isE, frac, jsonNumber}
 
@@ -119,7 +119,9 @@ int-took (x ∷ s) {y} {r} e = go (within 0x30 0x30 x) refl (within 0x31 0x39 x)
     go : (a : Bool) → within 0x30 0x30 x ≡ a → (b : Bool) → within 0x31 0x39 x ≡ b →
         pick a (got x s) (pick b (got x (pastDigits s)) bad) ≡ got y r → Took Grammar.Int (x ∷ s) r
     go true p b q f = took-to (same-rest f) (took-here (left (octet x p)))
-    go false p true q f = took-as (λ a i. right i) (took-cat (took-here (octet x q)) (took-to (same-rest f) (past-digits-took s)))
+    go false p true q f =
+        let w = within-both 0x31 0x39 x q in
+        took-as (λ a i. right i) (took-cat (took-here (octet x (within-yes _ _ x (omega arith) (omega arith)))) (took-to (same-rest f) (past-digits-took s)))
     go false p false q f = never-bad f
 
 past-took : (A : List ℕ → Type 0) (p : ℕ → Bool) (s : List ℕ) → ((x : ℕ) → p x ≡ true → A (x ∷ [])) → Took (Opt A) s (past p s)

@@ -5,7 +5,7 @@ use mathlib.Core.List.{List, [], _∷_, _++_, append-assoc, append-nil, map}
 use Prim.Native.Nat.{ℕ, zero, suc, _≤_, _<_}
 use native.Mathlib.Omega.{arith}
 use lib.Dec.{eqb, lit<}
-use lib.ListN.{length, length-append}
+use lib.ListN.{length}
 use borrow.Author.Tests.{ne-eqb, eq-eqb, eqb-true}
 use Rattle.ground.specs.Abnf.{octet, _⨾_, left, right, absent, present, exactly, none, more}
 use Rattle.ground.specs.Ascii.{ascii}
@@ -13,10 +13,11 @@ use Rattle.ground.specs.Choice.{pick, within}
 use Rattle.ground.proofs.Cases.{within-both, within-high}
 use Rattle.json_grammar.specs.Grammar
 use Rattle.json_grammar.specs.Grammar.{Meaning, other, Named}
-use Rattle.json_grammar.specs.Reader.{pastAll, Out, got, bad, andThen, isWs, skip, structural, past, int, jsonNumber, stringOf, pastWord, flatOf, afterItem, itemsOf, insideOf, enclosedOf, Item, item, memberOf, nestedOf, valueOf, allRead, membersOf}
-use Rattle.json_grammar.proofs.Took.{Took, and-got, same-rest, never-bad, structural-took}
-use Rattle.json_grammar.proofs.StringsTook.{string-took}
-use Rattle.json_grammar.proofs.ValuesTook.{value-took, names, skip-twice}
+use Rattle.json_grammar.specs.Reader.{pastAll, Out, got, bad, andThen, isWs, skip, structural, past, int, jsonNumber, stringOf, pastWord, flatOf, afterItem, itemsOf, insideOf, enclosedOf, Item, item, memberOf, nestedOf, valueOf, allRead, membersOf, names}
+use Rattle.json_grammar.proofs.Took.{Took, never-bad}
+use Rattle.json_grammar.proofs.ValuesTook.{Between, member-took, value-took, skip-twice}
+use Rattle.json_grammar.proofs.Items.{took-shorter, skip-shorter}
+use Rattle.json_grammar.proofs.Onward.{no-value}
 use Rattle.json_grammar.proofs.All.{isStop, stops, skip-past, skip-none, structural-stands, structural-all, number-all}
 use Rattle.json_grammar.proofs.StringsAll.{string-all}
 
@@ -107,20 +108,11 @@ structural-stops x s (_⨾_ (more (right (right (right (octet y e)))) w) v) r = 
 list-cons : {A : Type 0} {x y : A} {xs ys : List A} → x ≡ y → xs ≡ ys → x ∷ xs ≡ y ∷ ys
 list-cons e g = cc
 
-skip-shrinks : (s : List ℕ) → length (skip s) ≤ length s
-unfolding pastAll
-skip-shrinks [] = omega arith
-skip-shrinks (x ∷ s) = go (isWs x) (skip-shrinks s)
-  where
-    go : (b : Bool) → length (skip s) ≤ length s → length (pick b (skip s) (x ∷ s)) ≤ suc (length s)
-    go true h = omega arith
-    go false h = omega arith
-
 -- Items and what encloses them, over any reader of an item that reads all of a kind. `f` is what the grammar says of an item.
 module _
     {X Y : Type 0} (f : X → Y) (P : List ℕ → Y → Type 0) (p : List ℕ → Out X) (closing : ℕ)
     (item-all : (a : List ℕ) (y : Y) → P a y → (r : List ℕ) → stops r ≡ true → (x : X) × (f x ≡ y) × ReadAll p a r x)
-    (item-shrinks : (s : List ℕ) (x : X) (r : List ℕ) → p s ≡ got x r → length r ≤ length s)
+    (item-shorter : (s : List ℕ) (x : X) (r : List ℕ) → p s ≡ got x r → length r ≤ length s)
     (item-empty : p [] ≡ bad) (item-closing : (t : List ℕ) → p (closing ∷ t) ≡ bad)
     (closing-dark : isWs closing ≡ false) (closing-stops : isStop closing ≡ true) (closing-other : eqb closing 0x2C ≡ false) where
   -- the fuel holds out: something is there to read
@@ -176,7 +168,7 @@ module _
       go (suc n) x e d h z =
           let s = structural-stands 0x2C refl k (b ++ l) in
           let seen : skip (d .rest) ≡ 0x2C ∷ s .tail = d .leaves ∙ s .seen in
-          let shorter : length (skip (b ++ l)) ≤ n = rw (← s .leaves) (omega (arith, skip-shrinks (s .tail), skip-shrinks (d .rest), ap length seen, item-shrinks (skip (a ++ (c ++ (b ++ l)))) x (d .rest) (d .reads))) in
+          let shorter : length (skip (b ++ l)) ≤ n = rw (← s .leaves) (omega (arith, skip-shorter (s .tail), skip-shorter (d .rest), ap length seen, item-shorter (skip (a ++ (c ++ (b ++ l)))) x (d .rest) (d .reads))) in
           let (xs, g, o) = again n shorter in (
             x ∷ xs,
             list-cons e g,
@@ -214,7 +206,7 @@ module _
     unfolding enclosedOf
     opened l t m e g = ap (enclosedOf p opening closing) e ∙ rw (eq-eqb opening opening refl, g)
 
-    pub enclosed-all : {a : List ℕ} {ys : List Y} → Grammar.Enclosed opening closing P a ys → (r : List ℕ) → Done ys r (enclosedOf p opening closing (skip (a ++ r)))
+    pub enclosed-all : {a : List ℕ} {ys : List Y} → Between opening closing P a ys → (r : List ℕ) → Done ys r (enclosedOf p opening closing (skip (a ++ r)))
     enclosed-all (Grammar.empty {a = a} {b = b} o c) r =
         let s = structural-stands opening opening-dark o (b ++ r) in
         let t = structural-stands closing closing-dark c r in (
@@ -258,39 +250,30 @@ member-all Inner inner inner-all a n (Grammar.member {a = s} {c = c} {b = b} {n 
     )
 
 -- Values, level by level.
-took-shrinks : {A : List ℕ → Type 0} {s r : List ℕ} → Took A s r → length r ≤ length s
-took-shrinks {s = s} {r = r} t = omega (arith, ap length (t .cut), length-append (t .part) r)
-
 -- a reader of values that reads all of a kind
 record Reader (Inner : List ℕ → Meaning → Type 0) (inner : List ℕ → Out Meaning) : Type 0 where
   all : (a : List ℕ) (m : Meaning) → Inner a m → (r : List ℕ) → stops r ≡ true → ReadAll inner a r m
-  shrinks : (s : List ℕ) (m : Meaning) (r : List ℕ) → inner s ≡ got m r → length r ≤ length s
+  took : (s : List ℕ) (m : Meaning) (r : List ℕ) → inner s ≡ got m r → Took (λ a. Inner a m) s r
   empty : inner [] ≡ bad
   closing : (t : List ℕ) → inner (0x5D ∷ t) ≡ bad
 
 module _ (Inner : List ℕ → Meaning → Type 0) (inner : List ℕ → Out Meaning) (k : Reader Inner inner) where
-  member-shrinks : (s : List ℕ) (i : Item) (r : List ℕ) → memberOf inner s ≡ got i r → length r ≤ length s
-  unfolding memberOf
-  member-shrinks s i r e =
-      let t = and-got (stringOf s) e in
-      let u = and-got (structural 0x3A (t .left-over)) (t .goes) in
-      let w = and-got (inner (u .left-over)) (u .goes) in
-      let l1 = took-shrinks (string-took s (t .reads)) in
-      let l2 = took-shrinks (structural-took 0x3A (t .left-over) (u .reads)) in
-      let l3 = k .shrinks (u .left-over) (w .first) (w .left-over) (w .reads) in
-      let l4 = ap length (same-rest (w .goes)) in
-      omega arith
+  inner-shorter : (s : List ℕ) (m : Meaning) (r : List ℕ) → inner s ≡ got m r → length r ≤ length s
+  inner-shorter s m r e = took-shorter s r (k .took s m r e)
+
+  member-shorter : (s : List ℕ) (i : Item) (r : List ℕ) → memberOf inner s ≡ got i r → length r ≤ length s
+  member-shorter s i r e = took-shorter s r (member-took Inner inner (k .took) s i r e)
 
   object-all : {a : List ℕ} {ms : List Named} → Grammar.Object Inner a ms → (r : List ℕ) →
       (xs : List Item) × (map namedOf xs ≡ ms) × (enclosedOf (memberOf inner) 0x7B 0x7D (skip (a ++ r)) ≡ got xs (skip r))
   unfolding memberOf stringOf andThen
   object-all o r =
-      enclosed-all namedOf (Grammar.Member Inner) (memberOf inner) 0x7D (member-all Inner inner (k .all)) member-shrinks refl (λ t. refl) refl refl refl 0x7B refl o r
+      enclosed-all namedOf (Grammar.Member Inner) (memberOf inner) 0x7D (member-all Inner inner (k .all)) member-shorter refl (λ t. refl) refl refl refl 0x7B refl o r
 
   array-all : {a : List ℕ} {ms : List Meaning} → Grammar.Array Inner a ms → (r : List ℕ) →
       (xs : List Meaning) × (map (λ x. x) xs ≡ ms) × (enclosedOf inner 0x5B 0x5D (skip (a ++ r)) ≡ got xs (skip r))
   array-all o r =
-      enclosed-all (λ x. x) Inner inner 0x5D (λ a m v r e. (m, refl, k .all a m v r e)) (k .shrinks) (k .empty) (k .closing) refl refl refl 0x5B refl o r
+      enclosed-all (λ x. x) Inner inner 0x5D (λ a m v r e. (m, refl, k .all a m v r e)) inner-shorter (k .empty) (k .closing) refl refl refl 0x5B refl o r
 
   flat-nested : (x : ℕ) (s r : List ℕ) (m : Meaning) → eqb x 0x7B ≡ false → eqb x 0x5B ≡ false → flatOf (x ∷ s) ≡ got m r → nestedOf inner (x ∷ s) ≡ got m r
   unfolding nestedOf
@@ -305,7 +288,7 @@ module _ (Inner : List ℕ → Meaning → Type 0) (inner : List ℕ → Out Mea
   array-nested l t r xs e g = ap (nestedOf inner) e ∙ rw (sym (ap (enclosedOf inner 0x5B 0x5D) e) ∙ g)
 
   -- an enclosed part shows its opening character first
-  opens : {X : Type 0} {P : List ℕ → X → Type 0} (opening closing : ℕ) → isWs opening ≡ false → {a : List ℕ} {xs : List X} → Grammar.Enclosed opening closing P a xs → (r : List ℕ) →
+  opens : {X : Type 0} {P : List ℕ → X → Type 0} (opening closing : ℕ) → isWs opening ≡ false → {a : List ℕ} {xs : List X} → Between opening closing P a xs → (r : List ℕ) →
       (t : List ℕ) × (skip (a ++ r) ≡ opening ∷ t)
   opens opening closing n (Grammar.empty {a = a} {b = b} o c) r =
       let s = structural-stands opening n o (b ++ r) in
@@ -334,11 +317,6 @@ module _ (Inner : List ℕ → Meaning → Type 0) (inner : List ℕ → Out Mea
 flat-reads : (a : List ℕ) (m : Meaning) → Grammar.Flat a m → (r : List ℕ) → stops r ≡ true → ReadAll flatOf a r m
 flat-reads a m f r e = record { rest = r; reads = ap flatOf (flat-same (flat-first f) r) ∙ flat-all f r e; leaves = refl }
 
-no-value : (depth : ℕ) → valueOf depth [] ≡ bad
-unfolding valueOf flatOf nestedOf
-no-value zero = refl
-no-value (suc depth) = refl
-
 no-closing : (depth : ℕ) (t : List ℕ) → valueOf depth (0x5D ∷ t) ≡ bad
 unfolding valueOf flatOf nestedOf jsonNumber int past andThen
 no-closing zero t = refl
@@ -350,7 +328,7 @@ skip-empty = refl
 
 reader : (depth : ℕ) → ((a : List ℕ) (m : Meaning) → Grammar.Value depth a m → (r : List ℕ) → stops r ≡ true → ReadAll (valueOf depth) a r m) →
     Reader (Grammar.Value depth) (valueOf depth)
-reader depth all = record { all = all; shrinks = λ s m r e. took-shrinks (value-took depth s m r e); empty = no-value depth; closing = no-closing depth }
+reader depth all = record { all = all; took = value-took depth; empty = no-value depth; closing = no-closing depth }
 
 pub value-all : (depth : ℕ) (a : List ℕ) (m : Meaning) → Grammar.Value depth a m → (r : List ℕ) → stops r ≡ true → ReadAll (valueOf depth) a r m
 unfolding valueOf

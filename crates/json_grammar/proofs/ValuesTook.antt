@@ -1,7 +1,7 @@
 -- Sound: the values and members that the reader takes are those of the grammar. Assumes nothing.
 use mathlib.Core.Path.{_≡_, refl, sym, _∙_, ap}
 use mathlib.Core.Bool.{Bool, true, false}
-use mathlib.Core.List.{List, [], _∷_, _++_, append-assoc, map}
+use mathlib.Core.List.{List, [], _∷_, _++_, append-assoc}
 use Prim.Native.Nat.{ℕ, zero, suc}
 use native.Mathlib.Omega.{arith}
 use lib.Dec.{eqb}
@@ -12,10 +12,15 @@ use Rattle.ground.specs.Ascii.{ascii}
 use Rattle.ground.specs.Choice.{pick}
 use Rattle.ground.proofs.Cases.{within-yes}
 use Rattle.json_grammar.specs.Grammar
-use Rattle.json_grammar.specs.Grammar.{Meaning, other, Named}
-use Rattle.json_grammar.specs.Reader.{pastAll, Out, got, bad, andThen, isWs, skip, structural, jsonNumber, stringOf, pastWord, asText, asOther, flatOf, afterItem, itemsOf, insideOf, enclosedOf, Item, item, memberOf, nestedOf, valueOf, allRead, membersOf}
+use Rattle.json_grammar.specs.Grammar.{Meaning, other}
+use Rattle.json_grammar.specs.Reader.{pastAll, Out, got, bad, andThen, isWs, skip, structural, jsonNumber, stringOf, pastWord, asText, asOther, flatOf, afterItem, itemsOf, insideOf, enclosedOf, Item, item, memberOf, nestedOf, valueOf, allRead, membersOf, names}
 use Rattle.json_grammar.proofs.Took.{Took, took-as, took-to, took-cat, and-got, same-rest, same-value, never-bad, skip-took, structural-took, number-took}
+use Rattle.json_grammar.proofs.All.{skip-none}
 use Rattle.json_grammar.proofs.StringsTook.{string-took}
+
+-- what was taken, under another name for what it means
+meant-as : {X : Type 0} (A : List ℕ → X → Type 0) (s r : List ℕ) {m n : X} → m ≡ n → Took (λ a. A a m) s r → Took (λ a. A a n) s r
+meant-as A s r e t = rw e at t
 
 -- The values that nest nothing.
 pub word-took : (w s : List ℕ) {m : Meaning} {r : List ℕ} → pastWord w s ≡ got m r → (s ≡ w ++ r) × (other ≡ m)
@@ -28,13 +33,10 @@ word-took (c ∷ w) (x ∷ s) {m} {r} e = go (eqb x c) refl (λ f. word-took w s
     go true q again f = let (g, h) = again f in let y = eqb-true x c q in (cc, h)
     go false q again f = never-bad f
 
-flatly-as : (s r : List ℕ) {m n : Meaning} → m ≡ n → Took (λ a. Grammar.Flat a m) s r → Took (λ a. Grammar.Flat a n) s r
-flatly-as s r e t = rw e at t
-
 literal-took : (w s : List ℕ) {m : Meaning} {r : List ℕ} → ((a : List ℕ) → Exactly w a → Grammar.Literal-name a) → pastWord w s ≡ got m r → Took (λ a. Grammar.Flat a m) s r
 literal-took w s {m} {r} f e =
     let (c, o) = word-took w s e in
-    flatly-as s r o (record { part = w; cut = c; is = Grammar.name (f w exactly) })
+    meant-as Grammar.Flat s r o (record { part = w; cut = c; is = Grammar.name (f w exactly) })
 
 pub flat-took : (s : List ℕ) {m : Meaning} {r : List ℕ} → flatOf s ≡ got m r → Took (λ a. Grammar.Flat a m) s r
 unfolding flatOf
@@ -49,13 +51,13 @@ flat-took (x ∷ s) {m} {r} e = go (eqb x 0x22) (eqb x 0x66) (eqb x 0x6E) (eqb x
         Took (λ a. Grammar.Flat a m) l r
     go true b c d f =
         let t = and-got (stringOf l) f in
-        flatly-as l r (same-value (t .goes)) (took-to (same-rest (t .goes)) (took-as (λ a i. Grammar.string i) (string-took l (t .reads))))
+        meant-as Grammar.Flat l r (same-value (t .goes)) (took-to (same-rest (t .goes)) (took-as (λ a i. Grammar.string i) (string-took l (t .reads))))
     go false true c d f = literal-took (ascii "false") l (λ a i. left i) f
     go false false true d f = literal-took (ascii "null") l (λ a i. right (left i)) f
     go false false false true f = literal-took (ascii "true") l (λ a i. right (right i)) f
     go false false false false f =
         let t = and-got (jsonNumber l) f in
-        flatly-as l r (same-value (t .goes)) (took-to (same-rest (t .goes)) (took-as (λ a i. Grammar.number i) (number-took l (t .reads))))
+        meant-as Grammar.Flat l r (same-value (t .goes)) (took-to (same-rest (t .goes)) (took-as (λ a i. Grammar.number i) (number-took l (t .reads))))
 
 -- A structural character, where the reader has passed the ws before it.
 structural-here : (x : ℕ) (q t : List ℕ) (y : ℕ) → skip q ≡ y ∷ t → eqb y x ≡ true → Took (Grammar.Structural x) q (skip t)
@@ -72,6 +74,10 @@ skip-twice (x ∷ s) = go (isWs x) refl (skip-twice s)
     go : (b : Bool) → isWs x ≡ b → skip (skip s) ≡ skip s → skip (pick b (skip s) (x ∷ s)) ≡ pick b (skip s) (x ∷ s)
     go true e again = again
     go false e again = rw e
+
+-- what stands between two structural characters, by their octets
+abbrev pub Between : {X : Type 0} → ℕ → ℕ → (List ℕ → X → Type 0) → List ℕ → List X → Type 0
+Between opening closing P = Grammar.Enclosed (Grammar.Structural opening) (Grammar.Structural closing) P
 
 -- Items and what encloses them, over any reader of an item.
 module _ {X : Type 0} (P : List ℕ → X → Type 0) (p : List ℕ → Out X) (item-took : (s : List ℕ) (x : X) (r : List ℕ) → p s ≡ got x r → Took (λ a. P a x) s r) (closing : ℕ) where
@@ -134,20 +140,17 @@ module _ {X : Type 0} (P : List ℕ → X → Type 0) (p : List ℕ → Out X) (
 
   module _ (opening : ℕ) where
     enclosed-as : (s : List ℕ) {xs ys : List X} {r q : List ℕ} → xs ≡ ys → r ≡ q →
-        Took (λ a. Grammar.Enclosed opening closing P a xs) s r → Took (λ a. Grammar.Enclosed opening closing P a ys) s q
-    enclosed-as s {xs} {ys} {r} {q} e f t = took-to f (value t)
-      where
-        value : Took (λ a. Grammar.Enclosed opening closing P a xs) s r → Took (λ a. Grammar.Enclosed opening closing P a ys) s r
-        value u = rw e at u
+        Took (λ a. Between opening closing P a xs) s r → Took (λ a. Between opening closing P a ys) s q
+    enclosed-as s {r = r} e f t = took-to f (meant-as (Between opening closing P) s r e t)
 
-    empty-took : (s m r : List ℕ) → Took (Grammar.Structural opening) s m → Took (Grammar.Structural closing) m r → Took (λ a. Grammar.Enclosed opening closing P a []) s r
+    empty-took : (s m r : List ℕ) → Took (Grammar.Structural opening) s m → Took (Grammar.Structural closing) m r → Took (λ a. Between opening closing P a []) s r
     empty-took s m r o c = record {
       part = o .part ++ c .part;
       cut = o .cut ∙ ap (λ l. o .part ++ l) (c .cut) ∙ sym (append-assoc (o .part) (c .part) r);
       is = Grammar.empty (o .is) (c .is);
     }
 
-    filled-took : (s m : List ℕ) (xs : List X) (r : List ℕ) → Took (Grammar.Structural opening) s m → ItemsTook m xs r → Took (λ a. Grammar.Enclosed opening closing P a xs) s r
+    filled-took : (s m : List ℕ) (xs : List X) (r : List ℕ) → Took (Grammar.Structural opening) s m → ItemsTook m xs r → Took (λ a. Between opening closing P a xs) s r
     filled-took s m xs r o i = record {
       part = o .part ++ (i .items ++ i .close);
       cut =
@@ -156,30 +159,27 @@ module _ {X : Type 0} (P : List ℕ → X → Type 0) (p : List ℕ → Out X) (
     }
 
     inside-took : (s l : List ℕ) (xs : List X) (r : List ℕ) → Took (Grammar.Structural opening) s l → skip l ≡ l →
-        insideOf p closing l ≡ got xs r → Took (λ a. Grammar.Enclosed opening closing P a xs) s r
+        insideOf p closing l ≡ got xs r → Took (λ a. Between opening closing P a xs) s r
     unfolding insideOf
     inside-took s [] xs r o k e = never-bad e
     inside-took s (y ∷ t) xs r o k e = go (eqb y closing) refl e
       where
         go : (b : Bool) → eqb y closing ≡ b → pick b (got [] (skip t)) (itemsOf p closing (length (y ∷ t)) (y ∷ t)) ≡ got xs r →
-            Took (λ a. Grammar.Enclosed opening closing P a xs) s r
+            Took (λ a. Between opening closing P a xs) s r
         go true q f = enclosed-as s (same-value f) (same-rest f) (empty-took s (y ∷ t) (skip t) o (structural-here closing (y ∷ t) t y k q))
         go false q f = filled-took s (y ∷ t) xs r o (items-took (length (y ∷ t)) (y ∷ t) xs r f)
 
     pub enclosed-took : (s : List ℕ) (xs : List X) (r : List ℕ) → skip s ≡ s → enclosedOf p opening closing s ≡ got xs r →
-        Took (λ a. Grammar.Enclosed opening closing P a xs) s r
+        Took (λ a. Between opening closing P a xs) s r
     unfolding enclosedOf
     enclosed-took [] xs r k e = never-bad e
     enclosed-took (x ∷ s) xs r k e = go (eqb x opening) refl e
       where
-        go : (b : Bool) → eqb x opening ≡ b → pick b (insideOf p closing (skip s)) bad ≡ got xs r → Took (λ a. Grammar.Enclosed opening closing P a xs) (x ∷ s) r
+        go : (b : Bool) → eqb x opening ≡ b → pick b (insideOf p closing (skip s)) bad ≡ got xs r → Took (λ a. Between opening closing P a xs) (x ∷ s) r
         go true q f = inside-took (x ∷ s) (skip s) xs r (structural-here opening (x ∷ s) s x k q) (skip-twice s) f
         go false q f = never-bad f
 
 -- Members.
-member-as : (Inner : List ℕ → Meaning → Type 0) (s q : List ℕ) {n m : Named} → n ≡ m → Took (λ a. Grammar.Member Inner a n) s q → Took (λ a. Grammar.Member Inner a m) s q
-member-as Inner s q e t = rw e at t
-
 pub member-took :
     (Inner : List ℕ → Meaning → Type 0) (inner : List ℕ → Out Meaning) → ((s : List ℕ) (m : Meaning) (r : List ℕ) → inner s ≡ got m r → Took (λ a. Inner a m) s r) →
     (s : List ℕ) (i : Item) (r : List ℕ) → memberOf inner s ≡ got i r → Took (λ a. Grammar.Member Inner a (i .named)) s r
@@ -201,31 +201,24 @@ member-took Inner inner inner-took s i r e =
               ∙ sym (append-assoc (a .part) (b .part ++ c .part) q);
           is = Grammar.member (a .is) (b .is) (c .is);
         } in
-        took-to g (member-as Inner s q (ap (λ j. j .named) f) whole)
+        took-to g (meant-as (Grammar.Member Inner) s q (ap (λ j. j .named) f) whole)
 
 -- The names and meanings of items are what the grammar speaks of.
-abbrev pub names : List Item → List Named
-names items = map (λ i. i .named) items
-
 named-items : {Inner : List ℕ → Meaning → Type 0} {a : List ℕ} {items : List Item} →
     Grammar.Separated (λ b i. Grammar.Member Inner b (i .named)) a items → Grammar.Separated (Grammar.Member Inner) a (names items)
 named-items (Grammar.one m) = Grammar.one m
 named-items (Grammar.and m c s) = Grammar.and m c (named-items s)
 
 named-object : {Inner : List ℕ → Meaning → Type 0} {a : List ℕ} {items : List Item} →
-    Grammar.Enclosed 0x7B 0x7D (λ b i. Grammar.Member Inner b (i .named)) a items → Grammar.Object Inner a (names items)
+    Between 0x7B 0x7D (λ b i. Grammar.Member Inner b (i .named)) a items → Grammar.Object Inner a (names items)
 named-object (Grammar.empty o c) = Grammar.empty o c
 named-object (Grammar.filled o s c) = Grammar.filled o (named-items s) c
 
 -- where a character stands that is no ws, there is none to skip
 no-ws : (x : ℕ) (s : List ℕ) (c : ℕ) → eqb x c ≡ true → isWs c ≡ false → skip (x ∷ s) ≡ x ∷ s
-unfolding pastAll
-no-ws x s c e f = let is : isWs x ≡ false = ap isWs (eqb-true x c e) ∙ f in rw is
+no-ws x s c e f = skip-none x s (ap isWs (eqb-true x c e) ∙ f)
 
 -- Values, level by level.
-meant-as : (A : List ℕ → Meaning → Type 0) (s r : List ℕ) {m n : Meaning} → m ≡ n → Took (λ a. A a m) s r → Took (λ a. A a n) s r
-meant-as A s r e t = rw e at t
-
 nested-took :
     (Inner : List ℕ → Meaning → Type 0) (inner : List ℕ → Out Meaning) → ((s : List ℕ) (m : Meaning) (r : List ℕ) → inner s ≡ got m r → Took (λ a. Inner a m) s r) →
     (s : List ℕ) (m : Meaning) (r : List ℕ) → nestedOf inner s ≡ got m r → Took (λ a. Grammar.Nested Inner a m) s r

@@ -1,7 +1,7 @@
 -- What strings of well-formed UTF-8 text stand for is well-formed UTF-8. Assumes nothing.
 use mathlib.Core.Path.{_≡_, refl, sym, _∙_, ap}
 use mathlib.Core.Bool.{true, false}
-use mathlib.Core.List.{List, [], _∷_, _++_, append-nil, append-assoc}
+use mathlib.Core.List.{List, [], _∷_, _++_, append-assoc}
 use mathlib.Core.Logic.{_⊎_, inl, inr}
 use Prim.Native.Nat.{ℕ, _+_, _*_, _-_, _≤_, _<_}
 use native.Mathlib.Omega.{arith}
@@ -9,23 +9,13 @@ use Rattle.ground.specs.Abnf.{Kind, Octet, octet, _⊹_, _⨾_, _∣_, left, ri
 use Rattle.ground.specs.Choice.{within}
 use Rattle.ground.proofs.Cases.{within-both, within-high, le-or-lt}
 use Rattle.text_utf8.specs.Grammar.{UTF8-tail, UTF8-2, UTF8-3, UTF8-4, UTF8-char, UTF8-octets}
+use Rattle.text_utf8.proofs.Boundaries.{octets-as, char-octets, append-octets, ascii-octets, at-low, cut-octets, tail-octets}
 use Rattle.json_grammar.specs.Encode.{utf8}
 use Rattle.json_grammar.specs.Grammar
 use Rattle.json_grammar.specs.Reader.{got, charsFrom, stringOf}
 use Rattle.json_grammar.proofs.StringsTook.{string-took}
 use Rattle.json_grammar.proofs.StringsAll.{four}
-use Rattle.json_grammar.proofs.EncodeLaws.{one-octet, utf8-char}
-
-octets-as : {s t : List ℕ} → s ≡ t → UTF8-octets s → UTF8-octets t
-octets-as e o = rw e at o
-
-one-char : {a : List ℕ} → UTF8-char a → UTF8-octets a
-one-char {a} c = octets-as (append-nil a) (more c none)
-
--- one well-formed text after another
-pub octets-append : {a b : List ℕ} → UTF8-octets a → UTF8-octets b → UTF8-octets (a ++ b)
-octets-append none w = w
-octets-append {b = b} (more {a = c} {b = d} k o) w = octets-as (sym (append-assoc c d b)) (more k (octets-append o w))
+use Rattle.json_grammar.proofs.EncodeLaws.{utf8-char}
 
 -- Octets from 80 on.
 data High : List ℕ → Type 0 where
@@ -100,16 +90,6 @@ begins : {a : List ℕ} → UTF8-char a → Begins a
 begins (left (octet x e)) = record { first = x; later = []; are = refl; rise = no-high; alone = λ h. refl }
 begins (right {a = a} c) = begins-highs (either-beyond two-beyond (either-beyond three-beyond four-beyond) .are a c)
 
--- Equations between texts by their first octets.
-same-first : {x y : ℕ} {s t : List ℕ} → x ∷ s ≡ y ∷ t → x ≡ y
-same-first e = cc
-
-same-later : {x y : ℕ} {s t : List ℕ} → x ∷ s ≡ y ∷ t → s ≡ t
-same-later e = cc
-
-same-both : {x y : ℕ} {s t : List ℕ} → x ≡ y → s ≡ t → x ∷ s ≡ y ∷ t
-same-both p q = cc
-
 no-octet : {B : Type 0} {x : ℕ} {s : List ℕ} → [] ≡ x ∷ s → B
 no-octet e = absurd (let z : _≡_ {A = ℕ} 0 1 = cc in omega arith)
 
@@ -135,12 +115,13 @@ head-of none x s e = no-octet e
 head-of (more {a = a} {b = b} c o) x s e =
     let g = begins c in
     let f = at-head b g e in
-    let q : g .first ≡ x = same-first f in
+    let q : g .first ≡ x = cc in
+    let t : g .later ++ b ≡ s = cc in
     record {
       later = g .later;
       rest = b;
-      cut = sym (same-later f);
-      is = char-as (g .are ∙ same-both q refl) c;
+      cut = sym t;
+      is = char-as (g .are ∙ ap (λ y. y ∷ g .later) q) c;
       rise = g .rise;
       alone = λ h. g .alone (rw q h);
       well = o;
@@ -149,39 +130,9 @@ head-of (more {a = a} {b = b} c o) x s e =
 octets-head : (x : ℕ) (s : List ℕ) → UTF8-octets (x ∷ s) → Head x s
 octets-head x s o = head-of o x s refl
 
--- without an ASCII octet at the head
-past-ascii : (x : ℕ) (s : List ℕ) → x < 0x80 → UTF8-octets (x ∷ s) → UTF8-octets s
-past-ascii x s h o =
-    let g = octets-head x s o in
-    octets-as (sym (g .cut ∙ ap (λ l. l ++ g .rest) (g .alone h))) (g .well)
-
--- An ASCII octet stands in no longer UTF8-char: where octets from 80 on are at the head, it comes after them.
-record Behind (c b p q : List ℕ) (x : ℕ) : Type 0 where
-  between : List ℕ
-  before : p ≡ c ++ between
-  after : b ≡ between ++ (x ∷ q)
-
-behind : {c : List ℕ} → High c → (b p q : List ℕ) (x : ℕ) → x < 0x80 → c ++ b ≡ p ++ (x ∷ q) → Behind c b p q x
-behind no-high b p q x l e = record { between = p; before = refl; after = e }
-behind (high k h) b [] q x l e = absurd (let z = same-first e in omega arith)
-behind (high k h) b (z ∷ p) q x l e =
-    let g = behind h b p q x l (same-later e) in
-    record { between = g .between; before = same-both (sym (same-first e)) (g .before); after = g .after }
-
-middle : {t : List ℕ} → UTF8-octets t → (p q : List ℕ) (x : ℕ) → x < 0x80 → t ≡ p ++ (x ∷ q) → UTF8-octets p × UTF8-octets q
-middle none [] q x h e = no-octet e
-middle none (y ∷ p) q x h e = no-octet e
-middle (more c o) [] q x h e = (none, past-ascii x q h (octets-as e (more c o)))
-middle (more {a = a} {b = b} c o) (y ∷ p) q x h e =
-    let g = begins c in
-    let f = at-head b g e in
-    let w = behind (g .rise) b p q x h (same-later f) in
-    let (s, t) = middle o (w .between) q x h (w .after) in
-    (octets-as (ap (λ l. l ++ w .between) (g .are) ∙ same-both (same-first f) (sym (w .before))) (more c s), t)
-
 -- what stands before and what stands after an ASCII octet of a well-formed text is well formed
-pub middle-octets : (p q : List ℕ) (x : ℕ) → x < 0x80 → UTF8-octets (p ++ (x ∷ q)) → UTF8-octets p × UTF8-octets q
-middle-octets p q x h o = middle o p q x h refl
+middle-octets : (p q : List ℕ) (x : ℕ) → x < 0x80 → UTF8-octets (p ++ (x ∷ q)) → UTF8-octets p × UTF8-octets q
+middle-octets p q x h o = let (a, b) = cut-octets p (x ∷ q) (at-low h) o in (a, tail-octets x q h b)
 
 -- ASCII octets.
 data Low : List ℕ → Type 0 where
@@ -190,15 +141,12 @@ data Low : List ℕ → Type 0 where
 
 past-low : {a : List ℕ} → Low a → (b : List ℕ) → UTF8-octets (a ++ b) → UTF8-octets b
 past-low no-low b o = o
-past-low (low {x} {s} h l) b o = past-low l b (past-ascii x (s ++ b) h o)
+past-low (low {x} {s} h l) b o = past-low l b (tail-octets x (s ++ b) h o)
 
 -- A char is ASCII and stands for well-formed text, or is an octet from 80 on that stands for itself.
 data Seen : List ℕ → List ℕ → Type 0 where
   ascii : {x : ℕ} {a v : List ℕ} → x < 0x80 → Low a → UTF8-octets v → Seen (x ∷ a) v
   itself : (x : ℕ) → 0x80 ≤ x → Seen (x ∷ []) (x ∷ [])
-
-ascii-octets : (x : ℕ) → x < 0x80 → UTF8-octets (x ∷ [])
-ascii-octets x h = one-char (one-octet x h)
 
 seen-ascii : (x : ℕ) → x < 0x80 → Seen (x ∷ []) (x ∷ [])
 seen-ascii x h = ascii h no-low (ascii-octets x h)
@@ -247,7 +195,7 @@ seen-as e s = rw e s
 
 -- a code point that is written with escapes
 seen-code : {t : List ℕ} (u : ℕ) → Written t → u < 0x110000 → within 0xD800 0xDFFF u ≡ false → Seen t (utf8 u)
-seen-code u w h e = seen-as (w .are) (ascii {x = 0x5C} (omega arith) (w .lows) (one-char (utf8-char u h e)))
+seen-code u w h e = seen-as (w .are) (ascii {x = 0x5C} (omega arith) (w .lows) (char-octets (utf8-char u h e)))
 
 written-pair : {t s : List ℕ} → Written t → Written s → Written (t ++ s)
 written-pair {t} {s} w k = record {
@@ -284,15 +232,17 @@ then-goes : {a v : List ℕ} → Seen a v → (b w : List ℕ) → ((c r : List 
     {c : List ℕ} → High c → (r : List ℕ) → a ++ b ≡ c ++ r → UTF8-octets r → Goes c (v ++ w)
 then-goes (ascii {x} {a} {v} l s ov) b w again no-high r e o =
     let g = again [] b no-high refl (past-low (low l s) b (octets-as (sym e) o)) in
-    record { text = v ++ w; value = refl; well = octets-append ov (octets-as (sym (g .value)) (g .well)) }
-then-goes (ascii l s ov) b w again (high k h) r e o = absurd (let z = same-first e in omega arith)
+    record { text = v ++ w; value = refl; well = append-octets ov (octets-as (sym (g .value)) (g .well)) }
+then-goes (ascii {x} l s ov) b w again (high {x = y} k h) r e o = absurd (let z : x ≡ y = cc in omega arith)
 then-goes (itself x l) b w again no-high r e o =
     let d = octets-head x b (octets-as (sym e) o) in
     let g = again (d .later) (d .rest) (d .rise) (d .cut) (d .well) in
-    record { text = x ∷ w; value = refl; well = octets-as (same-both refl (sym (g .value))) (more (d .is) (g .well)) }
-then-goes (itself x l) b w again (high {s = c} k h) r e o =
-    let g = again c r h (same-later e) o in
-    record { text = g .text; value = same-both (same-first e) (g .value); well = g .well }
+    record { text = x ∷ w; value = refl; well = octets-as (ap (λ t. x ∷ t) (sym (g .value))) (more (d .is) (g .well)) }
+then-goes (itself x l) b w again (high {x = y} {s = c} k h) r e o =
+    let q : x ≡ y = cc in
+    let f : b ≡ c ++ r = cc in
+    let g = again c r h f o in
+    record { text = g .text; value = ap (λ z. z ∷ w) q ∙ ap (λ t. y ∷ t) (g .value); well = g .well }
 
 goes : {a v : List ℕ} → Grammar.Chars a v → (c r : List ℕ) → High c → a ≡ c ++ r → UTF8-octets r → Goes c v
 goes Grammar.no-char [] r h e o = record { text = []; value = refl; well = none }

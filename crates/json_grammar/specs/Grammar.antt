@@ -1,7 +1,8 @@
--- RFC 8259, sections 2 to 7, production by production and named as there, as statements about texts. A production that has a meaning here has it
--- as a second index: a string the bytes that it stands for, an object its members.
+-- RFC 8259, sections 2 to 7, production by production and named as there, as statements about texts. A production that has a
+-- meaning here has it as a second index: a string the bytes that it stands for, an object its members.
 --
--- The RFC counts in characters, and these are the octets of UTF-8 text: an octet from 80 on belongs to a character above 7F, which `unescaped` has.
+-- The RFC counts in characters, and these are the octets of UTF-8 text: an octet from 80 on belongs to a character above 7F,
+-- which `unescaped` has.
 use mathlib.Core.Path.{_≡_}
 use mathlib.Core.Bool.{true, false}
 use mathlib.Core.List.{List, [], _∷_, _++_}
@@ -82,16 +83,17 @@ pub data Short-escape : ℕ → ℕ → Type 0 where
   carriage-return : Short-escape 0x72 0x0D
   tab : Short-escape 0x74 0x09
 
--- char = unescaped / escape ( .. ); unescaped = %x20-21 / %x23-5B / %x5D-10FFFF. "To escape an extended character that is not in the Basic
--- Multilingual Plane, the character is represented as a 12-character sequence, encoding the UTF-16 surrogate pair." Document 01: "A lone
--- surrogate escape makes it unreadable", so that none is a char.
+-- char = unescaped / escape ( .. ); unescaped = %x20-21 / %x23-5B / %x5D-10FFFF. "To escape an extended character that is not in
+-- the Basic Multilingual Plane, the character is represented as a 12-character sequence, encoding the UTF-16 surrogate pair."
+-- Document 01: "A lone surrogate escape makes it unreadable", so that none is a char.
 pub data Char : List ℕ → List ℕ → Type 0 where
   unescaped-low : (x : ℕ) → within 0x20 0x21 x ≡ true → Char (x ∷ []) (x ∷ [])
   unescaped-middle : (x : ℕ) → within 0x23 0x5B x ≡ true → Char (x ∷ []) (x ∷ [])
   unescaped-high : (x : ℕ) → within 0x5D 0xFF x ≡ true → Char (x ∷ []) (x ∷ [])
   short : {x b : ℕ} → Short-escape x b → Char (0x5C ∷ x ∷ []) (b ∷ [])
   plane : {t : List ℕ} {u : ℕ} → Unicode t u → within 0xD800 0xDFFF u ≡ false → Char t (utf8 u)
-  pair : {t s : List ℕ} {u v : ℕ} → Unicode t u → Unicode s v → within 0xD800 0xDBFF u ≡ true → within 0xDC00 0xDFFF v ≡ true →
+  pair : {t s : List ℕ} {u v : ℕ} → Unicode t u → Unicode s v →
+      within 0xD800 0xDBFF u ≡ true → within 0xDC00 0xDFFF v ≡ true →
       Char (t ++ s) (utf8 (0x10000 + (u - 0xD800) * 0x400 + (v - 0xDC00)))
 
 pub data Chars : List ℕ → List ℕ → Type 0 where
@@ -116,12 +118,13 @@ pub data Flat : List ℕ → Meaning → Type 0 where
 -- P *( value-separator P ), with the meanings in order
 pub data Separated {X : Type 0} (P : List ℕ → X → Type 0) : List ℕ → List X → Type 0 where
   one : {a : List ℕ} {x : X} → P a x → Separated P a (x ∷ [])
-  and : {a c b : List ℕ} {x : X} {xs : List X} → P a x → value-separator c → Separated P b xs → Separated P (a ++ (c ++ b)) (x ∷ xs)
+  and : {a c b : List ℕ} {x : X} {xs : List X} → P a x → value-separator c → Separated P b xs →
+      Separated P (a ++ (c ++ b)) (x ∷ xs)
 
 -- opening [ P *( value-separator P ) ] closing
-pub data Enclosed {X : Type 0} (opening closing : ℕ) (P : List ℕ → X → Type 0) : List ℕ → List X → Type 0 where
-  empty : {a b : List ℕ} → Structural opening a → Structural closing b → Enclosed opening closing P (a ++ b) []
-  filled : {a b c : List ℕ} {xs : List X} → Structural opening a → Separated P b xs → Structural closing c →
+pub data Enclosed {X : Type 0} (opening closing : Kind) (P : List ℕ → X → Type 0) : List ℕ → List X → Type 0 where
+  empty : {a b : List ℕ} → opening a → closing b → Enclosed opening closing P (a ++ b) []
+  filled : {a b c : List ℕ} {xs : List X} → opening a → Separated P b xs → closing c →
       Enclosed opening closing P (a ++ (b ++ c)) xs
 
 -- a member: its name, after escapes, and what its value is
@@ -131,15 +134,16 @@ pub record Named : Type 0 where
 
 -- Section 4. member = string name-separator value
 pub data Member (Inner : List ℕ → Meaning → Type 0) : List ℕ → Named → Type 0 where
-  member : {a c b n : List ℕ} {m : Meaning} → String a n → name-separator c → Inner b m → Member Inner (a ++ (c ++ b)) (record { key = n; value = m })
+  member : {a c b n : List ℕ} {m : Meaning} → String a n → name-separator c → Inner b m →
+      Member Inner (a ++ (c ++ b)) (record { key = n; value = m })
 
 -- object = begin-object [ member *( value-separator member ) ] end-object
 abbrev pub Object : (List ℕ → Meaning → Type 0) → List ℕ → List Named → Type 0
-Object Inner = Enclosed 0x7B 0x7D (Member Inner)
+Object Inner = Enclosed begin-object end-object (Member Inner)
 
 -- Section 5. array = begin-array [ value *( value-separator value ) ] end-array
 abbrev pub Array : (List ℕ → Meaning → Type 0) → List ℕ → List Meaning → Type 0
-Array Inner = Enclosed 0x5B 0x5D Inner
+Array Inner = Enclosed begin-array end-array Inner
 
 -- Section 3. value = false / null / true / object / array / number / string, over the values that may be nested
 pub data Nested (Inner : List ℕ → Meaning → Type 0) : List ℕ → Meaning → Type 0 where

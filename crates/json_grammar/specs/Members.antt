@@ -2,10 +2,7 @@
 use mathlib.Core.Path.{_≡_}
 use mathlib.Core.List.{List, [], _∷_}
 use Prim.Native.Nat.{ℕ}
-use Rattle.ground.specs.Choice.{pick}
-use Rattle.text_places.specs.Places.{same}
 use Rattle.json_grammar.specs.Grammar.{Meaning, Named}
-use Rattle.json_grammar.specs.Reader.{Item}
 
 -- no member has the name
 pub data Unnamed (k : List ℕ) : List Named → Type 0 where
@@ -16,16 +13,3 @@ pub data Unnamed (k : List ℕ) : List Named → Type 0 where
 pub data Last (k : List ℕ) (m : Meaning) : List Named → Type 0 where
   this : {n : Named} {ns : List Named} → n .key ≡ k → n .value ≡ m → Unnamed k ns → Last k m (n ∷ ns)
   later : {n : Named} {ns : List Named} → Last k m ns → Last k m (n ∷ ns)
-
--- the reader's answer: the item that counts, if there is one
-pub data Found : Type 0 where
-  missing : Found
-  found : Item → Found
-
-abbrev pub orEarlier : Found → Found → Found
-orEarlier (found i) f = found i
-orEarlier missing f = f
-
-unfoldable pub lastOf : List ℕ → List Item → Found
-lastOf k [] = missing
-lastOf k (i ∷ items) = orEarlier (lastOf k items) (pick (same (i .named .key) k) (found i) missing)

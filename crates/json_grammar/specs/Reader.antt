@@ -1,11 +1,12 @@
 -- A reader of RFC 8259's grammar on lists: what was read, and what is left. proofs/ show that it reads exactly what the grammar has.
-use mathlib.Core.Bool.{Bool, true, false}
-use mathlib.Core.List.{List, [], _∷_, _++_}
+use mathlib.Core.Bool.{Bool}
+use mathlib.Core.List.{List, [], _∷_, _++_, map}
 use Prim.Native.Nat.{ℕ, zero, suc, _+_, _*_, _-_}
 use lib.Dec.{eqb}
 use lib.ListN.{length, drop}
 use Rattle.ground.specs.Ascii.{ascii}
 use Rattle.ground.specs.Choice.{pick, either, within}
+use Rattle.text_places.specs.Places.{same}
 use Rattle.json_grammar.specs.Encode.{utf8}
 use Rattle.json_grammar.specs.Grammar.{Meaning, text, other, Named}
 
@@ -244,3 +245,20 @@ allRead bad = bad
 
 unfoldable pub membersOf : List ℕ → Out (List Item)
 membersOf s = allRead (enclosedOf (memberOf (valueOf 126)) 0x7B 0x7D (skip s))
+
+-- what the grammar says of items: their names and what their values are
+abbrev pub names : List Item → List Named
+names items = map (λ i. i .named) items
+
+-- the last item with a name, if there is one
+pub data Found : Type 0 where
+  missing : Found
+  found : Item → Found
+
+abbrev pub orEarlier : Found → Found → Found
+orEarlier (found i) f = found i
+orEarlier missing f = f
+
+unfoldable pub lastOf : List ℕ → List Item → Found
+lastOf k [] = missing
+lastOf k (i ∷ items) = orEarlier (lastOf k items) (pick (same (i .named .key) k) (found i) missing)

@@ -23,7 +23,8 @@ standsPlace (Text at) = at
 
 abbrev pub commentAnswerNumbers : Comment → List ℕ
 commentAnswerNumbers Unreadable = 0 ∷ 0 ∷ 0 ∷ 0 ∷ 0 ∷ []
-commentAnswerNumbers (Readable id signature) = 1 ∷ standsKind id ∷ standsPlace id ∷ standsKind signature ∷ standsPlace signature ∷ []
+commentAnswerNumbers (Readable id signature) =
+    1 ∷ standsKind id ∷ standsPlace id ∷ standsKind signature ∷ standsPlace signature ∷ []
 
 abbrev pub decodedNumbers : Decoded → List ℕ
 decodedNumbers (decoded.Bytes n) = 1 ∷ n ∷ []

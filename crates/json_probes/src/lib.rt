@@ -85,7 +85,9 @@ pub extern "C" fn clumarief_probe_decode(
     at: usize,
     answer: &mut [u64; 2],
 )
-    ensures { λ _. ⌜ now (answer .exit) ≡ writtenNumbers (writtenOf (charsFrom 0 (drop start (now (text .entry)))) at (length (now (room .entry)))) ⌝ }
+    ensures { λ _.
+        let string = charsFrom 0 (drop start (now (text .entry))) in
+        ⌜ now (answer .exit) ≡ writtenNumbers (writtenOf string at (length (now (room .entry)))) ⌝ }
     ensures { λ _. ⌜ now (room .exit) ≡ roomOf (charsFrom 0 (drop start (now (text .entry)))) at (now (room .entry)) ⌝ }
 {
     match json_decode::decode_at(room, at, text, start) {

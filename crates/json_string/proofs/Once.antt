@@ -13,8 +13,8 @@ use Rattle.json_string.specs.declared.after.After.{After}
 use Rattle.json_string.specs.declared.after.After.the-variants.{Next, Unread}
 use Rattle.json_string.specs.declared.string.Piece.{Piece}
 use Rattle.json_string.specs.declared.string.Piece.the-variants.{Byte, Code, Closes, Wrong}
-use Rattle.json_string.specs.Means.{Means}
-use Rattle.json_string.specs.Pieces.{Stood, Coded, Closed, PieceMeans}
+use Rattle.json_string.specs.inner.Means.{Means}
+use Rattle.json_string.specs.inner.Pieces.{Stood, Coded, Closed, PieceMeans}
 
 -- a place is known by what is left of the text
 pub place-once : (s : List ℕ) (n m : ℕ) → n ≤ length s → m ≤ length s → drop n s ≡ drop m s → n ≡ m

@@ -20,7 +20,7 @@ use Rattle.json_grammar.specs.Reader.{hex4, second, unicode, shortEscape, escap
 use Rattle.json_grammar.proofs.EncodeLaws.{utf8-one, utf8-short}
 use Rattle.json_string.proofs.Hex.{hex4-most}
 use Rattle.json_string.specs.declared.string.Piece.{Piece}
-use Rattle.json_string.specs.Pieces.{Stood, Coded, Closed, PieceMeans, shortByte}
+use Rattle.json_string.specs.inner.Pieces.{Stood, Coded, Closed, PieceMeans, shortByte}
 
 pub ruleset short-bytes = (cases, needs)
 

@@ -13,8 +13,8 @@ use Rattle.json_grammar.proofs.Items.{before, before-nothing, before-both}
 use Rattle.json_grammar.proofs.StringsAll.{chars-none, chars-stands, chars-close, chars-wrong}
 use Rattle.json_string.specs.declared.string.Piece.{Piece}
 use Rattle.json_string.specs.declared.string.Piece.the-variants.{Byte, Code, Closes, Wrong}
-use Rattle.json_string.specs.Means.{Reached}
-use Rattle.json_string.specs.Pieces.{Stood, Coded, Closed, PieceMeans}
+use Rattle.json_string.specs.inner.Means.{Reached}
+use Rattle.json_string.specs.inner.Pieces.{Stood, Coded, Closed, PieceMeans}
 
 -- the answer is a code point
 pub coded-told : {s : List ℕ} {at : ℕ} {t : Piece} {p : Reader.Piece} {c n : ℕ} → t ≡ Code c n → PieceMeans s at t p → Coded s at n c p

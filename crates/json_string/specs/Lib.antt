@@ -1,3 +1,2 @@
--- How an answer by places speaks of the reader on lists.
-pub mod Means
-pub mod Pieces
+-- Nothing here has to be believed: the rule is json_grammar's. Only words of inner contracts.
+pub mod inner

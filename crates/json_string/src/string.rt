@@ -4,8 +4,8 @@ ghost use mathlib.Core.Path.{_≡_};
 ghost use Prim.Native.Nat.{_+_, _≤_, _<_};
 ghost use lib.ListN.{length, drop};
 ghost use Rattle.json_grammar.specs.Reader.{hexdig, hexValue, hex4, second, unicode, escape, pieceOf, charsFrom};
-ghost use Rattle.json_string.specs.Means.{Means};
-ghost use Rattle.json_string.specs.Pieces.{PieceMeans, shortByte};
+ghost use Rattle.json_string.specs.inner.Means.{Means};
+ghost use Rattle.json_string.specs.inner.Pieces.{PieceMeans, shortByte};
 
 // What stands at a place inside a string, and the place after it.
 pub enum Piece {
@@ -129,31 +129,31 @@ fn unicode_at(s: &[u8], base: usize) -> Piece
 }
 
 // The byte that an escape of two characters stands for, by its second one; 0 where there is no such escape.
-fn short_byte(b: u8) -> u8
-    ensures { λ r. ⌜ r ≡ shortByte b ⌝ }
+fn short_byte(letter: u8) -> u8
+    ensures { λ r. ⌜ r ≡ shortByte letter ⌝ }
 {
-    if b == b'"' {
+    if letter == b'"' {
         return 0x22;
     }
-    if b == b'\\' {
+    if letter == b'\\' {
         return 0x5C;
     }
-    if b == b'/' {
+    if letter == b'/' {
         return 0x2F;
     }
-    if b == b'b' {
+    if letter == b'b' {
         return 0x08;
     }
-    if b == b'f' {
+    if letter == b'f' {
         return 0x0C;
     }
-    if b == b'n' {
+    if letter == b'n' {
         return 0x0A;
     }
-    if b == b'r' {
+    if letter == b'r' {
         return 0x0D;
     }
-    if b == b't' {
+    if letter == b't' {
         return 0x09;
     }
     0
@@ -192,10 +192,10 @@ pub fn piece_at(s: &[u8], at: usize) -> Piece
     if b == b'\\' {
         return escape_at(s, at);
     }
-    if b < 0x20 {
-        return Piece::Wrong;
+    if 0x20 <= b {
+        return Piece::Byte(b, at + 1);
     }
-    Piece::Byte(b, at + 1)
+    Piece::Wrong
 }
 
 // The place after a string whose first char stands at `start`.

@@ -11,8 +11,7 @@ use Rattle.text_white.specs.Trim.{runOf, allWhite, trimEnd}
 use Rattle.number.specs.Numbers as numbers
 use Rattle.line_parts.specs.Arguments.{commaParts, filled}
 use Rattle.json_grammar.specs.Encode.{utf8}
-use Rattle.json_grammar.specs.Members.{lastOf}
-use Rattle.json_grammar.specs.Reader.{andThen, pastAll, structural, past, shortEscape, escape, pieceOf, charsFrom, stringOf, pastWord, flatOf, afterItem, itemsOf, insideOf, enclosedOf, memberOf, nestedOf, valueOf, membersOf}
+use Rattle.json_grammar.specs.Reader.{andThen, pastAll, structural, past, shortEscape, escape, pieceOf, charsFrom, stringOf, pastWord, flatOf, afterItem, itemsOf, insideOf, enclosedOf, memberOf, nestedOf, valueOf, membersOf, lastOf}
 use Rattle.descriptor.specs.Types.{baseEnd, bracketCount}
 use Rattle.ground.specs.Join.{join}
 use Rattle.table_rows.specs.Classes.{shown}

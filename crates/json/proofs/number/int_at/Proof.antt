@@ -9,45 +9,17 @@ returns c = search digit-reading
 shared-slice-read-if2 : tie.Need-shared-slice-read-if2
 shared-slice-read-if2 c = search digit-reading
 
+add-t7 : tie.Need-add-t7
+add-t7 c = search digit-reading
+
 returns-2 : tie.Need-returns-2
 returns-2 c = search digit-reading
 
-shared-slice-read-if3 : tie.Need-shared-slice-read-if3
-shared-slice-read-if3 c = search digit-reading
+digits-at-requires : tie.Need-digits-at-requires
+digits-at-requires c κs = search digit-reading
 
 returns-3 : tie.Need-returns-3
 returns-3 c = search digit-reading
 
-shared-slice-read-if4 : tie.Need-shared-slice-read-if4
-shared-slice-read-if4 c = search digit-reading
-
-add-t9 : tie.Need-add-t9
-add-t9 c = search digit-reading
-
-returns-4 : tie.Need-returns-4
-returns-4 c = search digit-reading
-
-add-past-digits : tie.Need-add-past-digits
-add-past-digits c = search digit-reading
-
-past-digits-requires : tie.Need-past-digits-requires
-past-digits-requires c κs = search digit-reading
-
-returns-5 : tie.Need-returns-5
-returns-5 c = search digit-reading
-
 pub int-at-spec : {M : Type 1} → statement M
-int-at-spec =
-    tie.close
-    (tie.spec
-    returns
-    shared-slice-read-if2
-    returns-2
-    shared-slice-read-if3
-    returns-3
-    shared-slice-read-if4
-    add-t9
-    returns-4
-    add-past-digits
-    past-digits-requires
-    returns-5)
+int-at-spec = tie.close (tie.spec returns shared-slice-read-if2 add-t7 returns-2 digits-at-requires returns-3)

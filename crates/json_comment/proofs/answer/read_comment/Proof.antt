@@ -1,6 +1,7 @@
 -- `json_comment::answer::read_comment` meets its contract, by the laws of Answers and an invariant that says: the rest decides as the whole does.
-use Rattle.json_comment.proofs.Values.{member-inside}
-use Rattle.json_comment.proofs.Answers.{value-starts, reading-wrong, reading-ends, reading, Reading}
+use Rattle.json.proofs.Values.{member-inside}
+use Rattle.json_comment.proofs.Answers.{value-starts, reading-wrong, reading-ends}
+use Rattle.json_comment.proofs.Answers.{reading, Reading}
 use Prim.Native.Nat.{_-_}
 use lib.ListN.{length}
 use Rattle.json_comment.proofs.answer.read_comment.Statement.{statement}
@@ -48,8 +49,8 @@ enum-told c = search reading
 loop-holds : tie.Need-loop-holds Inv-loop μ-loop
 loop-holds c = search reading
 
-member-at-requires : tie.Need-member-at-requires Inv-loop μ-loop
-member-at-requires c κs = search reading
+comment-member-requires : tie.Need-comment-member-requires Inv-loop μ-loop
+comment-member-requires c κs = search reading
 
 enum-known-value : tie.Need-enum-known-value Inv-loop μ-loop
 enum-known-value c = search reading
@@ -67,7 +68,7 @@ slice-aggregate-stands-now : tie.Need-slice-aggregate-stands-now Inv-loop μ-loo
 slice-aggregate-stands-now c = search reading
 
 stands-now-requires : tie.Need-stands-now-requires Inv-loop μ-loop
-stands-now-requires c κs = value-starts (c .before .before .before .before .before .before .loop .inv) (c .before .before .before .before .before .loop-test .taken) (c .before .before .before .before .member-at .ensures) (c .before .before .value .given .1)
+stands-now-requires c κs = value-starts (c .before .before .before .before .before .before .loop .inv) (c .before .before .before .before .before .loop-test .taken) (c .before .before .before .before .comment-member .ensures) (c .before .before .value .given .1)
 
 add-stands-now-2 : tie.Need-add-stands-now-2 Inv-loop μ-loop
 add-stands-now-2 c = search reading
@@ -76,10 +77,10 @@ slice-aggregate-stands-now-2 : tie.Need-slice-aggregate-stands-now-2 Inv-loop μ
 slice-aggregate-stands-now-2 c = search reading
 
 stands-now-requires-2 : tie.Need-stands-now-requires-2 Inv-loop μ-loop
-stands-now-requires-2 c κs = value-starts (c .before .before .before .before .before .before .before .before .loop .inv) (c .before .before .before .before .before .before .before .loop-test .taken) (c .before .before .before .before .before .before .member-at .ensures) (c .before .before .before .before .value .given .1)
+stands-now-requires-2 c κs = value-starts (c .before .before .before .before .before .before .before .before .loop .inv) (c .before .before .before .before .before .before .before .loop-test .taken) (c .before .before .before .before .before .before .comment-member .ensures) (c .before .before .before .before .value .given .1)
 
 structural-at-requires-2 : tie.Need-structural-at-requires-2 Inv-loop μ-loop
-structural-at-requires-2 c κs = member-inside _ _ _ (c .before .before .before .before .before .before .before .member-at .ensures) (c .before .before .before .before .before .value .given .1)
+structural-at-requires-2 c κs = member-inside _ _ _ (c .before .before .before .before .before .before .before .comment-member .ensures) (c .before .before .before .before .before .value .given .1)
 
 enum-known-again : tie.Need-enum-known-again Inv-loop μ-loop
 enum-known-again c = search reading
@@ -88,7 +89,7 @@ enum-told-3 : tie.Need-enum-told-3 Inv-loop μ-loop
 enum-told-3 c = search reading
 
 structural-at-requires-3 : tie.Need-structural-at-requires-3 Inv-loop μ-loop
-structural-at-requires-3 c κs = member-inside _ _ _ (c .before .before .before .before .before .before .before .before .before .before .member-at .ensures) (c .before .before .before .before .before .before .before .before .value .given .1)
+structural-at-requires-3 c κs = member-inside _ _ _ (c .before .before .before .before .before .before .before .before .before .before .comment-member .ensures) (c .before .before .before .before .before .before .before .before .value .given .1)
 
 enum-known-end-2 : tie.Need-enum-known-end-2 Inv-loop μ-loop
 enum-known-end-2 c = search reading
@@ -97,13 +98,13 @@ enum-told-4 : tie.Need-enum-told-4 Inv-loop μ-loop
 enum-told-4 c = search reading
 
 returns-5 : tie.Need-returns-5 Inv-loop μ-loop
-returns-5 c = reading-wrong (c .before .before .before .before .before .before .before .before .before .before .before .before .before .before .before .loop .inv) (c .before .before .before .before .before .before .before .before .before .before .before .before .before .before .loop-test .taken) (c .before .before .before .before .before .before .before .before .before .before .before .before .before .member-at .ensures) (c .before .before .before .before .before .before .before .before .before .before .before .value .given .1) (c .before .before .before .before .before .before .before .before .stands-now .ensures) (c .before .before .before .before .before .before .stands-now2 .ensures) _ (c .before .before .before .before .before .structural-at2 .ensures) (c .before .before .before .enum-told3 .given .1) _ (c .before .before .structural-at3 .ensures) (c .before .before .before .before .before .before .before .before .before .before .before .before .before .before .before .before .before .before .before .before .before .before .before .skip-space .ensures) (c .enum-told4 .given .1)
+returns-5 c = reading-wrong (c .before .before .before .before .before .before .before .before .before .before .before .before .before .before .before .loop .inv) (c .before .before .before .before .before .before .before .before .before .before .before .before .before .before .loop-test .taken) (c .before .before .before .before .before .before .before .before .before .before .before .before .before .comment-member .ensures) (c .before .before .before .before .before .before .before .before .before .before .before .value .given .1) (c .before .before .before .before .before .before .before .before .stands-now .ensures) (c .before .before .before .before .before .before .stands-now2 .ensures) _ (c .before .before .before .before .before .structural-at2 .ensures) (c .before .before .before .enum-told3 .given .1) _ (c .before .before .structural-at3 .ensures) (c .before .before .before .before .before .before .before .before .before .before .before .before .before .before .before .before .before .before .before .before .before .before .before .skip-space .ensures) (c .enum-told4 .given .1)
 
 ended-requires-2 : tie.Need-ended-requires-2 Inv-loop μ-loop
 ended-requires-2 c κs = search reading
 
 returns-6 : tie.Need-returns-6 Inv-loop μ-loop
-returns-6 c = reading-ends (c .before .before .before .before .before .before .before .before .before .before .before .before .before .before .before .before .before .loop .inv) (c .before .before .before .before .before .before .before .before .before .before .before .before .before .before .before .before .loop-test .taken) (c .before .before .before .before .before .before .before .before .before .before .before .before .before .before .before .member-at .ensures) (c .before .before .before .before .before .before .before .before .before .before .before .before .before .value .given .1) (c .before .before .before .before .before .before .before .before .before .before .stands-now .ensures) (c .before .before .before .before .before .before .before .before .stands-now2 .ensures) _ (c .before .before .before .before .before .before .before .structural-at2 .ensures) (c .before .before .before .before .before .enum-told3 .given .1) _ (c .before .before .before .before .structural-at3 .ensures) (c .before .before .before .before .before .before .before .before .before .before .before .before .before .before .before .before .before .before .before .before .before .before .before .before .before .skip-space .ensures) (c .before .before .end2 .given .1) (c .ended2 .ensures)
+returns-6 c = reading-ends (c .before .before .before .before .before .before .before .before .before .before .before .before .before .before .before .before .before .loop .inv) (c .before .before .before .before .before .before .before .before .before .before .before .before .before .before .before .before .loop-test .taken) (c .before .before .before .before .before .before .before .before .before .before .before .before .before .before .before .comment-member .ensures) (c .before .before .before .before .before .before .before .before .before .before .before .before .before .value .given .1) (c .before .before .before .before .before .before .before .before .before .before .stands-now .ensures) (c .before .before .before .before .before .before .before .before .stands-now2 .ensures) _ (c .before .before .before .before .before .before .before .structural-at2 .ensures) (c .before .before .before .before .before .enum-told3 .given .1) _ (c .before .before .before .before .structural-at3 .ensures) (c .before .before .before .before .before .before .before .before .before .before .before .before .before .before .before .before .before .before .before .before .before .before .before .before .before .skip-space .ensures) (c .before .before .end2 .given .1) (c .ended2 .ensures)
 
 loop-less : tie.Need-loop-less Inv-loop μ-loop
 loop-less c = search reading
@@ -132,7 +133,7 @@ read-comment-spec =
     returns-3
     enum-told
     loop-holds
-    member-at-requires
+    comment-member-requires
     enum-known-value
     enum-told-2
     returns-4

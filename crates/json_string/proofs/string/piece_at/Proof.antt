@@ -21,11 +21,11 @@ escape-at-requires c κs = search pieces-here
 returns-3 : tie.Need-returns-3
 returns-3 c = search pieces-here
 
+add-t9 : tie.Need-add-t9
+add-t9 c = search pieces-here
+
 returns-4 : tie.Need-returns-4
 returns-4 c = search pieces-here
-
-add-t4 : tie.Need-add-t4
-add-t4 c = search pieces-here
 
 returns-5 : tie.Need-returns-5
 returns-5 c = search pieces-here
@@ -40,6 +40,6 @@ piece-at-spec =
     returns-2
     escape-at-requires
     returns-3
+    add-t9
     returns-4
-    add-t4
     returns-5)

@@ -1,0 +1,3 @@
+-- How an answer by places speaks of the reader on lists.
+pub mod Runs
+pub mod Members
