@@ -7,8 +7,8 @@ use Rattle.load_rule.specs.declared.Fates.{Fates}
 use borrow.Author.Needs.{needs}
 use Rattle.load_rule.specs.declared.Load.{Load}
 use Rattle.load_rule.specs.declared.Load.the-variants.{Loaded, TooLong, NotUtf8, Faulty, NoClasses, FewClassRows, FewMemberRows, ShortPool}
-use Rattle.load.specs.Loads.{Loads}
-use Rattle.capi.specs.Answers.{refusalNumbers, answerNumbers, Answers}
+use Rattle.load_rule.specs.Loading.{Lent, answerOf, classesLeft, membersLeft, poolLeft}
+use Rattle.capi.specs.Answers.{refusalNumbers, answerNumbers}
 
 pub loaded-numbers : {r : Load} {f : Fates} {names : ℕ} → r ≡ Loaded f names →
     0 ∷ 0 ∷ 0 ∷ f .lines ∷ f .blank ∷ f .applied ∷ f .idle ∷ f .class ∷ f .field ∷ f .method ∷ f .short ∷ names ∷ replicate 12 0 ≡ answerNumbers r
@@ -39,8 +39,9 @@ module _ {r : Load} {a : List ℕ} where
 pub ruleset numbering =
     (loaded-numbers, too-long-numbers, not-utf8-numbers, faulty-numbers, no-classes-numbers, few-class-rows-numbers, few-member-rows-numbers, short-pool-numbers, needs)
 
-pub answered : {r : Load} {s : List ℕ} {ls : List (List ℕ)} {nc nm np : ℕ} {c m : List (List ℕ)} {p : List ℕ} → Loads r s ls nc nm np c m p → {a : List ℕ} → a ≡ answerNumbers r →
-    Answers s ls nc nm np c m p a
-answered k e = record { numbers = e ∙ ap answerNumbers (k .answer); classes = k .classes; members = k .members; pool = k .pool }
+pub answered : {r : Load} (s : List ℕ) (ls : List (List ℕ)) (n : Lent) {c m : List (List ℕ)} {p : List ℕ} →
+    (r ≡ answerOf s ls n) × (c ≡ classesLeft s ls n) × (m ≡ membersLeft s ls n) × (p ≡ poolLeft s ls n) → {a : List ℕ} → a ≡ answerNumbers r →
+    (a ≡ answerNumbers (answerOf s ls n)) × (c ≡ classesLeft s ls n) × (m ≡ membersLeft s ls n) × (p ≡ poolLeft s ls n)
+answered s ls n (e, c, m, p) f = (f ∙ ap answerNumbers e, c, m, p)
 
 pub ruleset answering = (answered, needs)

@@ -6,8 +6,8 @@ use table_rows::ClassRow;
 use table_rows::MemberRow;
 ghost use mathlib.Core.Path.{_≡_};
 ghost use lib.ListN.{length};
-ghost use Rattle.load_rule.specs.Loading.{linesParse, linesStr};
-ghost use Rattle.capi.specs.Answers.{refusalNumbers, answerNumbers, Answers};
+ghost use Rattle.load_rule.specs.Loading.{linesParse, linesStr, lent, answerOf, classesLeft, membersLeft, poolLeft};
+ghost use Rattle.capi.specs.Answers.{refusalNumbers, answerNumbers};
 
 // The answer of a refusal: its number, its place and a length.
 fn refusal(number: u32, place: u32, length: u32) -> [u32; 24]
@@ -90,7 +90,14 @@ pub extern "C" fn clumarief_parse(
     pool: &mut [u8],
     answer: &mut [u32; 24],
 )
-    ensures { λ _. ⌜ Answers (now (text .entry)) (linesParse (now (text .entry))) (length (now (classes .entry))) (length (now (members .entry))) (length (now (pool .entry))) (now (classes .exit)) (now (members .exit)) (now (pool .exit)) (now (answer .exit)) ⌝ }
+    ensures { λ _.
+        let s = now (text .entry) in
+        let ls = linesParse s in
+        let room = lent (length (now (classes .entry))) (length (now (members .entry))) (length (now (pool .entry))) in
+        ⌜ (now (answer .exit) ≡ answerNumbers (answerOf s ls room))
+        × (now (classes .exit) ≡ classesLeft s ls room)
+        × (now (members .exit) ≡ membersLeft s ls room)
+        × (now (pool .exit) ≡ poolLeft s ls room) ⌝ }
 {
     let load = parse(text, classes, members, pool);
     *answer = load_numbers(load);
@@ -105,7 +112,14 @@ pub extern "C" fn clumarief_parse_str(
     pool: &mut [u8],
     answer: &mut [u32; 24],
 )
-    ensures { λ _. ⌜ Answers (now (text .entry)) (linesStr (now (text .entry))) (length (now (classes .entry))) (length (now (members .entry))) (length (now (pool .entry))) (now (classes .exit)) (now (members .exit)) (now (pool .exit)) (now (answer .exit)) ⌝ }
+    ensures { λ _.
+        let s = now (text .entry) in
+        let ls = linesStr s in
+        let room = lent (length (now (classes .entry))) (length (now (members .entry))) (length (now (pool .entry))) in
+        ⌜ (now (answer .exit) ≡ answerNumbers (answerOf s ls room))
+        × (now (classes .exit) ≡ classesLeft s ls room)
+        × (now (members .exit) ≡ membersLeft s ls room)
+        × (now (pool .exit) ≡ poolLeft s ls room) ⌝ }
 {
     let load = parse_str(text, classes, members, pool);
     *answer = load_numbers(load);

@@ -19,13 +19,13 @@ use Rattle.load_rule.specs.declared.Scan.the-variants as scan
 use Rattle.load_rule.specs.declared.Load.the-variants.{Loaded, Faulty, NoClasses, FewClassRows, FewMemberRows, ShortPool}
 use Rattle.load_rule.specs.Fates.{noFates, scanOf}
 use Rattle.load_rule.specs.Classes.{classesOf}
-use Rattle.load_rule.specs.Loading.{entriesOf, poolOf, scanned, linesLoad, mostText}
+use Rattle.load_rule.specs.Loading.{entriesOf, poolOf, scanned, linesLoad, mostText, lent}
 use Rattle.load_rule.specs.Members.{under}
 use Rattle.load_rule.proofs.Sums.{fates-sum, class-count, member-count}
 use Rattle.load_scan.specs.inner.Bounds.{Within}
 use Rattle.load_scan.proofs.Scanning.{scanOn}
 use Rattle.load_members.proofs.Filling.{from-nothing}
-use Rattle.load.specs.inner.Into.{lent, Counted, missing, refusedOf, acceptedOf}
+use Rattle.load.specs.inner.Into.{Counted, missing, refusedOf, acceptedOf}
 
 -- A text has no more lines than bytes.
 onto-length : (b : ℕ) (ls : List (List ℕ)) → length (onto b ls) ≤ suc (length ls)

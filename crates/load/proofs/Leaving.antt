@@ -13,9 +13,9 @@ use Rattle.ground.proofs.Parts.{prefix-whole}
 use Rattle.ground.proofs.PutLaws.{put-same-many}
 use Rattle.table_rows.specs.Rows.{zeroClass, zeroMember, mostMembers, mostClasses, mostPool}
 use Rattle.load_rule.specs.declared.Load.{Load}
-use Rattle.load_rule.specs.Loading.{counting, linesLoad, isLoaded, classRowsOf, memberRowsOf, poolOf, mostText}
-use Rattle.load.specs.inner.Into.{Limits, lent, IntoBy}
-use Rattle.load.specs.Loads.{Cleared, Left}
+use Rattle.load_rule.specs.Loading.{counting, linesLoad, isLoaded, classRowsOf, memberRowsOf, poolOf, mostText, lent}
+use Rattle.load.specs.inner.Into.{Limits, IntoBy}
+use Rattle.load.specs.inner.Left.{Cleared, Left}
 
 -- Part of what was made zero.
 module _ {A : Type 0} (z : A) (n x : ℕ) (h : x ≤ n) where

@@ -2,18 +2,12 @@
 use mathlib.Core.Path.{_≡_, sym, _∙_}
 use mathlib.Core.List.{List}
 use Prim.Native.Nat.{ℕ}
+use Rattle.table_rows.specs.Tables.{Tables}
 use Rattle.load_rule.specs.declared.Load.{Load}
-use Rattle.load.specs.Loads.{Loads}
+use Rattle.load.specs.Loads.{Loads, Alike}
 
--- two outcomes of one call
-pub record Alike (r q : Load) (c d m n : List (List ℕ)) (p o : List ℕ) : Type 0 where
-  pub answer : r ≡ q
-  pub classes : c ≡ d
-  pub members : m ≡ n
-  pub pool : p ≡ o
-
-pub loads-once : {r q : Load} {s : List ℕ} {ls : List (List ℕ)} {nc nm np : ℕ} {c d m n : List (List ℕ)} {p o : List ℕ} →
-    Loads r s ls nc nm np c m p → Loads q s ls nc nm np d n o → Alike r q c d m n p o
+pub loads-once : {r q : Load} {s : List ℕ} {ls : List (List ℕ)} {before after later : Tables} →
+    Loads r s ls before after → Loads q s ls before later → Alike r q after later
 loads-once k l = record {
   answer = k .answer ∙ sym (l .answer);
   classes = k .classes ∙ sym (l .classes);

@@ -27,7 +27,7 @@ use Rattle.load_rule.specs.declared.Load.the-variants as loads
 use Rattle.load_rule.specs.Fates.{scanOf}
 use Rattle.load_rule.specs.Classes.{classesOf, classPool, classRows}
 use Rattle.load_rule.specs.Members.{entryPool, entryRows}
-use Rattle.load_rule.specs.Loading.{entriesOf, poolOf, scanned, isLoaded}
+use Rattle.load_rule.specs.Loading.{entriesOf, poolOf, scanned, isLoaded, lent}
 use Rattle.load_rule.proofs.Appended.{class-rows-length, entry-rows-length}
 use Rattle.load_classes.specs.declared.write.Classes.{Classes}
 use Rattle.load_classes.specs.declared.write.Classes.the-variants as classes
@@ -35,7 +35,7 @@ use Rattle.load_classes.specs.inner.Written.{ClassesAt, ClassesBy}
 use Rattle.load_members.specs.declared.fill.Filled.{Filled}
 use Rattle.load_members.specs.declared.fill.Filled.the-variants as filled
 use Rattle.load_members.specs.inner.Filled.{Holding, Over, members, WrittenAll, CutShort, FilledBy}
-use Rattle.load.specs.inner.Into.{lent, refusedOf, acceptedOf, IntoBy}
+use Rattle.load.specs.inner.Into.{refusedOf, acceptedOf, IntoBy}
 use Rattle.load.proofs.Deciding.{decided, accepted-as, scan-counted}
 use Rattle.table_rows.specs.Rows.{mostPool}
 

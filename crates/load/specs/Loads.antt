@@ -1,29 +1,22 @@
--- The promise of an entry point: the answer, the class rows, the member rows and the pool, each by the rule of loading.
+-- The promise of an entry point as one statement: the answer, the class rows, the member rows and the pool, each by the rule of loading. `parse` and
+-- `parse_str` say these four equations in their contracts; here they stand for theorems to speak of.
 use mathlib.Core.Path.{_≡_}
 use mathlib.Core.List.{List}
 use Prim.Native.Nat.{ℕ}
-use lib.ListN.{replicate}
-use Rattle.table_rows.specs.Rows.{zeroClass, zeroMember}
+use Rattle.table_rows.specs.Tables.{Tables}
 use Rattle.load_rule.specs.declared.Load.{Load}
-use Rattle.load_rule.specs.Loading.{counting, linesLoad, leaves, classRowsOf, memberRowsOf, poolOf, answerOf, classesLeft, membersLeft, poolLeft}
-use Rattle.load.specs.inner.Into.{lent}
+use Rattle.load_rule.specs.Loading.{lentOf, answerOf, classesLeft, membersLeft, poolLeft}
 
--- all is zero
-pub record Cleared (nc nm np : ℕ) (c m : List (List ℕ)) (p : List ℕ) : Type 0 where
-  pub classes : c ≡ replicate nc zeroClass
-  pub members : m ≡ replicate nm zeroMember
-  pub pool : p ≡ replicate np 0
+-- what loading the text `s`, whose lines are `ls`, answers, and what it leaves in the tables that are lent
+pub record Loads (r : Load) (s : List ℕ) (ls : List (List ℕ)) (before after : Tables) : Type 0 where
+  pub answer : r ≡ answerOf s ls (lentOf before)
+  pub classes : after .classes ≡ classesLeft s ls (lentOf before)
+  pub members : after .members ≡ membersLeft s ls (lentOf before)
+  pub pool : after .pool ≡ poolLeft s ls (lentOf before)
 
--- what loading the lines `ls` answers and leaves, where so many rows and bytes are lent
-pub record Left (r : Load) (ls : List (List ℕ)) (nc nm np : ℕ) (c m : List (List ℕ)) (p : List ℕ) : Type 0 where
-  pub answer : r ≡ linesLoad ls (counting (lent nc nm np))
-  pub classes : c ≡ leaves zeroClass nc r (classRowsOf ls)
-  pub members : m ≡ leaves zeroMember nm r (memberRowsOf ls)
-  pub pool : p ≡ leaves 0 np r (poolOf ls)
-
--- what loading the text `s`, whose lines are `ls`, answers and leaves
-pub record Loads (r : Load) (s : List ℕ) (ls : List (List ℕ)) (nc nm np : ℕ) (c m : List (List ℕ)) (p : List ℕ) : Type 0 where
-  pub answer : r ≡ answerOf s ls (lent nc nm np)
-  pub classes : c ≡ classesLeft s ls (lent nc nm np)
-  pub members : m ≡ membersLeft s ls (lent nc nm np)
-  pub pool : p ≡ poolLeft s ls (lent nc nm np)
+-- two outcomes of one call are the same
+pub record Alike (r q : Load) (after later : Tables) : Type 0 where
+  pub answer : r ≡ q
+  pub classes : after .classes ≡ later .classes
+  pub members : after .members ≡ later .members
+  pub pool : after .pool ≡ later .pool

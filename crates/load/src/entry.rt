@@ -10,24 +10,16 @@ use table_rows::MemberRow;
 use table_rows::zero_bytes;
 use table_rows::zero_classes;
 use table_rows::zero_members;
+use tables::lesser;
 use text_utf8::Check;
 use text_utf8::check_text;
 use text_white::after_marks;
 ghost use mathlib.Core.Path.{_≡_};
-ghost use Prim.Native.Nat.{_≤_, min};
+ghost use Prim.Native.Nat.{_≤_};
 ghost use lib.ListN.{length, drop};
 ghost use Rattle.text_places.specs.Lines.{lines};
-ghost use Rattle.load_rule.specs.Loading.{isLoaded, linesParse, linesStr, mostText};
-ghost use Rattle.load.specs.Loads.{Cleared, Left, Loads};
-
-fn lesser(a: usize, b: usize) -> usize
-    ensures { λ r. ⌜ r ≡ min a b ⌝ }
-{
-    if a < b {
-        return a;
-    }
-    b
-}
+ghost use Rattle.load_rule.specs.Loading.{isLoaded, linesParse, linesStr, lent, answerOf, classesLeft, membersLeft, poolLeft, mostText};
+ghost use Rattle.load.specs.inner.Left.{Cleared, Left};
 
 fn is_loaded(load: Load) -> bool
     ensures { λ r. ⌜ r ≡ isLoaded load ⌝ }
@@ -49,7 +41,11 @@ fn is_loaded(load: Load) -> bool
 
 // All that is lent is made zero.
 fn clear(classes: &mut [ClassRow], members: &mut [MemberRow], pool: &mut [u8])
-    ensures { λ _. ⌜ Cleared (length (now (classes .entry))) (length (now (members .entry))) (length (now (pool .entry))) (now (classes .exit)) (now (members .exit)) (now (pool .exit)) ⌝ }
+    ensures { λ _.
+        let c = length (now (classes .entry)) in
+        let m = length (now (members .entry)) in
+        let p = length (now (pool .entry)) in
+        ⌜ Cleared c m p (now (classes .exit)) (now (members .exit)) (now (pool .exit)) ⌝ }
 {
     zero_classes(classes);
     zero_members(members);
@@ -64,7 +60,11 @@ fn load_lines(
     pool: &mut [u8],
 ) -> Load
     requires { ⌜ length (now text) ≤ mostText ⌝ }
-    ensures { λ r. ⌜ Left r (lines (now (text .entry))) (length (now (classes .entry))) (length (now (members .entry))) (length (now (pool .entry))) (now (classes .exit)) (now (members .exit)) (now (pool .exit)) ⌝ }
+    ensures { λ r.
+        let c = length (now (classes .entry)) in
+        let m = length (now (members .entry)) in
+        let p = length (now (pool .entry)) in
+        ⌜ Left r (lines (now (text .entry))) c m p (now (classes .exit)) (now (members .exit)) (now (pool .exit)) ⌝ }
 {
     clear(classes, members, pool);
     let class_rows = lesser(classes.len(), MOST_CLASSES);
@@ -92,7 +92,14 @@ fn load_from(
     pool: &mut [u8],
 ) -> Load
     requires { ⌜ start ≤ length (now text) ⌝ }
-    ensures { λ r. ⌜ Loads r (now (text .entry)) (lines (drop start (now (text .entry)))) (length (now (classes .entry))) (length (now (members .entry))) (length (now (pool .entry))) (now (classes .exit)) (now (members .exit)) (now (pool .exit)) ⌝ }
+    ensures { λ r.
+        let s = now (text .entry) in
+        let ls = lines (drop start s) in
+        let room = lent (length (now (classes .entry))) (length (now (members .entry))) (length (now (pool .entry))) in
+        ⌜ (r ≡ answerOf s ls room)
+        × (now (classes .exit) ≡ classesLeft s ls room)
+        × (now (members .exit) ≡ membersLeft s ls room)
+        × (now (pool .exit) ≡ poolLeft s ls room) ⌝ }
 {
     if MOST_TEXT < text.len() {
         clear(classes, members, pool);
@@ -117,7 +124,14 @@ pub fn parse_str(
     members: &mut [MemberRow],
     pool: &mut [u8],
 ) -> Load
-    ensures { λ r. ⌜ Loads r (now (text .entry)) (linesStr (now (text .entry))) (length (now (classes .entry))) (length (now (members .entry))) (length (now (pool .entry))) (now (classes .exit)) (now (members .exit)) (now (pool .exit)) ⌝ }
+    ensures { λ r.
+        let s = now (text .entry) in
+        let ls = linesStr s in
+        let room = lent (length (now (classes .entry))) (length (now (members .entry))) (length (now (pool .entry))) in
+        ⌜ (r ≡ answerOf s ls room)
+        × (now (classes .exit) ≡ classesLeft s ls room)
+        × (now (members .exit) ≡ membersLeft s ls room)
+        × (now (pool .exit) ≡ poolLeft s ls room) ⌝ }
 {
     load_from(text, 0, classes, members, pool)
 }
@@ -129,7 +143,14 @@ pub fn parse(
     members: &mut [MemberRow],
     pool: &mut [u8],
 ) -> Load
-    ensures { λ r. ⌜ Loads r (now (text .entry)) (linesParse (now (text .entry))) (length (now (classes .entry))) (length (now (members .entry))) (length (now (pool .entry))) (now (classes .exit)) (now (members .exit)) (now (pool .exit)) ⌝ }
+    ensures { λ r.
+        let s = now (text .entry) in
+        let ls = linesParse s in
+        let room = lent (length (now (classes .entry))) (length (now (members .entry))) (length (now (pool .entry))) in
+        ⌜ (r ≡ answerOf s ls room)
+        × (now (classes .exit) ≡ classesLeft s ls room)
+        × (now (members .exit) ≡ membersLeft s ls room)
+        × (now (pool .exit) ≡ poolLeft s ls room) ⌝ }
 {
     let start = after_marks(text);
     load_from(text, start, classes, members, pool)

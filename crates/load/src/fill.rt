@@ -72,7 +72,9 @@ pub fn load_into(
     pool: &mut [u8],
 ) -> Load
     requires { ⌜ Limits (length (now text)) (length (now classes)) (length (now members)) (length (now pool)) ⌝ }
-    ensures { λ r. ⌜ IntoBy r (lines (now (text .entry))) (now (classes .entry)) (now (members .entry)) (now (pool .entry)) (now (classes .exit)) (now (members .exit)) (now (pool .exit)) ⌝ }
+    ensures { λ r.
+        let ls = lines (now (text .entry)) in
+        ⌜ IntoBy r ls (now (classes .entry)) (now (members .entry)) (now (pool .entry)) (now (classes .exit)) (now (members .exit)) (now (pool .exit)) ⌝ }
 {
     let class_rows = classes.len();
     let member_rows = members.len();

@@ -7,8 +7,7 @@ use lib.ListN.{length}
 use Rattle.ground.specs.Choice.{pick}
 use Rattle.load_rule.specs.declared.Load.{Load}
 use Rattle.load_rule.specs.declared.Load.the-variants.{TooLong}
-use Rattle.load_rule.specs.Loading.{answerOf, linesParse}
-use Rattle.load.specs.inner.Into.{lent}
+use Rattle.load_rule.specs.Loading.{answerOf, linesParse, lent}
 
 abbrev pub programAnswer : List ℕ → Load
 programAnswer s = pick (ltb 65536 (length s)) TooLong (answerOf s (linesParse s) (lent 1024 1024 65536))

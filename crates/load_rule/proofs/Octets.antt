@@ -24,7 +24,6 @@ use Rattle.line_parts.specs.declared.signature.Qualified.the-variants.{Owned, P
 use Rattle.line.specs.declared.line.Line.{Line}
 use Rattle.line.specs.declared.line.Line.the-variants.{Blank, Comment, Class, Field, Method, Refused}
 use Rattle.text_places.specs.Spans.{partOf}
-use Rattle.line_parts.specs.Arguments.{argumentsOf}
 use Rattle.line.specs.Kinds.{lineOf}
 use Rattle.line.proofs.Octets.{NameOctets, arguments-texts}
 use Rattle.line.proofs.Telling.{LineOctets, line-octets}

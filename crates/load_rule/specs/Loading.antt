@@ -10,6 +10,7 @@ use Rattle.text_utf8.specs.declared.check.Check.{Check}
 use Rattle.text_utf8.specs.declared.check.Check.the-variants.{Valid, Broken}
 use Rattle.text_utf8.specs.Utf8.{checkOf}
 use Rattle.text_white.specs.Trim.{afterMarks}
+use Rattle.table_rows.specs.Tables.{Tables}
 use Rattle.table_rows.specs.Rows.{zeroClass, zeroMember, mostClasses, mostMembers, mostPool}
 use Rattle.load_rule.specs.declared.Fates.{Fates}
 use Rattle.load_rule.specs.declared.Scan.{Scan}
@@ -28,6 +29,9 @@ pub record Lent : Type 0 where
 
 abbrev pub lent : ℕ → ℕ → ℕ → Lent
 lent c m p = record { classes = c; members = m; pool = p }
+
+abbrev pub lentOf : Tables → Lent
+lentOf t = lent (length (t .classes)) (length (t .members)) (length (t .pool))
 
 -- "Class rows number at most 4,096, member rows 32,768, pool bytes 4,194,304; a longer lent slice counts as that."
 abbrev pub counting : Lent → Lent

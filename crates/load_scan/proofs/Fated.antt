@@ -55,7 +55,7 @@ module _ (member : Bool) (l : List ℕ) {k : Line} where
     pub fated-comment : member ≡ true → {b : Bool} → b ≡ isKnown (signatureAt l brace) → {x : Fate} → x ≡ commentFate b → x ≡ fateOf member l k
     fated-comment t h g = g ∙ sym (ap (fateOf member l) e ∙ rw (t, ← h))
 
-    pub fated-idle : member ≡ false → fate.Idle ≡ fateOf member l k
-    fated-idle t = sym (ap (fateOf member l) e ∙ rw t)
+    pub fated-idle : member ≡ false → {x : Fate} → x ≡ commentFate false → x ≡ fateOf member l k
+    fated-idle t g = g ∙ sym (ap (fateOf member l) e ∙ rw t)
 
 pub ruleset fating = (fated-blank, fated-class, fated-field, fated-refused, fated-method, fated-kind, fated-comment, fated-idle, needs)

@@ -97,7 +97,7 @@ pub fn fate_of(line: &[u8], kind: Line, member: bool) -> Fate
             if member {
                 return comment_fate(gives_signature(line, brace));
             }
-            Fate::Idle
+            comment_fate(false)
         }
         Line::Class { display: _, raw: _ } => Fate::Class,
         Line::Field {

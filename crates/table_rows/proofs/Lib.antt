@@ -1,3 +1,4 @@
 -- Laws of rows.
 pub mod Packing
 pub mod Zeroing
+pub mod Last

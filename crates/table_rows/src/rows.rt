@@ -192,5 +192,6 @@ pub fn unpack_member(row: MemberRow) -> Member
 pub fn range_flag(row: MemberRow) -> u32
     ensures { λ r. ⌜ r ≡ flagOf row ⌝ }
 {
-    row[10]
+    let flag = row[10];
+    flag
 }

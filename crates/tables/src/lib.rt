@@ -8,4 +8,5 @@ pub use check::well_formed;
 pub use search::Found;
 pub use search::last_with_display;
 pub use search::last_with_raw;
+pub use texts::lesser;
 pub use texts::text_in;

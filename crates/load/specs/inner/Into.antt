@@ -12,7 +12,7 @@ use Rattle.load_rule.specs.declared.Scan.{Scan}
 use Rattle.load_rule.specs.declared.Scan.the-variants as scan
 use Rattle.load_rule.specs.declared.Load.{Load}
 use Rattle.load_rule.specs.declared.Load.the-variants.{Loaded, Faulty, NoClasses, FewClassRows, FewMemberRows, ShortPool}
-use Rattle.load_rule.specs.Loading.{Lent, linesLoad, isLoaded, poolOf, classRowsOf, memberRowsOf, mostText}
+use Rattle.load_rule.specs.Loading.{lent, linesLoad, isLoaded, poolOf, classRowsOf, memberRowsOf, mostText}
 use Rattle.table_rows.specs.Rows.{mostMembers, mostClasses, mostPool}
 
 -- the sizes of a text and of what is lent, at most the largest ones
@@ -21,9 +21,6 @@ pub record Limits (s c m p : ℕ) : Type 0 where
   pub classes : c ≤ mostClasses
   pub members : m ≤ mostMembers
   pub pool : p ≤ mostPool
-
-abbrev pub lent : ℕ → ℕ → ℕ → Lent
-lent c m p = record { classes = c; members = m; pool = p }
 
 -- the counts of members can be added
 abbrev pub Counted : Scan → Type 0

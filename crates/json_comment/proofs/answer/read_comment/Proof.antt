@@ -1,7 +1,6 @@
 -- `json_comment::answer::read_comment` meets its contract, by the laws of Answers and an invariant that says: the rest decides as the whole does.
 use Rattle.json.proofs.Values.{member-inside}
-use Rattle.json_comment.proofs.Answers.{value-starts, reading-wrong, reading-ends}
-use Rattle.json_comment.proofs.Answers.{reading, Reading}
+use Rattle.json_comment.proofs.Answers.{value-starts, reading-wrong, reading-ends, reading, Reading}
 use Prim.Native.Nat.{_-_}
 use lib.ListN.{length}
 use Rattle.json_comment.proofs.answer.read_comment.Statement.{statement}

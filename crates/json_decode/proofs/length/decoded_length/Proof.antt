@@ -1,8 +1,7 @@
 -- `json_decode::length::decoded_length` meets its contract, by the laws of Lengths and an invariant that says: the rest decides as the whole does.
-use Rattle.json_decode.proofs.Lengths.{counting}
+use Rattle.json_decode.proofs.Lengths.{counting, Counting}
 use Prim.Native.Nat.{_-_}
 use lib.ListN.{length}
-use Rattle.json_decode.proofs.Lengths.{Counting}
 use Rattle.json_decode.proofs.length.decoded_length.Statement.{statement}
 use Rattle.json_decode.proofs.length.decoded_length.Tie as tie
 

@@ -1,6 +1,5 @@
 -- `json_decode::octets::has_octets` meets its contract, by the laws of OctetLaws and an invariant that says: the rest decides as the whole does.
-use Rattle.json_decode.proofs.OctetLaws.{heading-more}
-use Rattle.json_decode.proofs.OctetLaws.{heading, Heading}
+use Rattle.json_decode.proofs.OctetLaws.{heading-more, heading, Heading}
 use Prim.Native.Nat.{_-_}
 use Rattle.json_decode.proofs.octets.has_octets.Statement.{statement}
 use Rattle.json_decode.proofs.octets.has_octets.Tie as tie
