@@ -208,7 +208,9 @@ pub fn run(settings: &Settings, report: &mut Report) -> Held {
         turned: Comparison::new(TURNED),
     };
     let letters: Vec<&[u8]> = LETTERS.iter().map(|letter| letter.as_bytes()).collect();
-    every::text_after(b"", &letters, 6, &mut |text| held.hold(text))?;
+    every::text_after(b"", &letters, settings.letters(6), &mut |text| {
+        held.hold(text)
+    })?;
     let mut random = settings.random("descriptors");
     for _ in settings.turns(700_000) {
         held.hold(&Text(random_text(&mut random).into_bytes()))?;

@@ -107,7 +107,7 @@ pub fn run(settings: &Settings, report: &mut Report) -> Held {
         leading.hold(text)?;
         trailing.hold(text)
     };
-    every::text_of("+01:x", 9, &mut hold)?;
+    every::text_of("+01:x", settings.letters(9), &mut hold)?;
     let mut random = settings.random("ranges");
     for _ in settings.turns(1_000_000) {
         hold(&random_range(&mut random))?;
