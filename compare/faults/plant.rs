@@ -1,4 +1,4 @@
-//! Plants the faults of list.txt into a copy of the plain program and of the C functions over it. Each stands beside what is
+//! Plants the faults of lists/ into a copy of the plain program and of the C functions over it. Each stands beside what is
 //! right, as `if on(N) { wrong } else { right }`, so that one program has them all and a run chooses one.
 
 use std::error::Error;
@@ -8,7 +8,8 @@ use std::{env, fs};
 
 type Done<T> = Result<T, Box<dyn Error>>;
 
-const LIST: &str = "faults/list.txt";
+/// A list for each part of the comparison.
+const LISTS: &str = "faults/lists";
 
 /// The plain program, and the files that stand below it as modules.
 const PLAIN: &str = "src/plain.rs";
@@ -24,40 +25,75 @@ const DOORS: [&str; 5] = [
 struct Fault {
     name: String,
     file: String,
+    /// the text from which on `old` is looked for
+    from: String,
     old: String,
     new: String,
 }
 
-/// The value after the word and a colon.
-fn field(record: &str, word: &str) -> Done<String> {
-    let start = format!("{word}: ");
-    let line = record.lines().find_map(|line| line.strip_prefix(&start));
-    line.map(str::to_owned)
-        .ok_or_else(|| format!("{LIST}: no {word} in\n{record}").into())
-}
+impl Fault {
+    /// The value after the word and a colon.
+    fn field(record: &str, word: &str) -> Option<String> {
+        let start = format!("{word}: ");
+        let line = record.lines().find_map(|line| line.strip_prefix(&start));
+        line.map(str::to_owned)
+    }
 
-/// The records of the list, which blank lines divide.
-fn faults(list: &str) -> Done<Vec<Fault>> {
-    let records = list.split("\n\n").map(str::trim);
-    let records = records.filter(|record| record.lines().any(|line| !line.starts_with('#')));
-    let fault = |record| {
+    fn read(record: &str) -> Done<Fault> {
+        let field = |word| {
+            let found = Fault::field(record, word);
+            found.ok_or_else(|| format!("no line `{word}:` in\n{record}"))
+        };
+        field("wrong")?;
         Ok(Fault {
-            name: field(record, "name")?,
-            file: field(record, "file")?,
-            old: field(record, "old")?,
-            new: field(record, "new")?,
+            name: field("name")?,
+            file: field("file")?,
+            from: field("in")?,
+            old: field("old")?,
+            new: field("new")?,
         })
-    };
-    records.map(fault).collect()
+    }
+
+    /// Where the right expression stands in the text of the file.
+    fn place(&self, text: &str) -> Option<Range<usize>> {
+        let from = text.find(&self.from)?;
+        let at = from + text[from..].find(&self.old)?;
+        Some(at..at + self.old.len())
+    }
 }
 
-/// Where the text stands once.
-fn place(text: &str, part: &str) -> Option<Range<usize>> {
-    let at = text.find(part)?;
-    text[at + 1..]
-        .find(part)
-        .is_none()
-        .then(|| at..at + part.len())
+/// The record once for each number that it names, or as it is.
+fn each(record: &str) -> Done<Vec<String>> {
+    let Some(range) = Fault::field(record, "each") else {
+        return Ok(vec![record.to_owned()]);
+    };
+    let ends = range.split_once("..").ok_or("`each:` without `..`")?;
+    let numbers = ends.0.parse::<u32>()?..ends.1.parse()?;
+    Ok(numbers
+        .map(|number| record.replace("{}", &number.to_string()))
+        .collect())
+}
+
+/// The faults of all lists, whose records blank lines divide.
+fn faults() -> Done<Vec<Fault>> {
+    let mut paths = Vec::new();
+    for entry in fs::read_dir(LISTS)? {
+        paths.push(entry?.path());
+    }
+    paths.sort();
+    let mut faults = Vec::new();
+    for path in paths {
+        println!("cargo:rerun-if-changed={}", path.display());
+        let list = fs::read_to_string(&path)?;
+        let records = list.split("\n\n").map(str::trim);
+        for record in records.filter(|record| record.starts_with("name: ")) {
+            for record in each(record)? {
+                let fault = Fault::read(&record);
+                faults.push(fault.map_err(|error| format!("{}: {error}", path.display()))?);
+            }
+        }
+    }
+    Ok(faults)
 }
 
 /// The text with all its faults beside what is right.
@@ -68,8 +104,9 @@ fn planted(file: &str, text: &str, faults: &[Fault]) -> Done<String> {
         .enumerate()
         .filter(|(_, fault)| fault.file == file)
     {
-        let place = place(text, &fault.old)
-            .ok_or_else(|| format!("{}: not once in {file}: {}", fault.name, fault.old))?;
+        let place = fault
+            .place(text)
+            .ok_or_else(|| format!("{}: {file} has no {}", fault.name, fault.old))?;
         let wrong = format!("if crate::stand_in::on({number}) {{ {} }} else ", fault.new);
         match places.iter_mut().find(|(known, _)| *known == place) {
             Some((_, wrongs)) => *wrongs += &wrong,
@@ -100,9 +137,8 @@ fn module(path: &str, faults: &[Fault]) -> Done<String> {
 /// Writes faulty.rs into the folder where cargo keeps what is made.
 pub fn run() -> Done<()> {
     println!("cargo:rerun-if-changed=faults/plant.rs");
-    println!("cargo:rerun-if-changed={LIST}");
-    let list = fs::read_to_string(LIST).map_err(|error| format!("{LIST}: {error}"))?;
-    let faults = faults(&list)?;
+    println!("cargo:rerun-if-changed={LISTS}");
+    let faults = faults()?;
     let names: Vec<&str> = faults.iter().map(|fault| &fault.name[..]).collect();
     let mut whole = format!("pub const FAULTS: [&str; {}] = {names:?};\n", names.len());
     let files = [PLAIN.to_owned()].into_iter();

@@ -91,13 +91,15 @@ const STRINGS: [&str; 10] = [
 const NUMBERS: &[u8] = b"-+.eE019";
 
 /// A hole for every byte, and for every two, at each place where another kind of text stands.
-const FRAMES: [Frame; 14] = [
+const FRAMES: [Frame; 16] = [
     ("", "{}"),
     ("{", "}"),
+    ("{\"id\"", "1}"),
     ("{\"id\"", ":1}"),
     ("{\"id\":", "1}"),
     ("{\"id\":1", "}"),
     ("{\"id\":1}", ""),
+    ("{\"id\":1", "\"signature\":\"x\"}"),
     ("{\"id\":1,", "\"signature\":\"x\"}"),
     ("{\"id\":\"", "\"}"),
     ("{\"id\":\"\\", "\"}"),

@@ -88,26 +88,22 @@ fn every_three_bytes(settings: &Settings, check: &mut Check, sequence: &mut Sequ
     })
 }
 
-/// Every first and second byte, with up to three telling bytes after them.
+/// Every first and second byte, with up to three telling bytes after them. Of a quick run all five are telling.
 fn every_pair(settings: &Settings, check: &mut Check, sequence: &mut Sequence) -> Held {
     let letters: Vec<&[u8]> = TELLING.chunks(1).collect();
     let mut place = Place::default();
-    for first in 0..=u8::MAX {
-        for second in 0..=u8::MAX {
-            every::text_after(
-                &[first, second],
-                &letters,
-                settings.letters(3),
-                &mut |text| {
-                    check.hold(text)?;
-                    // a fifth byte belongs to no sequence at the start
-                    if text.0.len() > 4 {
-                        return Ok(());
-                    }
-                    place.text.clone_from(&text.0);
-                    sequence.hold(&place)
-                },
-            )?;
+    let is_held = |byte: &u8| !settings.quick || TELLING.contains(byte);
+    for first in (0..=u8::MAX).filter(is_held) {
+        for second in (0..=u8::MAX).filter(is_held) {
+            every::text_after(&[first, second], &letters, 3, &mut |text| {
+                check.hold(text)?;
+                // a fifth byte belongs to no sequence at the start
+                if text.0.len() > 4 {
+                    return Ok(());
+                }
+                place.text.clone_from(&text.0);
+                sequence.hold(&place)
+            })?;
         }
     }
     Ok(())
