@@ -108,6 +108,10 @@ fn hostile_texts() -> Vec<Hostile> {
         ("arguments", " a b(", "a,", ") -> c"),
         ("fields", "", " java.lang.String name_of_a_field -> c\n", ""),
         ("methods", "", " 1:9:void run(int,long,a):10:19 -> d\n", ""),
+        ("type of L", " ", "L", " n -> c"),
+        ("type of pieces", " ", "La;", " n -> c"),
+        ("type of semicolons", " ", ";", " n -> c"),
+        ("type of brackets", " ", "[]", " n -> c"),
     ];
     let after_member = |(name, before, part, after): (&str, &str, &str, &str)| {
         let before = format!("a -> b:\n int n -> c\n{before}");

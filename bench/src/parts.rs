@@ -1,4 +1,4 @@
-//! Comments, lines, arguments, types and descriptors made to be slow to read.
+//! Comments, lines, arguments, types and signatures made to be slow to read.
 
 use crate::hostile::{self, Hostile};
 use clumarief_compare::proved;
@@ -98,16 +98,6 @@ fn hostile_types() -> Vec<Hostile> {
     ])
 }
 
-fn hostile_descriptors() -> Vec<Hostile> {
-    rows(&[
-        ("L", "", "L", ""),
-        ("pieces", "", "La;", ""),
-        ("semicolons", "", ";", ""),
-        ("brackets", "", "[", ""),
-        ("letters between", "", "aLb;", ""),
-    ])
-}
-
 fn yes_or_no(number: u64) -> &'static str {
     if number == 1 { "yes" } else { "no" }
 }
@@ -131,10 +121,11 @@ fn arguments_there(text: &[u8]) -> &'static str {
     there
 }
 
-/// A type's descriptor, written.
-fn type_written(text: &[u8]) -> &'static str {
-    let mut room = vec![0; text.len() + 2];
-    yes_or_no(proved::typed(text, &mut room, 0)[0])
+/// What a type is without its brackets.
+fn type_base(text: &[u8]) -> &'static str {
+    let bases = ["word", "kept", "class"];
+    let [_, _, _, base, _] = proved::type_shape(text);
+    bases.get(base as usize).copied().unwrap_or("wrong")
 }
 
 /// A raw signature of a field, settled where it stands.
@@ -142,18 +133,6 @@ fn signature_settled(text: &[u8]) -> &'static str {
     let mut room = text.to_vec();
     room.extend([0; 2]);
     yes_or_no(proved::signature(&mut room, 0, text.len(), false)[0])
-}
-
-/// All parts of a descriptor, one after another.
-fn parts_there(text: &[u8]) -> &'static str {
-    let (mut at, mut there) = (0, "plain");
-    while let [kind @ 1..=2, end] = proved::part(text, at) {
-        at = end as usize;
-        if kind == 1 {
-            there = "pieces";
-        }
-    }
-    there
 }
 
 /// What is timed; its answer is said beside the times.
@@ -181,17 +160,11 @@ pub fn run(runs: u64) {
         arguments_there,
         hostile_arguments(),
     );
-    table("hostile type", "written", type_written, hostile_types());
+    table("hostile type", "is", type_base, hostile_types());
     table(
         "hostile signature",
         "settled",
         signature_settled,
         hostile_types(),
-    );
-    table(
-        "hostile descriptor",
-        "has",
-        parts_there,
-        hostile_descriptors(),
     );
 }

@@ -1,7 +1,7 @@
 //! The C functions of line_probes and descriptor_probes, answered by the plain program.
 
 use super::characters::trim;
-use super::descriptors::{class_descriptor, parts, raw_signature, type_descriptor};
+use super::descriptors::{Base, class_descriptor, raw_signature, type_shape};
 use super::lines::{Line, Method, Range, line_of};
 use super::slices::{Bytes, lent, span, start, text, written};
 
@@ -98,16 +98,20 @@ pub unsafe extern "C" fn clumarief_probe_class(
 }
 
 #[unsafe(no_mangle)]
-pub unsafe extern "C" fn clumarief_probe_type(
+pub unsafe extern "C" fn clumarief_probe_type_shape(
     address: Bytes,
     length: usize,
-    room: *mut u8,
-    room_length: usize,
-    at: usize,
-    answer: &mut [u64; 2],
+    answer: &mut [u64; 5],
 ) {
-    let (text, room) = unsafe { (text(address, length), lent(room, room_length)) };
-    *answer = written(&type_descriptor(trim(text)), room, at);
+    let text = unsafe { text(address, length) };
+    let shape = type_shape(trim(text));
+    let [start, end] = span(text, shape.text);
+    let (kind, letter) = match shape.base {
+        Base::Word(letter) => (0, letter),
+        Base::Kept => (1, 0),
+        Base::Class => (2, 0),
+    };
+    *answer = [shape.brackets as u64, start, end, kind, letter.into()];
 }
 
 #[unsafe(no_mangle)]
@@ -125,22 +129,6 @@ pub unsafe extern "C" fn clumarief_probe_signature(
             let settled = raw_signature(text, method == 1);
             written(&settled, room, at)
         }
-        None => [0; 2],
-    };
-}
-
-#[unsafe(no_mangle)]
-pub unsafe extern "C" fn clumarief_probe_part(
-    address: Bytes,
-    length: usize,
-    at: usize,
-    answer: &mut [u64; 2],
-) {
-    let rest = unsafe { text(address, length) };
-    let parts = parts(rest.get(at..).unwrap_or_default());
-    let first = parts.into_iter().find(|(_, part)| !part.is_empty());
-    *answer = match first {
-        Some((piece, part)) => [if piece { 1 } else { 2 }, (at + part.len()) as u64],
         None => [0; 2],
     };
 }

@@ -125,19 +125,13 @@ pub unsafe extern "C" fn clumarief_probe_number(
 pub unsafe extern "C" fn clumarief_probe_leading(
     address: Bytes,
     length: usize,
-    answer: &mut [u64; 5],
+    answer: &mut [u64; 4],
 ) {
     let text = unsafe { text(address, length) };
     *answer = match leading_range(text) {
-        (Some((from, to)), rest) => [1, from.into(), to.into(), start(text, rest), 0],
-        (None, _) => [0, 0, 0, 0, u64::from(second_unread(text))],
+        (Some((from, to)), rest) => [1, from.into(), to.into(), start(text, rest)],
+        (None, _) => [0; 4],
     };
-}
-
-/// Whether the second part of a leading range alone does not read.
-fn second_unread(text: &[u8]) -> bool {
-    let parts: Vec<&[u8]> = text.splitn(3, |byte| *byte == b':').collect();
-    matches!(parts[..], [first, second, _] if number(first).is_some() && number(second).is_none())
 }
 
 #[unsafe(no_mangle)]

@@ -58,10 +58,7 @@ const ARGUMENTS: Subject<Place, Sound<Vec<String>>> = Subject {
 /// 1, start, end and the place of the rest; or zeros.
 const LEADING: Subject<Text, [u64; 4]> = Subject {
     name: "raw range",
-    proved: |text| {
-        let [taken, start, end, rest, _] = proved::leading(&text.0);
-        [taken, start, end, rest]
-    },
+    proved: |text| proved::leading(&text.0),
     judge: |text| {
         let text = str::from_utf8(&text.0).ok()?;
         Some(match doors::leading_range(text) {
