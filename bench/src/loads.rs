@@ -1,16 +1,15 @@
-//! Loading: a real mapping file and a synthetic one, beside the original's `Mapping::parse`; and texts made to be slow.
+//! Loading: a real mapping file and synthetic ones, beside the original's `Mapping::parse`; and texts made to be slow.
 
+use crate::hostile::{self, Hostile};
 use crate::race::{self, Race, Unequal};
-use crate::synthetic;
+use clumarief_compare::comment_parts::residual_comment;
 use clumarief_compare::plain::{self, Lent};
 use clumarief_compare::proved::{self, Rooms};
+use clumarief_compare::random::Random;
+use clumarief_compare::synthetic::{self, Form};
 use clumarief_compare::timing;
-use std::hint::black_box;
-use std::time::{Duration, Instant};
-use std::{env, fs};
-
-/// The real file is named by this variable of the environment, which `run --real` sets.
-const REAL: &str = "CLUMARIEF_REAL";
+use std::fs;
+use std::path::Path;
 
 /// Rows and bytes that are lent to one load after the other.
 struct Buffers {
@@ -68,12 +67,12 @@ fn race(text: &str, name: &'static str, runs: u64) -> Result<(), Unequal> {
     })
 }
 
-fn real(runs: u64) -> Result<(), Unequal> {
-    let Some(path) = env::var_os(REAL).filter(|path| !path.is_empty()) else {
+fn real(path: Option<&Path>, runs: u64) -> Result<(), Unequal> {
+    let Some(path) = path else {
         println!("real file     left out: none is named, see run --real");
         return Ok(());
     };
-    match fs::read_to_string(&path) {
+    match fs::read_to_string(path) {
         Ok(text) => race(&text, "real file", runs),
         Err(error) => {
             println!("real file     left out: {error}");
@@ -82,85 +81,76 @@ fn real(runs: u64) -> Result<(), Unequal> {
     }
 }
 
+const MEGABYTE: usize = 1_000_000;
+
+/// The same texts for the same seed.
+fn synthetic(seed: u64, runs: u64) -> Result<(), Unequal> {
+    for (form, name) in [(Form::ProGuard, "as ProGuard"), (Form::R8, "as R8")] {
+        let mut random = Random::new(seed, name);
+        race(&synthetic::mapping(&mut random, form, MEGABYTE), name, runs)?;
+    }
+    Ok(())
+}
+
 /// So many class lines, each with a name of its own.
 fn classes(count: usize) -> String {
     let line = |at: usize| format!("a.b.C{at} -> c{at}:\n");
     (0..count).map(line).collect()
 }
 
-/// A text of many equal parts between a start and an end.
-struct Hostile {
-    name: &'static str,
-    start: String,
-    part: &'static str,
-    end: &'static str,
-}
-
 fn hostile_texts() -> Vec<Hostile> {
-    let residual =
-        "# {\"id\":\"com.android.tools.r8.residualsignature\",\"signature\":\"(La/b;)V\"}\n";
+    let residual = residual_comment("(La/b;)V") + "\n";
     let parts = [
         ("blank lines", "", "\n", ""),
         ("comments", "", "# {}\n", ""),
-        ("residual comments", "", residual, ""),
+        ("residual comments", "", &residual, ""),
         ("one comment", "# {\"id\":\"", "a", "\"}"),
         ("arguments", " a b(", "a,", ") -> c"),
         ("fields", "", " java.lang.String name_of_a_field -> c\n", ""),
         ("methods", "", " 1:9:void run(int,long,a):10:19 -> d\n", ""),
+        ("type of L", " ", "L", " n -> c"),
+        ("type of pieces", " ", "La;", " n -> c"),
+        ("type of semicolons", " ", ";", " n -> c"),
+        ("type of brackets", " ", "[]", " n -> c"),
     ];
-    let after_member = |(name, start, part, end)| Hostile {
-        name,
-        start: format!("a -> b:\n int n -> c\n{start}"),
-        part,
-        end,
+    let after_member = |(name, before, part, after): (&str, &str, &str, &str)| {
+        let before = format!("a -> b:\n int n -> c\n{before}");
+        Hostile::new(name, &before, part, after)
     };
     let mut texts: Vec<Hostile> = parts.map(after_member).into();
-    texts.push(Hostile {
-        name: "methods, 4,000 classes",
-        start: classes(4_000),
-        part: " a.b.C0 f(a.b.C1,a.b.C2000,a.b.D) -> d\n",
-        end: "",
-    });
+    // as many as a text of 64 KiB can begin with, and as many as there may be
+    for (name, count) in [
+        ("methods, 1,000 classes", 1_000),
+        ("methods, 4,000 classes", 4_000),
+    ] {
+        let method = " a.b.C0 f(a.b.C1,a.b.C999,a.b.D) -> d\n";
+        texts.push(Hostile::new(name, &classes(count), method, ""));
+    }
     texts
 }
 
-const KIBIBYTES: [usize; 4] = [128, 256, 512, 1024];
-
-/// The number of the answer, and the time of a byte in nanoseconds, best of the runs.
-fn time_of_byte(hostile: &Hostile, length: usize, runs: u64) -> (u32, f64) {
-    let room = length - hostile.start.len() - hostile.end.len();
-    let parts = hostile.part.repeat(room / hostile.part.len());
-    let text = [&hostile.start, &parts, hostile.end].concat().into_bytes();
-    let needed = plain::read(&text, true).map(|mapping| mapping.needed());
-    let mut buffers = Buffers::of(needed.unwrap_or(plain::LIMITS));
-    let (mut best, mut number) = (Duration::MAX, 0);
-    for _ in 0..runs.max(1) {
-        let clock = Instant::now();
-        number = black_box(buffers.load(black_box(&text)));
-        best = best.min(clock.elapsed());
-    }
-    (number, best.as_secs_f64() * 1e9 / text.len() as f64)
-}
-
 fn hostile(runs: u64) {
-    let lengths: String = KIBIBYTES.map(|length| format!("{length:>9}")).concat();
-    println!("{:<26}{:<9}{lengths}", "hostile load", "answer");
-    for hostile in hostile_texts() {
-        let times = KIBIBYTES.map(|length| time_of_byte(&hostile, length * 1024, runs));
-        let number = times[0].0;
-        let times = times.map(|(_, time)| format!("{time:>9.3}"));
-        println!("{:<26}{number:<9}{}", hostile.name, times.concat());
+    hostile::print_head("hostile load", "answer");
+    for row in hostile_texts() {
+        hostile::print_row(&row, runs, |text| {
+            let needed = plain::read(&text, true).map(|mapping| mapping.needed());
+            let mut buffers = Buffers::of(needed.unwrap_or(plain::LIMITS));
+            move || buffers.load(&text)
+        });
     }
 }
 
-pub fn run(seed: u64, runs: u64) -> Result<(), Unequal> {
+pub fn run(seed: u64, runs: u64, path: Option<&Path>) -> Result<(), Unequal> {
     race::print_head("original");
-    real(runs)?;
-    race(&synthetic::mapping(seed), "synthetic", runs)?;
+    real(path, runs)?;
+    synthetic(seed, runs)?;
     if !timing::AT_HAND {
         println!("The original's source is not at hand, see run --source.");
     }
-    println!("\nnanoseconds a byte, at lengths in KiB");
-    hostile(runs.min(10));
     Ok(())
+}
+
+/// Loads of texts made to be slow; a load takes longer than the other works, so there are fewer runs.
+pub fn run_hostile(runs: u64) {
+    hostile(runs.min(20));
 }

@@ -1,15 +1,17 @@
-//! bench [--seed N] [--runs N]: times the proved functions beside Rust's standard library and the original, in one
-//! process, and alone on texts made to be slow.
-//! Status: 0 done, 1 the two disagree, 2 bad arguments.
+//! Times the proved functions beside Rust's standard library and the original, in one process, and alone on texts made to be
+//! slow. What it is asked by and what its status says stands in usage.txt.
 
 mod hostile;
 mod loads;
+mod parts;
 mod race;
-mod synthetic;
+mod times;
 
+use clumarief_compare::arguments::{self, Asked};
 use clumarief_compare::random::Random;
+use clumarief_compare::synthetic::{self, Form};
 use clumarief_compare::trims::judge_trim;
-use clumarief_compare::{arguments, proved, texts};
+use clumarief_compare::{proved, texts};
 use race::{Race, Unequal};
 use std::env;
 use std::process::ExitCode;
@@ -17,9 +19,7 @@ use std::str;
 
 const MEGABYTE: usize = 1_000_000;
 
-const USAGE: &str = "usage: bench [--seed N] [--runs N]
-  --seed N   the seed of the texts (1)
-  --runs N   how many runs the best is taken of (100)";
+const USAGE: &str = include_str!("../usage.txt");
 
 /// 0 for a valid text, as all are that are timed.
 fn proved_check(text: &str) -> u64 {
@@ -76,7 +76,7 @@ fn std_places(text: &str) -> u64 {
 
 fn races(seed: u64, runs: u64) -> Result<(), Unequal> {
     let mut random = Random::new(seed, "bench");
-    let mapping = texts::mapping(&mut random, MEGABYTE);
+    let mapping = synthetic::mapping(&mut random, Form::ProGuard, MEGABYTE);
     let scripts = texts::words(&mut random, MEGABYTE);
     let race = |text, name| Race { text, name, runs };
     let (lines, scripts) = (
@@ -91,26 +91,40 @@ fn races(seed: u64, runs: u64) -> Result<(), Unequal> {
     lines.run("lines, 8 places", proved_places, std_places)
 }
 
-fn main() -> ExitCode {
-    let words = env::args().skip(1);
-    let Some([seed, runs]) = arguments::numbers(words, ["--seed", "--runs"], [1, 100]) else {
-        eprintln!("{USAGE}");
-        return ExitCode::from(2);
-    };
-    println!("seed {seed}, best of {runs} runs each, by turns; megabytes a second");
-    if let Err(Unequal(name)) = races(seed, runs) {
-        println!("bench: proved and std disagree on {name}");
-        return ExitCode::FAILURE;
-    }
+/// All tables.
+fn bench(asked: &Asked<2>) -> Result<(), String> {
+    let [seed, runs] = asked.numbers;
+    println!(
+        "seed {seed}, {runs} runs each, by turns; spread: the middle half of the runs, in percent of the median\n"
+    );
+    races(seed, runs).map_err(|Unequal(name)| format!("proved and std disagree on {name}"))?;
     println!(
         "The proved trim gives 8 places in one call: \"trim\" sets it beside `str::trim` alone,\n\
          \"8 places\" beside the methods of `str` for all of them.\n"
     );
-    if let Err(Unequal(name)) = loads::run(seed, runs) {
-        println!("bench: proved and original disagree on {name}");
-        return ExitCode::FAILURE;
+    loads::run(seed, runs, asked.real.as_deref())
+        .map_err(|Unequal(name)| format!("proved and original disagree on {name}"))?;
+    println!("\nnanoseconds a byte: best at lengths in KiB; median and spread at the last");
+    loads::run_hostile(runs);
+    parts::run(runs);
+    Ok(())
+}
+
+fn main() -> ExitCode {
+    if env::args().any(|word| word == "--help") {
+        print!("{USAGE}");
+        return ExitCode::SUCCESS;
     }
-    println!("\nnanoseconds a byte, at lengths in KiB");
-    hostile::run(runs);
-    ExitCode::SUCCESS
+    let words = env::args().skip(1);
+    let Some(asked) = arguments::asked(words, ["--seed", "--runs"], [1, 100], &[]) else {
+        eprint!("{USAGE}");
+        return ExitCode::from(2);
+    };
+    match bench(&asked) {
+        Ok(()) => ExitCode::SUCCESS,
+        Err(said) => {
+            println!("bench: {said}");
+            ExitCode::FAILURE
+        }
+    }
 }

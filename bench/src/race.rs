@@ -1,7 +1,8 @@
 //! Two functions timed over the same text.
 
+use crate::times::{self, Times};
 use std::hint::black_box;
-use std::time::{Duration, Instant};
+use std::time::Duration;
 
 /// What two functions disagree on.
 pub struct Unequal(pub &'static str);
@@ -14,20 +15,17 @@ pub struct Race<'a> {
     pub runs: u64,
 }
 
-/// What the work answers, which is let go only after the clock has stopped.
 fn time<A>(work: &mut impl FnMut(&str) -> A, text: &str) -> (A, Duration) {
-    let start = Instant::now();
-    let answer = black_box(work(black_box(text)));
-    (answer, start.elapsed())
+    times::time(|| work(black_box(text)))
 }
 
+/// The ratio is that of the best runs.
 pub fn print_head(other: &str) {
+    let columns = "    best  median  spread";
+    println!("{:<31}{:>24}{other:>24}", "megabytes a second", "proved");
     println!(
-        "{:<14}{:<17}{:>9}{other:>9}{:>16}",
-        "text",
-        "work",
-        "proved",
-        format!("proved/{other}")
+        "{:<14}{:<17}{columns}{columns}{:>8}",
+        "text", "work", "ratio"
     );
 }
 
@@ -46,33 +44,34 @@ impl Race<'_> {
         mut other: impl FnMut(&str) -> O,
         same: impl Fn(&P, &O) -> bool,
     ) -> Result<(), Unequal> {
-        let (mut best_proved, mut best_other) = (Duration::MAX, Duration::MAX);
+        let (mut proved_times, mut other_times) = (Vec::new(), Vec::new());
         for _ in 0..self.runs.max(1) {
             let (proved_answer, proved_time) = time(&mut proved, self.text);
             let (other_answer, other_time) = time(&mut other, self.text);
             if !same(&proved_answer, &other_answer) {
                 return Err(Unequal(work));
             }
-            best_proved = best_proved.min(proved_time);
-            best_other = best_other.min(other_time);
+            proved_times.push(proved_time);
+            other_times.push(other_time);
         }
-        let (proved, other) = (self.speed(best_proved), self.speed(best_other));
-        let name = self.name;
-        println!(
-            "{name:<14}{work:<17}{proved:>9.0}{other:>9.0}{:>16.3}",
-            proved / other
-        );
+        let (proved, other) = (Times::of(proved_times), Times::of(other_times));
+        let ratio = other.best().as_secs_f64() / proved.best().as_secs_f64();
+        let (proved, other) = (self.speeds(&proved), self.speeds(&other));
+        println!("{:<14}{work:<17}{proved}{other}{ratio:>8.3}", self.name);
         Ok(())
     }
 
-    /// Prints the speed of one, where the other is not at hand.
+    /// Prints the speeds of one, where the other is not at hand.
     pub fn run_alone<P>(&self, work: &str, mut proved: impl FnMut(&str) -> P) {
         let times = (0..self.runs.max(1)).map(|_| time(&mut proved, self.text).1);
-        let best = times.min().unwrap_or(Duration::MAX);
-        println!("{:<14}{work:<17}{:>9.0}", self.name, self.speed(best));
+        let times = Times::of(times.collect());
+        println!("{:<14}{work:<17}{}", self.name, self.speeds(&times));
     }
 
-    fn speed(&self, best: Duration) -> f64 {
-        self.text.len() as f64 / best.as_secs_f64() / 1e6
+    /// Best, median and spread.
+    fn speeds(&self, times: &Times) -> String {
+        let speed = |time: Duration| self.text.len() as f64 / time.as_secs_f64() / 1e6;
+        let (best, median) = (speed(times.best()), speed(times.median()));
+        format!("{best:>8.0}{median:>8.0}{:>7.1}%", times.spread())
     }
 }

@@ -103,8 +103,8 @@ fn random_two(random: &mut Random) -> Two {
     Two { left, right }
 }
 
-fn every_search(bytes: &mut Comparison<Search, [u64; 3]>) -> Held {
-    every::text_of("abc", 8, &mut |text| {
+fn every_search(settings: &Settings, bytes: &mut Comparison<Search, [u64; 3]>) -> Held {
+    every::text_of("abc", settings.letters(8), &mut |text| {
         for pair in [b"aa", b"ab", b"ba", b"cb", b"bd", b"da"] {
             let (text, [first, second]) = (text.0.clone(), *pair);
             bytes.hold(&Search {
@@ -128,7 +128,7 @@ fn every_two(same: &mut Comparison<Two, u32>) -> Held {
 
 pub fn run(settings: &Settings, report: &mut Report) -> Held {
     let (mut bytes, mut same) = (Comparison::new(BYTES), Comparison::new(SAME));
-    every_search(&mut bytes)?;
+    every_search(settings, &mut bytes)?;
     every_two(&mut same)?;
     let mut random = settings.random("bytes");
     for _ in settings.turns(600_000) {

@@ -148,6 +148,11 @@ pub const TRAILERS: [&str; 12] = [
 /// The id that makes a comment count.
 pub const RESIDUAL: &str = "com.android.tools.r8.residualsignature";
 
+/// A comment that gives the signature, as R8 writes it.
+pub fn residual_comment(signature: &str) -> String {
+    format!("# {{\"id\":\"{RESIDUAL}\",\"signature\":\"{signature}\"}}")
+}
+
 /// Bytes with a meaning in JSON, and some without.
 pub const TELLING: &[u8] =
     b"\"\"\\\\u{}[],:0123456789+-.eEabtfnrl/ \t\n\r\x00\x0B\x0C\x1F\x7F\x80\xC3\xA9\xFF";

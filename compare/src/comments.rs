@@ -91,13 +91,15 @@ const STRINGS: [&str; 10] = [
 const NUMBERS: &[u8] = b"-+.eE019";
 
 /// A hole for every byte, and for every two, at each place where another kind of text stands.
-const FRAMES: [Frame; 14] = [
+const FRAMES: [Frame; 16] = [
     ("", "{}"),
     ("{", "}"),
+    ("{\"id\"", "1}"),
     ("{\"id\"", ":1}"),
     ("{\"id\":", "1}"),
     ("{\"id\":1", "}"),
     ("{\"id\":1}", ""),
+    ("{\"id\":1", "\"signature\":\"x\"}"),
     ("{\"id\":1,", "\"signature\":\"x\"}"),
     ("{\"id\":\"", "\"}"),
     ("{\"id\":\"\\", "\"}"),
@@ -109,27 +111,31 @@ const FRAMES: [Frame; 14] = [
 ];
 
 /// Every short text of some letters, and every byte and two of them in each frame.
-fn every_text(comments: &mut Comments) -> Held {
+fn every_text(settings: &Settings, comments: &mut Comments) -> Held {
     let letters = |parts: &'static [&str]| -> Vec<&[u8]> {
         parts.iter().map(|part| part.as_bytes()).collect()
     };
     let values: Vec<&[u8]> = VALUES.chunks(1).collect();
     let numbers: Vec<&[u8]> = NUMBERS.chunks(1).collect();
-    every_in(comments, ("{", ""), &letters(&PARTS), 6)?;
-    every_in(comments, ("{\"id\":", "}"), &values, 5)?;
-    every_in(comments, ("{\"id\":\"", "\"}"), &letters(&STRINGS), 6)?;
-    every_in(comments, ("{\"id\":", "}"), &numbers, 6)?;
+    let most = |usual| settings.letters(usual);
+    every_in(comments, ("{", ""), &letters(&PARTS), most(6))?;
+    every_in(comments, ("{\"id\":", "}"), &values, most(5))?;
+    every_in(comments, ("{\"id\":\"", "\"}"), &letters(&STRINGS), most(6))?;
+    every_in(comments, ("{\"id\":", "}"), &numbers, most(6))?;
+    let two = if settings.quick { 1 } else { 2 };
     let bytes: Vec<u8> = (0..=u8::MAX).collect();
     let bytes: Vec<&[u8]> = bytes.chunks(1).collect();
     for frame in FRAMES {
-        every_in(comments, frame, &bytes, 2)?;
+        every_in(comments, frame, &bytes, two)?;
     }
     Ok(())
 }
 
 /// Every `\u` escape, alone, after a high surrogate and before a low one.
-fn every_escape(comments: &mut Comments) -> Held {
-    for unit in 0..=u16::MAX {
+fn every_escape(settings: &Settings, comments: &mut Comments) -> Held {
+    // of a quick run the ends of each 64 alone
+    let is_held = |unit: &u16| !settings.quick || matches!(unit % 64, 0 | 63);
+    for unit in (0..=u16::MAX).filter(is_held) {
         for digits in [format!("{unit:04x}"), format!("{unit:04X}")] {
             for (before, after) in [("", ""), ("\\uD834", ""), ("", "\\uDD1E")] {
                 let comment = format!("{{\"id\":\"{before}\\u{digits}{after}\"}}");
@@ -236,8 +242,8 @@ fn random_far(random: &mut Random) -> Text {
 pub fn run(settings: &Settings, report: &mut Report) -> Held {
     let (mut comments, mut strings) = (Comparison::new(COMMENT), Comparison::new(STRING));
     let mut far = Comparison::new(FAR);
-    every_text(&mut comments)?;
-    every_escape(&mut comments)?;
+    every_text(settings, &mut comments)?;
+    every_escape(settings, &mut comments)?;
     every_depth(&mut comments)?;
     random_comments(settings, &mut comments, &mut strings)?;
     let mut random = settings.random("far numbers");

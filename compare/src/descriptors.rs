@@ -4,7 +4,7 @@
 use crate::case::Text;
 use crate::every;
 use crate::original::doors;
-use crate::proved;
+use crate::proved::{self, Rooms};
 use crate::random::Random;
 use crate::reading::Sound;
 use crate::report::{Comparison, Held, Report, Settings, Subject};
@@ -25,11 +25,7 @@ const CLASS: Subject<Text, Written> = Subject {
 
 const TYPE: Subject<Text, Written> = Subject {
     name: "type",
-    proved: |text| {
-        written(text.0.len() + 2, |room, at| {
-            proved::typed(&text.0, room, at)
-        })
-    },
+    proved: |text| shaped(&text.0),
     judge: |text| Some(Ok(doors::type_descriptor(utf8(text)?).into_bytes())),
     outcome: |answer| match answer.as_deref() {
         Ok([b'[', ..]) => "array",
@@ -53,11 +49,19 @@ const METHOD: Subject<Text, Written> = Subject {
     outcome: |_| "written",
 };
 
+/// The raw descriptor of a field with that type, in a mapping of some classes.
 const TURNED: Subject<Text, Written> = Subject {
     name: "turned",
     proved: |text| turned(&text.0),
-    judge: |text| Some(Ok(doors::turned(utf8(text)?, look).into_bytes())),
-    outcome: |_| "turned",
+    judge: |text| {
+        let text = utf8(text).filter(|text| is_field_type(text))?;
+        let descriptor = doors::type_descriptor(text);
+        Some(Ok(doors::turned(&descriptor, look).into_bytes()))
+    },
+    outcome: |answer| match answer {
+        Ok(descriptor) if descriptor.contains(&b'q') => "with a piece known",
+        _ => "with none",
+    },
 };
 
 fn utf8(text: &Text) -> Option<&str> {
@@ -109,43 +113,101 @@ fn settled(text: &[u8], method: bool) -> Written {
     })
 }
 
-/// What a class piece is turned to: some are known, by a number made of their bytes.
-fn look(piece: &str) -> Option<String> {
-    let number = piece
-        .bytes()
-        .fold(7u32, |sum, byte| sum.wrapping_mul(31) ^ u32::from(byte));
-    match number % 4 {
-        0 => Some(format!("Lq{number:x};")),
-        1 => Some("Lz;".to_owned()),
-        _ => None,
-    }
+/// "A class name becomes `L`, the name with dots as slashes, `;`."
+fn class_of(name: &str) -> String {
+    format!("L{};", name.replace('.', "/"))
 }
 
-/// A descriptor turned part by part.
-fn turned(text: &[u8]) -> Written {
-    let mut bytes = Vec::new();
-    let mut at = 0;
-    loop {
-        let [kind, end] = proved::part(text, at);
-        let end = end as usize;
-        if kind == 0 {
-            return if at == text.len() {
-                Ok(bytes)
-            } else {
-                Err("ended early")
-            };
-        }
-        if end <= at || text.len() < end {
-            return Err("no way on");
-        }
-        let part = &text[at..end];
-        match (kind, str::from_utf8(part)) {
-            (1, Ok(piece)) => bytes.extend(look(piece).unwrap_or_else(|| piece.to_owned()).bytes()),
-            (1, Err(_)) => return Err("a piece that is not UTF-8"),
-            _ => bytes.extend_from_slice(part),
-        }
-        at = end;
+/// A type's descriptor, put together by what the proved function says of its shape.
+fn shaped(text: &[u8]) -> Written {
+    let [brackets, start, end, kind, letter] = proved::type_shape(text);
+    let text = str::from_utf8(text).map_err(|_| "not UTF-8")?;
+    let (start, end) = (start as usize, end as usize);
+    let parts = (text.get(..start), text.get(start..end), text.get(end..));
+    let (Some(before), Some(base), Some(after)) = parts else {
+        return Err("a base that does not lie in the text, or cuts a character");
+    };
+    let after = after.trim_end();
+    if !before.trim().is_empty() || after.len() as u64 != 2 * brackets {
+        return Err("more around the base than white space and brackets");
     }
+    if after.as_bytes().chunks(2).any(|pair| pair != b"[]") {
+        return Err("no brackets after the base");
+    }
+    let mut descriptor = vec![b'['; brackets as usize];
+    match (kind, u8::try_from(letter)) {
+        (0, Ok(letter)) if b"VZBCSIJFD".contains(&letter) => descriptor.push(letter),
+        (1, Ok(0)) => descriptor.extend(base.bytes()),
+        (2, Ok(0)) => descriptor.extend(class_of(base).bytes()),
+        _ => return Err("no such shape"),
+    }
+    Ok(descriptor)
+}
+
+/// Display and raw names of the classes: such as the texts have in them, and raw names with a letter that no text has. One
+/// display name stands twice, and the last counts; one raw name is a display name, and is not turned again.
+const CLASSES: [(&str, &str); 18] = [
+    ("a.Main", "q"),
+    ("I", "q.s"),
+    ("L", "q0"),
+    (".", "q.v.w"),
+    ("[", "q1"),
+    ("]", "q2"),
+    (")", "q3"),
+    ("I", "q4"),
+    ("a.MainI", "a.Main"),
+    ("L.", "q5"),
+    (".I", "q6"),
+    ("I.", "q7"),
+    ("II", "q8"),
+    ("LI", "q9"),
+    ("I ]", "qa"),
+    ("[I", "qb"),
+    (")L", "qc"),
+    ("int", "qd"),
+];
+
+/// What a class piece is turned to: the last class with that display.
+fn look(piece: &str) -> Option<String> {
+    let mut last_first = CLASSES.iter().rev();
+    let known = last_first.find(|(display, _)| class_of(display) == piece);
+    known.map(|(_, raw)| class_of(raw))
+}
+
+/// Whether a field line can have the text as its type.
+fn is_field_type(text: &str) -> bool {
+    let trimmed = text.trim();
+    !trimmed.is_empty()
+        && !trimmed.starts_with('#')
+        && !text.contains(['(', '\n'])
+        && !text.contains("->")
+}
+
+/// The raw descriptor of the one member, out of the pool of a load.
+fn turned(text: &[u8]) -> Written {
+    let classes: String = CLASSES
+        .iter()
+        .map(|(display, raw)| format!("{display} -> {raw}:\n"))
+        .collect();
+    let mapping = [classes.as_bytes(), b" ", text, b" n -> c\n"].concat();
+    // a piece has two bytes at least, and no raw descriptor more than seven
+    let mut pool = vec![0; 2 * mapping.len() + 5 * text.len() + 64];
+    let (mut classes, mut members) = ([[0; 4]; CLASSES.len()], [[0; 15]; 1]);
+    let rooms = Rooms {
+        classes: &mut classes,
+        members: &mut members,
+        pool: &mut pool,
+    };
+    if proved::load(&mapping, true, rooms)[0] != 0 {
+        return Err("not loaded");
+    }
+    let (start, length) = (members[0][4] as usize, members[0][5] as usize);
+    let descriptor = start
+        .checked_add(length)
+        .and_then(|end| pool.get(start..end));
+    descriptor
+        .map(<[u8]>::to_vec)
+        .ok_or("a descriptor that does not lie in the pool")
 }
 
 struct Descriptors {
@@ -162,7 +224,12 @@ impl Descriptors {
         self.typed.hold(text)?;
         self.field.hold(text)?;
         self.method.hold(text)?;
-        self.turned.hold(text)
+        // with a `(` in it the line would be a method's
+        let without = text
+            .0
+            .iter()
+            .map(|byte| if *byte == b'(' { b'I' } else { *byte });
+        self.turned.hold(&Text(without.collect()))
     }
 }
 
@@ -208,7 +275,9 @@ pub fn run(settings: &Settings, report: &mut Report) -> Held {
         turned: Comparison::new(TURNED),
     };
     let letters: Vec<&[u8]> = LETTERS.iter().map(|letter| letter.as_bytes()).collect();
-    every::text_after(b"", &letters, 6, &mut |text| held.hold(text))?;
+    every::text_after(b"", &letters, settings.letters(6), &mut |text| {
+        held.hold(text)
+    })?;
     let mut random = settings.random("descriptors");
     for _ in settings.turns(700_000) {
         held.hold(&Text(random_text(&mut random).into_bytes()))?;

@@ -2,10 +2,11 @@
 //! is at hand.
 //!
 //! A subject is one function and its judge (`report`), run over cases (`case`) that are made one after another
-//! (`every`, `texts`, `comment_texts` with `comment_parts`, `part_texts`). `reading` has both answers about a comment,
-//! `parts` those about a line, by way of `original`. For loading, `plain` is a program of its own: `load_tables` holds it
-//! against the original, `load_rooms` the proved program against it, over `load_texts`, `load_files` and `load_largest`;
-//! `load_examples` has answers of its own. Each of the other modules is one part of the comparison; `main` lists them.
+//! (`every`, `texts`, `synthetic`, `comment_texts` with `comment_parts`, `part_texts`). `reading` has both answers about a
+//! comment, `parts` those about a line, by way of `original`. For loading, `plain` is a program of its own: `load_tables`
+//! sets it beside the original's `tables`, `load_rooms` the proved program beside it, and `load_held` holds both pairs, over
+//! `load_texts`, `load_files` and `load_largest`; `load_examples` has answers of its own. Each of the other modules is one
+//! part of the comparison; `main` lists them. No two modules use each other, by whatever way round (tests/modules.rs).
 
 pub mod arguments;
 pub mod bytes;
@@ -21,6 +22,7 @@ pub mod java_asm;
 pub mod lines;
 pub mod load_examples;
 pub mod load_files;
+pub mod load_held;
 pub mod load_largest;
 pub mod load_parts;
 pub mod load_rooms;
@@ -45,6 +47,11 @@ pub mod random;
 pub mod ranges;
 pub mod reading;
 pub mod report;
+#[cfg(feature = "stand_in")]
+mod stand_in;
+pub mod synthetic;
+#[cfg(original)]
+pub mod tables;
 pub mod texts;
 pub mod timing;
 pub mod trims;

@@ -5,6 +5,7 @@ use crate::every;
 use crate::proved;
 use crate::random::Random;
 use crate::report::{Comparison, Held, Report, Settings, Subject};
+use crate::synthetic::{self, Form};
 use crate::texts;
 use std::str;
 
@@ -84,7 +85,8 @@ fn hold_places(line: &mut Comparison<Place, Line>, text: &[u8]) -> Held {
 fn broken_lines(random: &mut Random) -> String {
     let length = random.below(300);
     let text = if random.once_in(2) {
-        texts::mapping(random, length)
+        let form = *random.pick(&Form::ALL);
+        synthetic::mapping(random, form, length)
     } else {
         texts::words(random, length)
     };
@@ -101,7 +103,7 @@ fn broken_lines(random: &mut Random) -> String {
 
 pub fn run(settings: &Settings, report: &mut Report) -> Held {
     let (mut line, mut lines) = (Comparison::new(LINE), Comparison::new(LINES));
-    every::text_of("a\r\né", 9, &mut |text| {
+    every::text_of("a\r\né", settings.letters(9), &mut |text| {
         lines.hold(text)?;
         hold_places(&mut line, &text.0)
     })?;

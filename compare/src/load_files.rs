@@ -1,15 +1,12 @@
 //! Whole mapping files: a real one, if one is named, and such as are like one. Cut and damaged too.
 
+use crate::load_held::Loading;
 use crate::load_rooms::{Load, Room};
 use crate::load_texts;
-use crate::loading::Loading;
 use crate::random::Random;
 use crate::report::{Held, Settings};
-use crate::texts;
-use std::{env, fs};
-
-/// The real file is named by this variable of the environment, which `run --real` sets.
-const REAL: &str = "CLUMARIEF_REAL";
+use crate::synthetic::{self, Form};
+use std::fs;
 
 const ROOMS: &[Room] = &[Room::Exact, Room::ShorterPool, Room::Larger(100)];
 
@@ -31,18 +28,26 @@ fn hold(random: &mut Random, loading: &mut Loading, text: Vec<u8>, damaged: u64)
 
 pub fn run(settings: &Settings, loading: &mut Loading) -> Held {
     let mut random = settings.random("mapping files");
+    let lengths = if settings.quick {
+        &LENGTHS[..2]
+    } else {
+        &LENGTHS
+    };
     for _ in settings.turns(4) {
-        for length in LENGTHS {
-            let text = texts::mapping(&mut random, length).into_bytes();
-            hold(&mut random, loading, text, 4)?;
+        for (form, length) in lengths
+            .iter()
+            .flat_map(|length| Form::ALL.map(|form| (form, length)))
+        {
+            let text = synthetic::mapping(&mut random, form, *length).into_bytes();
+            hold(&mut random, loading, text, 2)?;
         }
     }
-    let Some(path) = env::var_os(REAL).filter(|path| !path.is_empty()) else {
+    let Some(path) = &settings.real else {
         println!("a real mapping file is left out: none is named, see run --real");
         return Ok(());
     };
-    match fs::read(&path) {
-        Ok(text) => hold(&mut random, loading, text, 40 * settings.more),
+    match fs::read(path) {
+        Ok(text) => hold(&mut random, loading, text, settings.turns(40).end),
         Err(error) => {
             println!("a real mapping file is left out: {error}");
             Ok(())

@@ -1,10 +1,10 @@
 //! The largest inputs of a load, and the first ones beyond them.
 
-use crate::comment_parts::RESIDUAL;
+use crate::comment_parts::{RESIDUAL, residual_comment};
+use crate::load_held::Loading;
 use crate::load_rooms::{Load, Room};
-use crate::loading::Loading;
 use crate::plain::{self, LIMITS, LONGEST};
-use crate::report::Held;
+use crate::report::{Held, Settings};
 
 const ROOMS: &[Room] = &[
     Room::Exact,
@@ -61,8 +61,9 @@ const FILLED: [(&str, &str, &str); 22] = [
     ("a->b:\n", "#\n", "\u{E9} -> \u{1F600}:"),
 ];
 
-fn longest(loading: &mut Loading) -> Held {
-    for (start, part, end) in FILLED {
+fn longest(settings: &Settings, loading: &mut Loading) -> Held {
+    let step = if settings.quick { 8 } else { 1 };
+    for (start, part, end) in FILLED.into_iter().step_by(step) {
         hold(loading, filled(start, part, end, LONGEST), ROOMS)?;
         hold(loading, filled(start, part, end, LONGEST + 1), FEW_ROOMS)?;
     }
@@ -70,8 +71,9 @@ fn longest(loading: &mut Loading) -> Held {
 }
 
 /// 1 before all others: texts that are too long, and faulty or not UTF-8 besides.
-fn too_long(loading: &mut Loading) -> Held {
-    for more in 1..40 {
+fn too_long(settings: &Settings, loading: &mut Loading) -> Held {
+    let most = if settings.quick { 1 } else { 39 };
+    for more in 1..=most {
         for start in ["a->b:\n", " a b->c\n", "a\n", ""] {
             hold(
                 loading,
@@ -159,7 +161,7 @@ fn far_pools(loading: &mut Loading) -> Held {
     let fields = " a b->c\n".repeat(30_000);
     hold(loading, format!("a->{long}:\n{fields}"), ROOMS)?;
     let signature = "b".repeat(500_000);
-    let comment = format!("# {{\"id\":\"{RESIDUAL}\",\"signature\":\"{signature}\"}}\n");
+    let comment = residual_comment(&signature) + "\n";
     hold(
         loading,
         format!("a->c:\n a b->c\n{comment}{comment}"),
@@ -179,12 +181,14 @@ fn depths(loading: &mut Loading) -> Held {
     Ok(())
 }
 
-pub fn run(loading: &mut Loading) -> Held {
-    longest(loading)?;
-    too_long(loading)?;
+pub fn run(settings: &Settings, loading: &mut Loading) -> Held {
+    longest(settings, loading)?;
+    too_long(settings, loading)?;
     broken_at_end(loading)?;
     most_rows(loading)?;
     longest_pool(loading)?;
-    far_pools(loading)?;
+    if !settings.quick {
+        far_pools(loading)?;
+    }
     depths(loading)
 }

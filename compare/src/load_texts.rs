@@ -1,6 +1,6 @@
 //! Random mapping texts: good ones, such as stand near the edges of the rules, and damaged ones.
 
-use crate::comment_parts::RESIDUAL;
+use crate::comment_parts::residual_comment;
 use crate::comment_texts;
 use crate::load_parts::{
     ARGUMENT_LISTS, BROKEN, CLASS_NAMES, COMMENTS, IDS, INDENTS, LEADING, LINE_ENDS, MEMBER_NAMES,
@@ -143,9 +143,10 @@ impl Writer<'_> {
         self.end();
     }
 
-    fn signature(&mut self) {
+    fn signature(&mut self) -> &'static str {
         let plain = self.random.once_in(3) && !self.slip();
-        self.one_of(if plain { &SIGNATURES[..4] } else { &SIGNATURES });
+        let among: &[&str] = if plain { &SIGNATURES[..4] } else { &SIGNATURES };
+        self.random.pick::<&str>(among)
     }
 
     fn comment_line(&mut self) {
@@ -161,11 +162,8 @@ impl Writer<'_> {
             1 => self.one_of(&COMMENTS),
             2 | 3 => self.odd_residual(),
             _ => {
-                self.text += "# {\"id\":\"";
-                self.text += RESIDUAL;
-                self.text += "\",\"signature\":\"";
-                self.signature();
-                self.text += "\"}";
+                let signature = self.signature();
+                self.text += &residual_comment(signature);
             }
         }
         self.end();
@@ -186,7 +184,8 @@ impl Writer<'_> {
                 }
                 2 | 3 => {
                     self.one_of(&["\"signature\":\"", "\"sign\\u0061ture\": \""]);
-                    self.signature();
+                    let signature = self.signature();
+                    self.text += signature;
                     self.text.push('"');
                 }
                 4 => self.one_of(&["\"signature\":1", "\"id\":null", "\"signature\":[\"I\"]"]),

@@ -1,6 +1,5 @@
-//! compare [--seed N] [--more N] [PART..]: holds the proved functions against Rust's standard library, `serde_json`, and the
-//! original where it was built with its source.
-//! Status: 0 all agree, 1 a disagreement, 2 bad arguments.
+//! Holds the proved functions against Rust's standard library, `serde_json`, and the original where it was built with its source.
+//! What it is asked by and what its status says stands in usage.txt.
 
 use clumarief_compare::report::{Disagreement, Held, Report, Settings};
 use clumarief_compare::{
@@ -26,10 +25,7 @@ const PARTS: &[(&str, Part)] = &[
     ("loading", loading::run),
 ];
 
-const USAGE: &str = "usage: compare [--seed N] [--more N] [PART..]
-  --seed N   the seed of the random parts (1)
-  --more N   how many times as many random cases (1)
-  PART       only this one of utf8, white, trims, lines, bytes, numbers, ranges, comments, mapped, descriptors, loading";
+const USAGE: &str = include_str!("../usage.txt");
 
 /// The chosen parts, or all where none is.
 fn compare(settings: &Settings, chosen: &[String]) -> Result<u64, Disagreement> {
@@ -42,23 +38,41 @@ fn compare(settings: &Settings, chosen: &[String]) -> Result<u64, Disagreement> 
     Ok(report.cases)
 }
 
+/// What is to be done, and the chosen parts.
+fn asked() -> Option<(Settings, Vec<String>)> {
+    let names = PARTS.iter().map(|(name, _)| *name);
+    let alone: Vec<&str> = names.chain(["--quick"]).collect();
+    let words = env::args().skip(1);
+    let asked = arguments::asked(words, ["--seed", "--more"], [1, 1], &alone)?;
+    let is_quick = |word: &String| word == "--quick";
+    let (quick, chosen): (Vec<_>, Vec<_>) = asked.alone.into_iter().partition(is_quick);
+    let settings = Settings {
+        seed: asked.numbers[0],
+        more: asked.numbers[1],
+        quick: !quick.is_empty(),
+        real: asked.real,
+    };
+    Some((settings, chosen))
+}
+
 fn main() -> ExitCode {
-    let is_part = |word: &String| PARTS.iter().any(|(name, _)| name == word);
-    let (chosen, words): (Vec<_>, Vec<_>) = env::args().skip(1).partition(is_part);
-    let words = words.into_iter();
-    let Some([seed, more]) = arguments::numbers(words, ["--seed", "--more"], [1, 1]) else {
-        eprintln!("{USAGE}");
+    if env::args().any(|word| word == "--help") {
+        print!("{USAGE}");
+        return ExitCode::SUCCESS;
+    }
+    let Some((settings, chosen)) = asked() else {
+        eprint!("{USAGE}");
         return ExitCode::from(2);
     };
-    let settings = Settings { seed, more };
-    println!("seed {seed}, random parts times {more}");
+    let said = settings.say();
+    println!("{said}");
     match compare(&settings, &chosen) {
         Ok(cases) => {
             println!("compare: {cases} cases, 0 disagreements");
             ExitCode::SUCCESS
         }
-        Err(Disagreement(said)) => {
-            println!("{said}  seed:   {seed}, --more {more}");
+        Err(Disagreement(disagreement)) => {
+            println!("{disagreement}  {said}");
             ExitCode::FAILURE
         }
     }

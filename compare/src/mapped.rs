@@ -9,6 +9,7 @@ use crate::proved;
 use crate::random::Random;
 use crate::reading::Sound;
 use crate::report::{Comparison, Held, Report, Settings, Subject};
+use crate::synthetic::{self, Form};
 use crate::texts;
 use std::str;
 
@@ -57,10 +58,7 @@ const ARGUMENTS: Subject<Place, Sound<Vec<String>>> = Subject {
 /// 1, start, end and the place of the rest; or zeros.
 const LEADING: Subject<Text, [u64; 4]> = Subject {
     name: "raw range",
-    proved: |text| {
-        let [taken, start, end, rest, _] = proved::leading(&text.0);
-        [taken, start, end, rest]
-    },
+    proved: |text| proved::leading(&text.0),
     judge: |text| {
         let text = str::from_utf8(&text.0).ok()?;
         Some(match doors::leading_range(text) {
@@ -152,18 +150,23 @@ const FRAMES: [Frame; 10] = [
     ("#", "", &["{", "}", " ", "a", "#", "->"], 6),
 ];
 
-fn every_text(held: &mut Lines) -> Held {
+fn every_text(settings: &Settings, held: &mut Lines) -> Held {
     for (before, after, letters, most) in FRAMES {
         let letters: Vec<&[u8]> = letters.iter().map(|letter| letter.as_bytes()).collect();
         let mut line = Text::default();
-        every::text_after(before.as_bytes(), &letters, most, &mut |text| {
-            line.0.clone_from(&text.0);
-            line.0.extend_from_slice(after.as_bytes());
-            held.parts.hold(&line)
-        })?;
+        every::text_after(
+            before.as_bytes(),
+            &letters,
+            settings.letters(most),
+            &mut |text| {
+                line.0.clone_from(&text.0);
+                line.0.extend_from_slice(after.as_bytes());
+                held.parts.hold(&line)
+            },
+        )?;
     }
     let lists: Vec<&[u8]> = LISTS.iter().map(|letter| letter.as_bytes()).collect();
-    every::text_after(b"", &lists, 5, &mut |text| {
+    every::text_after(b"", &lists, settings.letters(5), &mut |text| {
         let mut place = Place {
             text: text.0.clone(),
             at: 0,
@@ -175,7 +178,7 @@ fn every_text(held: &mut Lines) -> Held {
         Ok(())
     })?;
     let ranges: Vec<&[u8]> = RANGES.iter().map(|letter| letter.as_bytes()).collect();
-    every::text_after(b"", &ranges, 7, &mut |text| {
+    every::text_after(b"", &ranges, settings.letters(7), &mut |text| {
         held.leading.hold(text)?;
         held.trailing.hold(text)
     })
@@ -206,7 +209,9 @@ fn every_change(held: &mut Lines, line: &str) -> Held {
 fn real_lines(settings: &Settings, held: &mut Lines) -> Held {
     let mut random = settings.random("real lines");
     for _ in settings.turns(150) {
-        for (turn, line) in part_texts::real_lines(&mut random).lines().enumerate() {
+        let form = *random.pick(&Form::ALL);
+        let lines = synthetic::mapping(&mut random, form, 2_000);
+        for (turn, line) in lines.lines().enumerate() {
             held.line(line.to_owned())?;
             if turn % 4 == 0 {
                 every_cut(held, line)?;
@@ -257,7 +262,7 @@ pub fn run(settings: &Settings, report: &mut Report) -> Held {
         trailing: Comparison::new(TRAILING),
         bytes: Comparison::new(BYTES),
     };
-    every_text(&mut held)?;
+    every_text(settings, &mut held)?;
     real_lines(settings, &mut held)?;
     random_lines(settings, &mut held)?;
     report.add(held.parts);

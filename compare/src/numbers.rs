@@ -94,15 +94,15 @@ fn random_text(random: &mut Random) -> Text {
     Text(text)
 }
 
-fn long_texts(number: &mut Comparison<Text, [u64; 2]>) -> Held {
-    const LONG: usize = 1_000_000;
+fn long_texts(settings: &Settings, number: &mut Comparison<Text, [u64; 2]>) -> Held {
+    let long = if settings.quick { 1_000 } else { 1_000_000 };
     for digit in ["0", "1", "9"] {
-        number.hold(&Text(digit.repeat(LONG).into_bytes()))?;
+        number.hold(&Text(digit.repeat(long).into_bytes()))?;
     }
     for edge in EDGES {
-        number.hold(&Text(("0".repeat(LONG) + edge).into_bytes()))?;
+        number.hold(&Text(("0".repeat(long) + edge).into_bytes()))?;
         number.hold(&Text(
-            ("+".to_owned() + &"0".repeat(LONG) + edge).into_bytes(),
+            ("+".to_owned() + &"0".repeat(long) + edge).into_bytes(),
         ))?;
     }
     Ok(())
@@ -110,11 +110,13 @@ fn long_texts(number: &mut Comparison<Text, [u64; 2]>) -> Held {
 
 pub fn run(settings: &Settings, report: &mut Report) -> Held {
     let mut number = Comparison::new(NUMBER);
-    every::text_of("+-0123 49x:", 6, &mut |text| number.hold(text))?;
+    every::text_of("+-0123 49x:", settings.letters(6), &mut |text| {
+        number.hold(text)
+    })?;
     for text in EDGES.into_iter().chain(ODD) {
         number.hold(&Text(text.into()))?;
     }
-    long_texts(&mut number)?;
+    long_texts(settings, &mut number)?;
     let mut random = settings.random("numbers");
     for _ in settings.turns(1_000_000) {
         number.hold(&random_text(&mut random))?;

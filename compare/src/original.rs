@@ -10,7 +10,7 @@ include!(concat!(env!("OUT_DIR"), "/mapping.rs"));
 
 /// What the original's parts of a line are asked for by. They are as private as it made them, and a child sees them.
 pub mod doors {
-    use crate::load_tables::{self, Answer, Tables};
+    use crate::tables::{self, Answer, Tables};
     use std::str;
 
     pub type Range = Option<(u32, u32)>;
@@ -121,12 +121,12 @@ pub mod doors {
         }
     }
 
-    fn class_of(class: &super::ClassMapping) -> load_tables::Class {
+    fn class_of(class: &super::ClassMapping) -> tables::Class {
         let key =
             |key: &super::MemberKey| (key.raw_name.to_string(), key.raw_descriptor.to_string());
         let fields = class.fields.iter();
         let methods = class.methods.iter();
-        load_tables::Class {
+        tables::Class {
             display: class.display_descriptor.to_string(),
             fields: fields
                 .map(|(member, field)| (key(member), field.display_name.to_string()))
@@ -137,8 +137,8 @@ pub mod doors {
         }
     }
 
-    fn method_of(method: &super::MethodMapping) -> load_tables::Method {
-        load_tables::Method {
+    fn method_of(method: &super::MethodMapping) -> tables::Method {
+        tables::Method {
             owner: method.display_owner.to_string(),
             name: method.display_name.to_string(),
             raw_range: method.raw_line_range,

@@ -1,7 +1,6 @@
 //! Random lines of mapping files: as they stand there, with odd parts, and damaged.
 
 use crate::random::Random;
-use crate::texts;
 
 const SPACES: [&str; 24] = [
     " ",
@@ -303,9 +302,4 @@ pub fn damage(random: &mut Random, text: &str) -> String {
         _ => letters.insert(at, mark),
     }
     letters.into_iter().collect()
-}
-
-/// Lines as a shrinker writes them, which `texts` has.
-pub fn real_lines(random: &mut Random) -> String {
-    texts::mapping(random, 2000)
 }

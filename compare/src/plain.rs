@@ -1,4 +1,5 @@
-//! A plain program for loading, written from document 01 alone: the second opinion that the proved one is held against.
+//! A plain program for loading, written to document 01 with the original and the rule of loading at hand: the second opinion
+//! that the proved one is held against.
 //!
 //! It takes its time and its memory as it likes, but for the pool, of which it makes no more than was lent.
 
@@ -8,7 +9,7 @@ mod json;
 mod lines;
 
 use descriptors::{class_descriptor, parts, raw_signature, type_descriptor};
-use lines::{Line, Method, Range, line_of};
+use lines::{Line, Method, Range, arguments, line_of};
 use std::collections::HashMap;
 
 pub type ClassRow = [u32; 4];
@@ -278,7 +279,7 @@ fn descriptor(member: &Member, known: &HashMap<&[u8], &[u8]>, pool: &mut Pool) -
         (None, Shape::Field { declared, .. }) => put_raw_type(declared, known, pool),
         (None, Shape::Method(method)) => {
             pool.put(b"(");
-            for argument in &method.arguments {
+            for argument in arguments(method.between) {
                 put_raw_type(argument, known, pool);
             }
             pool.put(b")");

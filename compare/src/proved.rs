@@ -12,7 +12,7 @@ unsafe extern "C" {
     fn clumarief_probe_bytes(text: Bytes, length: usize, a: u8, b: u8, answer: &mut [u64; 3]);
     fn clumarief_probe_same(s: Bytes, s_length: usize, t: Bytes, t_length: usize) -> u32;
     fn clumarief_probe_number(text: Bytes, length: usize, answer: &mut [u64; 2]);
-    fn clumarief_probe_leading(text: Bytes, length: usize, answer: &mut [u64; 5]);
+    fn clumarief_probe_leading(text: Bytes, length: usize, answer: &mut [u64; 4]);
     fn clumarief_probe_trailing(text: Bytes, length: usize, answer: &mut [u64; 4]);
     fn clumarief_probe_comment(text: Bytes, length: usize, answer: &mut [u64; 5]);
     fn clumarief_probe_decoded_length(
@@ -41,14 +41,7 @@ unsafe extern "C" {
         at: usize,
         answer: &mut [u64; 2],
     );
-    fn clumarief_probe_type(
-        text: Bytes,
-        length: usize,
-        room: *mut u8,
-        room_length: usize,
-        at: usize,
-        answer: &mut [u64; 2],
-    );
+    fn clumarief_probe_type_shape(text: Bytes, length: usize, answer: &mut [u64; 5]);
     fn clumarief_probe_signature(
         room: *mut u8,
         room_length: usize,
@@ -57,7 +50,6 @@ unsafe extern "C" {
         method: u32,
         answer: &mut [u64; 2],
     );
-    fn clumarief_probe_part(d: Bytes, length: usize, at: usize, answer: &mut [u64; 2]);
     fn clumarief_parse(
         text: Bytes,
         length: usize,
@@ -142,9 +134,9 @@ pub fn number(text: &[u8]) -> [u64; 2] {
     answer
 }
 
-/// The range before a method: 1 taken; start, end, place of the rest; 1 where its second part alone does not read.
-pub fn leading(text: &[u8]) -> [u64; 5] {
-    let mut answer = [UNWRITTEN; 5];
+/// The range before a method: 1 taken; start, end, place of the rest. Zeros where it is not taken.
+pub fn leading(text: &[u8]) -> [u64; 4] {
+    let mut answer = [UNWRITTEN; 4];
     unsafe { clumarief_probe_leading(text.as_ptr(), text.len(), &mut answer) };
     answer
 }
@@ -222,15 +214,7 @@ pub fn class(name: &[u8], room: &mut [u8], at: usize) -> [u64; 2] {
     answer
 }
 
-/// The same for the descriptor of a type.
-pub fn typed(text: &[u8], room: &mut [u8], at: usize) -> [u64; 2] {
-    let mut answer = [UNWRITTEN; 2];
-    let (address, length) = (room.as_mut_ptr(), room.len());
-    unsafe { clumarief_probe_type(text.as_ptr(), text.len(), address, length, at, &mut answer) };
-    answer
-}
-
-/// The same for a raw signature that stands in the room from `at` to `end`.
+/// The same for the descriptor of a raw signature that stands in the room from `at` to `end`.
 pub fn signature(room: &mut [u8], at: usize, end: usize, method: bool) -> [u64; 2] {
     let mut answer = [UNWRITTEN; 2];
     let (address, length) = (room.as_mut_ptr(), room.len());
@@ -238,10 +222,11 @@ pub fn signature(room: &mut [u8], at: usize, end: usize, method: bool) -> [u64; 
     answer
 }
 
-/// The part of a descriptor at a place: 0 the end, 1 a class piece, or 2 bytes that stay; and the place after it.
-pub fn part(descriptor: &[u8], at: usize) -> [u64; 2] {
-    let mut answer = [UNWRITTEN; 2];
-    unsafe { clumarief_probe_part(descriptor.as_ptr(), descriptor.len(), at, &mut answer) };
+/// What a type is: the number of `[]`s at its end; start and end of its base, without them; what that is: 0 one of the nine
+/// words, 1 `L..;`, which is kept, 2 a class name; and the word's letter, or 0.
+pub fn type_shape(text: &[u8]) -> [u64; 5] {
+    let mut answer = [UNWRITTEN; 5];
+    unsafe { clumarief_probe_type_shape(text.as_ptr(), text.len(), &mut answer) };
     answer
 }
 

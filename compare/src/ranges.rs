@@ -7,13 +7,12 @@ use crate::random::Random;
 use crate::report::{Comparison, Held, Report, Settings, Subject};
 use std::str;
 
-const LEADING: Subject<Text, [u64; 5]> = Subject {
+const LEADING: Subject<Text, [u64; 4]> = Subject {
     name: "leading",
     proved: |text| proved::leading(&text.0),
     judge: |text| str::from_utf8(&text.0).ok().map(judge_leading),
     outcome: |answer| match answer {
         [1, ..] => "taken",
-        [.., 1] => "second part does not read",
         _ => "not taken",
     },
 };
@@ -34,15 +33,14 @@ fn number(text: &str) -> Option<u64> {
 }
 
 /// "If the text before the first colon and that between the first and second both read as numbers".
-fn judge_leading(text: &str) -> [u64; 5] {
+fn judge_leading(text: &str) -> [u64; 4] {
     let parts: Vec<&str> = text.splitn(3, ':').collect();
     let [first, second, rest] = parts[..] else {
-        return [0; 5];
+        return [0; 4];
     };
     match (number(first), number(second)) {
-        (Some(start), Some(end)) => [1, start, end, (text.len() - rest.len()) as u64, 0],
-        (Some(_), None) => [0, 0, 0, 0, 1],
-        _ => [0; 5],
+        (Some(start), Some(end)) => [1, start, end, (text.len() - rest.len()) as u64],
+        _ => [0; 4],
     }
 }
 
@@ -107,7 +105,7 @@ pub fn run(settings: &Settings, report: &mut Report) -> Held {
         leading.hold(text)?;
         trailing.hold(text)
     };
-    every::text_of("+01:x", 9, &mut hold)?;
+    every::text_of("+01:x", settings.letters(9), &mut hold)?;
     let mut random = settings.random("ranges");
     for _ in settings.turns(1_000_000) {
         hold(&random_range(&mut random))?;

@@ -4,6 +4,7 @@ use crate::case::Case;
 use crate::random::Random;
 use std::fmt::Debug;
 use std::ops::Range;
+use std::path::PathBuf;
 use std::time::{Duration, Instant};
 
 /// What a run is asked to do.
@@ -11,7 +12,14 @@ pub struct Settings {
     pub seed: u64,
     /// how many times as many random cases
     pub more: u64,
+    /// a small share of the cases
+    pub quick: bool,
+    /// a real mapping file
+    pub real: Option<PathBuf>,
 }
+
+/// A quick run has one in so many of the random cases, and leaves out so many letters of every text.
+const QUICK: (u64, usize) = (100, 2);
 
 impl Settings {
     pub fn random(&self, user: &str) -> Random {
@@ -20,7 +28,23 @@ impl Settings {
 
     /// The turns of a random part that has `usual` of them.
     pub fn turns(&self, usual: u64) -> Range<u64> {
-        0..usual.saturating_mul(self.more)
+        let share = if self.quick { QUICK.0 } else { 1 };
+        0..usual.div_ceil(share).saturating_mul(self.more)
+    }
+
+    /// How many letters every text of a part has that has up to `usual`.
+    pub fn letters(&self, usual: usize) -> usize {
+        if self.quick {
+            usual.saturating_sub(QUICK.1)
+        } else {
+            usual
+        }
+    }
+
+    /// The settings as words of the command line.
+    pub fn say(&self) -> String {
+        let quick = if self.quick { " --quick" } else { "" };
+        format!("settings: --seed {} --more {}{quick}", self.seed, self.more)
     }
 }
 

@@ -1,4 +1,4 @@
-//! Random texts: of many scripts, damaged, and such as stand in mapping files.
+//! Random texts: of many scripts, at the edges of the encoding, and damaged.
 
 use crate::random::Random;
 use std::ops::RangeInclusive;
@@ -89,53 +89,4 @@ pub fn damage(random: &mut Random, text: &mut Vec<u8>) {
         2 => text.truncate(at),
         _ => text.insert(at, byte),
     }
-}
-
-const WORDS: [&str; 16] = [
-    "com", "android", "view", "Main", "Activity", "util", "List", "on", "Click", "internal", "io",
-    "Reader", "build", "Item", "State", "size",
-];
-const TYPES: [&str; 5] = ["int", "void", "boolean", "java.lang.String", "byte[]"];
-const COMMENT: &str =
-    "# {\"id\":\"com.android.tools.r8.residualsignature\",\"signature\":\"(La/b;I)V\"}\n";
-
-fn dotted(random: &mut Random, parts: usize) -> String {
-    let words: Vec<&str> = (0..parts).map(|_| *random.pick(&WORDS)).collect();
-    words.join(".")
-}
-
-fn short_name(random: &mut Random) -> String {
-    let count = 1 + random.below(2);
-    (0..count).map(|_| letter_of(random, &SCRIPTS[0])).collect()
-}
-
-fn member(random: &mut Random) -> String {
-    let (kind, name, short) = (
-        *random.pick(&TYPES),
-        *random.pick(&WORDS),
-        short_name(random),
-    );
-    if random.once_in(3) {
-        return format!("    {kind} {name} -> {short}\n");
-    }
-    let (raw, shown, size) = (random.below(900), random.below(2000), random.below(9));
-    let argument = dotted(random, 3);
-    let (raw_end, shown_end) = (raw + size, shown + size);
-    format!("    {raw}:{raw_end}:{kind} {name}({argument},int):{shown}:{shown_end} -> {short}\n")
-}
-
-/// ASCII lines as they stand in a mapping file, of at least `length` bytes.
-pub fn mapping(random: &mut Random, length: usize) -> String {
-    let mut text = String::with_capacity(length + 256);
-    while text.len() < length {
-        let (shown, raw) = (dotted(random, 4), short_name(random));
-        text.push_str(&format!("{shown} -> {raw}:\n"));
-        for _ in 0..random.below(12) {
-            text.push_str(&member(random));
-            if random.once_in(8) {
-                text.push_str(COMMENT);
-            }
-        }
-    }
-    text
 }

@@ -75,7 +75,7 @@ fn padded(random: &mut Random, pads: &[char]) -> String {
 
 pub fn run(settings: &Settings, report: &mut Report) -> Held {
     let mut trim = Comparison::new(TRIM);
-    every::text_of(LETTERS, 6, &mut |text| trim.hold(text))?;
+    every::text_of(LETTERS, settings.letters(6), &mut |text| trim.hold(text))?;
     let mut random = settings.random("trims");
     let whites = whites();
     let mixed: Vec<char> = whites.iter().copied().chain(NEAR.chars()).collect();

@@ -77,22 +77,24 @@ fn hold_places(sequence: &mut Sequence, place: &mut Place, text: &[u8]) -> Held 
     Ok(())
 }
 
-fn every_three_bytes(check: &mut Check, sequence: &mut Sequence) -> Held {
+fn every_three_bytes(settings: &Settings, check: &mut Check, sequence: &mut Sequence) -> Held {
     let bytes: Vec<[u8; 1]> = (0..=u8::MAX).map(|byte| [byte]).collect();
     let letters: Vec<&[u8]> = bytes.iter().map(|byte| byte.as_slice()).collect();
     let mut place = Place::default();
-    every::text_after(&[], &letters, 3, &mut |text| {
+    let most = if settings.quick { 2 } else { 3 };
+    every::text_after(&[], &letters, most, &mut |text| {
         check.hold(text)?;
         hold_places(sequence, &mut place, &text.0)
     })
 }
 
-/// Every first and second byte, with up to three telling bytes after them.
-fn every_pair(check: &mut Check, sequence: &mut Sequence) -> Held {
+/// Every first and second byte, with up to three telling bytes after them. Of a quick run all five are telling.
+fn every_pair(settings: &Settings, check: &mut Check, sequence: &mut Sequence) -> Held {
     let letters: Vec<&[u8]> = TELLING.chunks(1).collect();
     let mut place = Place::default();
-    for first in 0..=u8::MAX {
-        for second in 0..=u8::MAX {
+    let is_held = |byte: &u8| !settings.quick || TELLING.contains(byte);
+    for first in (0..=u8::MAX).filter(is_held) {
+        for second in (0..=u8::MAX).filter(is_held) {
             every::text_after(&[first, second], &letters, 3, &mut |text| {
                 check.hold(text)?;
                 // a fifth byte belongs to no sequence at the start
@@ -132,8 +134,8 @@ fn random_texts(settings: &Settings, check: &mut Check, sequence: &mut Sequence)
 
 pub fn run(settings: &Settings, report: &mut Report) -> Held {
     let (mut check, mut sequence) = (Comparison::new(CHECK), Comparison::new(SEQUENCE));
-    every_three_bytes(&mut check, &mut sequence)?;
-    every_pair(&mut check, &mut sequence)?;
+    every_three_bytes(settings, &mut check, &mut sequence)?;
+    every_pair(settings, &mut check, &mut sequence)?;
     random_texts(settings, &mut check, &mut sequence)?;
     report.add(check);
     report.add(sequence);

@@ -18,7 +18,7 @@ const GOOD: [&[(u8, u8)]; 9] = [
 
 /// The length of the good sequence that the text begins with. Else that of "the longest start of a good sequence, at
 /// least 1; 0 if the text ends in one".
-fn first_sequence(text: &[u8]) -> Result<usize, usize> {
+pub fn first_sequence(text: &[u8]) -> Result<usize, usize> {
     let mut longest = 1;
     for good in GOOD {
         let fits = |(byte, (least, most)): &(&u8, &(u8, u8))| least <= byte && *byte <= most;
@@ -47,7 +47,7 @@ pub fn not_utf8(text: &[u8]) -> Option<(usize, usize)> {
 }
 
 /// The first character of a text, by its code point and its length.
-fn first_character(text: &[u8]) -> Option<(u32, usize)> {
+pub fn first_character(text: &[u8]) -> Option<(u32, usize)> {
     let (first, rest) = text.split_first()?;
     let Ok(length) = first_sequence(text) else {
         return None;
@@ -75,11 +75,15 @@ const WHITE: [(u32, u32); 10] = [
     (0x3000, 0x3000),
 ];
 
+pub fn is_white(code: u32) -> bool {
+    let holds = |(least, most): &(u32, u32)| *least <= code && code <= *most;
+    WHITE.iter().any(holds)
+}
+
 /// The length of the white space character that the text begins with.
 pub fn first_white(text: &[u8]) -> Option<usize> {
     let (code, length) = first_character(text)?;
-    let holds = |(least, most): &(u32, u32)| *least <= code && code <= *most;
-    WHITE.iter().any(holds).then_some(length)
+    is_white(code).then_some(length)
 }
 
 /// Where the last character of a text starts.
@@ -89,10 +93,18 @@ fn last_start(text: &[u8]) -> usize {
     text.len().saturating_sub(tails + 1)
 }
 
-pub fn trim(mut text: &[u8]) -> &[u8] {
+pub fn trim(text: &[u8]) -> &[u8] {
+    trim_end(trim_start(text))
+}
+
+pub fn trim_start(mut text: &[u8]) -> &[u8] {
     while let Some(length) = first_white(text) {
         text = &text[length..];
     }
+    text
+}
+
+pub fn trim_end(mut text: &[u8]) -> &[u8] {
     while first_white(&text[last_start(text)..]).is_some() {
         text = &text[..last_start(text)];
     }

@@ -27,19 +27,49 @@ fn is_class_descriptor(text: &[u8]) -> bool {
     text.starts_with(b"L") && text.ends_with(b";")
 }
 
-/// The descriptor of a type that is trimmed: "each `[]` at its end becomes a leading `[`; no second trim".
-pub fn type_descriptor(mut text: &[u8]) -> Vec<u8> {
-    let mut descriptor = Vec::new();
+/// What a type is without the `[]`s at its end.
+pub enum Base {
+    /// one of the nine words, by its letter
+    Word(u8),
+    /// "text starting `L` and ending `;`"
+    Kept,
+    Class,
+}
+
+/// What a type that is trimmed is made of: "each `[]` at its end becomes a leading `[`; no second trim".
+pub struct Shape<'a> {
+    pub brackets: usize,
+    pub text: &'a [u8],
+    pub base: Base,
+}
+
+pub fn type_shape(mut text: &[u8]) -> Shape<'_> {
+    let mut brackets = 0;
     while let Some(element) = text.strip_suffix(b"[]") {
-        descriptor.push(b'[');
+        brackets += 1;
         text = element;
     }
-    if let Some((_, letter)) = WORDS.iter().find(|(word, _)| *word == text) {
-        descriptor.push(*letter);
-    } else if is_class_descriptor(text) {
-        descriptor.extend_from_slice(text);
-    } else {
-        descriptor.extend(class_descriptor(text));
+    let word = WORDS.iter().find(|(word, _)| *word == text);
+    let base = match word {
+        Some((_, letter)) => Base::Word(*letter),
+        None if is_class_descriptor(text) => Base::Kept,
+        None => Base::Class,
+    };
+    Shape {
+        brackets,
+        text,
+        base,
+    }
+}
+
+/// The descriptor of a type that is trimmed.
+pub fn type_descriptor(text: &[u8]) -> Vec<u8> {
+    let shape = type_shape(text);
+    let mut descriptor = vec![b'['; shape.brackets];
+    match shape.base {
+        Base::Word(letter) => descriptor.push(letter),
+        Base::Kept => descriptor.extend_from_slice(shape.text),
+        Base::Class => descriptor.extend(class_descriptor(shape.text)),
     }
     descriptor
 }

@@ -1,29 +1,23 @@
 //! Document 01 "Comments": a reader of JSON by RFC 8259, and what a comment says.
 
 /// A value, as far as a comment asks for it.
-enum Value {
+pub enum Value {
     Text(Vec<u8>),
-    /// names and values in the order of the text
-    Object(Vec<(Vec<u8>, Value)>),
+    Object(Members),
     Other,
 }
 
-/// "127 nested levels are read, 128 are not."
-const LEVELS: usize = 127;
+/// Names and values in the order of the text.
+pub type Members = Vec<(Vec<u8>, Value)>;
 
-const RESIDUAL: &[u8] = b"com.android.tools.r8.residualsignature";
+/// "127 nested levels are read, 128 are not."
+pub const LEVELS: usize = 127;
+
+pub const RESIDUAL: &[u8] = b"com.android.tools.r8.residualsignature";
 
 /// The signature that the JSON of a comment gives.
 pub fn signature(json: &[u8]) -> Option<Vec<u8>> {
-    let mut reader = Reader { rest: json };
-    let value = reader.value(LEVELS)?;
-    reader.space();
-    let Value::Object(members) = value else {
-        return None;
-    };
-    if !reader.rest.is_empty() {
-        return None;
-    }
+    let members = object(json)?;
     match (last(&members, b"id"), last(&members, b"signature")) {
         (Some(Value::Text(id)), Some(Value::Text(signature))) if id == RESIDUAL => {
             Some(signature.clone())
@@ -32,15 +26,26 @@ pub fn signature(json: &[u8]) -> Option<Vec<u8>> {
     }
 }
 
+/// The members of the object that the text is.
+pub fn object(json: &[u8]) -> Option<Members> {
+    let mut reader = Reader { rest: json };
+    let value = reader.value(LEVELS)?;
+    reader.space();
+    match value {
+        Value::Object(members) if reader.rest.is_empty() => Some(members),
+        _ => None,
+    }
+}
+
 /// "Repeated keys: the last counts, compared after escapes."
-fn last<'a>(members: &'a [(Vec<u8>, Value)], name: &[u8]) -> Option<&'a Value> {
+fn last<'a>(members: &'a Members, name: &[u8]) -> Option<&'a Value> {
     let same = members.iter().rev().find(|(known, _)| known == name);
     same.map(|(_, value)| value)
 }
 
 /// What is still to be read. Each of its functions answers `None` where the text is not as the grammar has it.
-struct Reader<'a> {
-    rest: &'a [u8],
+pub struct Reader<'a> {
+    pub rest: &'a [u8],
 }
 
 impl Reader<'_> {
@@ -54,20 +59,20 @@ impl Reader<'_> {
         Some(*first)
     }
 
-    fn exactly(&mut self, text: &[u8]) -> Option<()> {
+    pub fn exactly(&mut self, text: &[u8]) -> Option<()> {
         self.rest = self.rest.strip_prefix(text)?;
         Some(())
     }
 
     /// ws = %x20 / %x09 / %x0A / %x0D
-    fn space(&mut self) {
+    pub fn space(&mut self) {
         while let Some(0x20 | 0x09 | 0x0A | 0x0D) = self.peek() {
             self.take();
         }
     }
 
     /// A value, in which so many levels may nest.
-    fn value(&mut self, levels: usize) -> Option<Value> {
+    pub fn value(&mut self, levels: usize) -> Option<Value> {
         match self.peek()? {
             b'{' => Some(Value::Object(self.object(levels.checked_sub(1)?)?)),
             b'[' => self.array(levels.checked_sub(1)?),
@@ -79,7 +84,7 @@ impl Reader<'_> {
         }
     }
 
-    fn object(&mut self, levels: usize) -> Option<Vec<(Vec<u8>, Value)>> {
+    fn object(&mut self, levels: usize) -> Option<Members> {
         let mut members = Vec::new();
         self.exactly(b"{")?;
         self.space();
@@ -151,9 +156,14 @@ impl Reader<'_> {
     }
 
     /// The bytes that a string stands for.
-    fn string(&mut self) -> Option<Vec<u8>> {
-        let mut bytes = Vec::new();
+    pub fn string(&mut self) -> Option<Vec<u8>> {
         self.exactly(b"\"")?;
+        self.characters()
+    }
+
+    /// The same from the string's first character on.
+    pub fn characters(&mut self) -> Option<Vec<u8>> {
+        let mut bytes = Vec::new();
         loop {
             match self.take()? {
                 b'"' => return Some(bytes),

@@ -28,7 +28,8 @@ pub struct Method<'a> {
     pub returned: &'a [u8],
     pub owner: Option<&'a [u8]>,
     pub name: &'a [u8],
-    pub arguments: Vec<&'a [u8]>,
+    /// what stands between the parentheses
+    pub between: &'a [u8],
     pub raw_range: Range,
     pub display_range: Range,
     /// "whose display range has a second part that does not read"
@@ -103,21 +104,26 @@ fn method_of(left: &[u8]) -> Option<Method<'_>> {
         Some(dot) => (Some(&qualified[..dot]), &qualified[dot + 1..]),
         None => (None, qualified),
     };
-    let arguments = rest[open + 1..close].split(|byte| *byte == b',').map(trim);
     let (display_range, short) = trailing_range(trim(&rest[close + 1..]));
     Some(Method {
         returned,
         owner,
         name,
-        arguments: arguments.filter(|part| !part.is_empty()).collect(),
+        between: &rest[open + 1..close],
         raw_range,
         display_range: display_range.or(raw_range),
         short,
     })
 }
 
+/// "Arguments split at commas, trimmed, blank ones dropped."
+pub fn arguments(between: &[u8]) -> impl Iterator<Item = &[u8]> {
+    let parts = between.split(|byte| *byte == b',').map(trim);
+    parts.filter(|part| !part.is_empty())
+}
+
 /// "A number is an optional `+` and at least one digit, up to 4294967295".
-fn number(text: &[u8]) -> Option<u32> {
+pub fn number(text: &[u8]) -> Option<u32> {
     let digits = text.strip_prefix(b"+").unwrap_or(text);
     if digits.is_empty() {
         return None;
@@ -134,7 +140,7 @@ fn number(text: &[u8]) -> Option<u32> {
 
 /// "If the text before the first colon and that between the first and second both read as numbers, they are the raw
 /// range and go."
-fn leading_range(text: &[u8]) -> (Range, &[u8]) {
+pub fn leading_range(text: &[u8]) -> (Range, &[u8]) {
     let parts: Vec<&[u8]> = text.splitn(3, |byte| *byte == b':').collect();
     if let [first, second, rest] = parts[..]
         && let (Some(start), Some(end)) = (number(first), number(second))
@@ -146,7 +152,7 @@ fn leading_range(text: &[u8]) -> (Range, &[u8]) {
 
 /// "A colon, a number, and optionally a colon and a number make the display range; a second part that is missing or
 /// does not read equals the first." And whether there is a second part that does not read.
-fn trailing_range(text: &[u8]) -> (Range, bool) {
+pub fn trailing_range(text: &[u8]) -> (Range, bool) {
     let parts: Vec<&[u8]> = text.splitn(4, |byte| *byte == b':').collect();
     let [[], first, ..] = parts[..] else {
         return (None, false);
