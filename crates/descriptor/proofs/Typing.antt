@@ -228,7 +228,7 @@ module _ (s : List ℕ) {p : Span} (e : p ≡ trimBoth s) where
   pub shape-inside : p .«end» ≤ length s
   shape-inside = rw e (trim-inside s)
 
-  module _ {c : Stripped} (f : c ≡ strippedOf (take (p .«end» - p .start) (drop (p .start) s))) where
+  module _ {c : Stripped} (f : c ≡ strippedOf (between s (p .start) (p .«end»))) where
     cut-end : c .«end» ≡ baseEnd (between s (p .start) (p .«end»)) (length (between s (p .start) (p .«end»)))
     cut-end = ap (λ x. x .«end») f
 
@@ -248,7 +248,7 @@ module _ (s : List ℕ) {p : Span} (e : p ≡ trimBoth s) where
     pub base-inside : p .start + c .«end» ≤ length s
     base-inside = let i = cut-inside in let w = shape-inside in omega arith
 
-    pub shape-read : {b : Base} → b ≡ baseOf (take (p .start + c .«end» - p .start) (drop (p .start) s)) →
+    pub shape-read : {b : Base} → b ≡ baseOf (between s (p .start) (p .start + c .«end»)) →
         _≡_ {A = TypeShape} (record { brackets = c .brackets; start = p .start; «end» = p .start + c .«end»; base = b }) (shapeOf s)
     shape-read {b} g =
         let n : c .brackets ≡ bracketCount (between s (p .start) (p .«end»)) (length (between s (p .start) (p .«end»))) = ap (λ x. x .brackets) f in

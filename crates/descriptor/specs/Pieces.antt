@@ -1,5 +1,5 @@
--- Document 01 "Descriptors": "each class piece turned to raw. A piece runs from an `L` to the next `;`; an `L` with no `;` copies the rest." One rule
--- for both directions: they differ in the look-up.
+-- Document 01 "Descriptors": "each class piece turned to raw. A piece runs from an `L` to the next `;`; an `L` with no `;` copies the
+-- rest." One rule for both directions: they differ in the look-up.
 use mathlib.Core.List.{List, [], _∷_, _++_, map}
 use Prim.Native.Nat.{ℕ}
 use lib.Dec.{eqb}

@@ -60,7 +60,8 @@ baseBytes (Letter x) s = x ∷ []
 baseBytes Kept s = s
 baseBytes Named s = classDescriptor s
 
--- "A type is trimmed, then each `[]` at its end becomes a leading `[`; no second trim": `b` is the trimmed text, and `e` the place at which it ends without its `[]`s
+-- "A type is trimmed, then each `[]` at its end becomes a leading `[`; no second trim": `b` is the trimmed text, and `e` the place at
+-- which it ends without its `[]`s
 abbrev pub shapeIn : List ℕ → Span → TypeShape
 shapeIn s p =
     let b : List ℕ = between s (p .start) (p .«end») in

@@ -1,4 +1,5 @@
-// Descriptors: the shape of a type, and raw signatures settled in the pool. `type_shape` takes any bytes, `settle_signature` asks for places inside the pool.
+// Descriptors: the shape of a type, and raw signatures settled in the pool. `type_shape` takes any bytes, `settle_signature` asks for
+// places inside the pool.
 mod settle;
 mod types;
 

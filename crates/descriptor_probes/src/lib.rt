@@ -1,5 +1,5 @@
-// C functions over descriptors, for differential runs. Each writes its answer as numbers; those that write into a room: 1 and the place after the last
-// byte written, or zeros where there is no room. What a room holds then is the caller's to clear.
+// C functions over descriptors, for differential runs. Each writes its answer as numbers; those that write into a room: 1 and the place
+// after the last byte written, or zeros where there is no room. What a room holds then is the caller's to clear.
 use descriptor::Base;
 use table_pool::Wrote;
 ghost use mathlib.Core.Path.{_≡_};

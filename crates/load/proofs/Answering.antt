@@ -10,6 +10,7 @@ use mir.Val.{Fits}
 use mir.Syntax.{w32}
 use borrow.Author.Tests.{lt-ltb, le-ltb}
 use borrow.Author.Needs.{needs}
+use Rattle.ground.specs.Put.{between}
 use Rattle.ground.specs.Choice.{pick}
 use Rattle.ground.proofs.Parts.{take-rest}
 use Rattle.text_places.specs.Lines.{lines}
@@ -70,11 +71,11 @@ module _ (s : List ℕ) (h : length s ≤ mostText) {t : Check} (e : t ≡ check
   length-fits = let b = broken-short s (sym e ∙ f) in omega arith
 
 -- the text from a place on
-pub rest-short : (s : List ℕ) (start : ℕ) → length s ≤ mostText → length (take (length s - start) (drop start s)) ≤ mostText
+pub rest-short : (s : List ℕ) (start : ℕ) → length s ≤ mostText → length (between s start (length s)) ≤ mostText
 rest-short s start h = let a = length-take (length s - start) (drop start s) in omega arith
 
 pub loads-rest : (s : List ℕ) (start nc nm np : ℕ) {c m : List (List ℕ)} {p : List ℕ} → length s ≤ mostText → {t : Check} → t ≡ checkOf s → t ≡ Valid → {r : Load} →
-    Left r (lines (take (length s - start) (drop start s))) nc nm np c m p → Leaving r s (lines (drop start s)) nc nm np c m p
+    Left r (lines (between s start (length s))) nc nm np c m p → Leaving r s (lines (drop start s)) nc nm np c m p
 loads-rest s start nc nm np {c} {m} {p} h e f {r} k =
     let k₁ : Left r (lines (drop start s)) nc nm np c m p = rw (take-rest s start) at k in
     loads-lines s (lines (drop start s)) nc nm np h e f k₁

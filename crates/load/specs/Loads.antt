@@ -1,5 +1,5 @@
--- The promise of an entry point as one statement: the answer, the class rows, the member rows and the pool, each by the rule of loading. `parse` and
--- `parse_str` say these four equations in their contracts; here they stand for theorems to speak of.
+-- The promise of an entry point as one statement: the answer, the class rows, the member rows and the pool, each by the rule of loading.
+-- `parse` and `parse_str` say these four equations in their contracts; here they stand for theorems to speak of.
 use mathlib.Core.Path.{_≡_}
 use mathlib.Core.List.{List}
 use Prim.Native.Nat.{ℕ}

@@ -74,7 +74,8 @@ pub fn load_into(
     requires { ⌜ Limits (length (now text)) (length (now classes)) (length (now members)) (length (now pool)) ⌝ }
     ensures { λ r.
         let ls = lines (now (text .entry)) in
-        ⌜ IntoBy r ls (now (classes .entry)) (now (members .entry)) (now (pool .entry)) (now (classes .exit)) (now (members .exit)) (now (pool .exit)) ⌝ }
+        ⌜ IntoBy r ls (now (classes .entry)) (now (members .entry)) (now (pool .entry))
+        (now (classes .exit)) (now (members .exit)) (now (pool .exit)) ⌝ }
 {
     let class_rows = classes.len();
     let member_rows = members.len();

@@ -5,6 +5,7 @@ use Prim.Native.Nat.{ℕ, _+_, _-_, _≤_, _<_}
 use native.Mathlib.Omega.{arith}
 use lib.ListN.{length, set, take, drop}
 use borrow.Author.Needs.{needs}
+use Rattle.ground.specs.Put.{between}
 use Rattle.table_pool.specs.declared.write.Wrote.the-variants as wrote
 use Rattle.table_pool.specs.Names.{classDescriptor}
 use Rattle.table_rows.specs.Classes.{Pair}
@@ -38,7 +39,7 @@ row-same at m q k e f =
     rw (a, b, e)
 
 module _ (d : List ℕ) (at : ℕ) (l : List ℕ) (ns : ClassNames) (r : TwoTexts) (d₁ : List ℕ)
-    (w : TwoBy r d at (classDescriptor (take (ns .raw .«end» - ns .raw .start) (drop (ns .raw .start) l))) (classDescriptor (take (ns .display .«end» - ns .display .start) (drop (ns .display .start) l))) d₁) where
+    (w : TwoBy r d at (classDescriptor (between l (ns .raw .start) (ns .raw .«end»))) (classDescriptor (between l (ns .display .start) (ns .display .«end»))) d₁) where
   pub enter-none : r ≡ NoRoom → length d < at + length (classText (classNamed l ns))
   enter-none e = two-none r d at (classNamed l ns .raw) (classNamed l ns .display) d₁ w e
 
@@ -56,7 +57,7 @@ module _ (d : List ℕ) (at : ℕ) (l : List ℕ) (ns : ClassNames) (r : TwoText
     enter-inside h = let p = there .written .past in let o = there .written .room in omega arith
 
     pub enter-done : {row : List ℕ} → row ≡ packClass (record { raw = text at (m - at); display = text m (q - m) }) →
-        (c : List (List ℕ)) (i : List ℕ) (count : ℕ) {i₁ : List ℕ} → i₁ ≡ chained i (markOf (classDescriptor (take (ns .display .«end» - ns .display .start) (drop (ns .display .start) l)))) count →
+        (c : List (List ℕ)) (i : List ℕ) (count : ℕ) {i₁ : List ℕ} → i₁ ≡ chained i (markOf (classDescriptor (between l (ns .display .start) (ns .display .«end»)))) count →
         EnteredClass q (classNamed l ns) count at c i d (set c count row) i₁ d₁
     enter-done f c i count g = record {
       written = there .written;

@@ -7,7 +7,7 @@ use lib.ListN.{length, set, take, drop, replicate, length-append}
 use mir.Val.{Fits}
 use mir.Syntax.{w64}
 use borrow.Author.Needs.{needs}
-use Rattle.ground.specs.Put.{put}
+use Rattle.ground.specs.Put.{put, between}
 use Rattle.ground.proofs.PutLaws.{put-nothing, put-set, length-put}
 use Rattle.text_places.specs.declared.lines.NextLine.{NextLine}
 use Rattle.text_places.specs.declared.lines.NextLine.the-variants.{Line, NoLine}
@@ -164,11 +164,11 @@ module _ {s : List ℕ} {c : List (List ℕ)} {i p : List ℕ} {at count q : ℕ
       pub writing-falls : at < length s → length s - n < length s - at
       writing-falls h = let u = taken .past in let v = taken .inside in omega arith
 
-      split-here : classesOf (lines s) ≡ w .done ++ (classIn (take (e - a) (drop a s)) (lineOf (take (e - a) (drop a s))) ++ classesOf (lines (drop n s)))
+      split-here : classesOf (lines s) ≡ w .done ++ (classIn (between s a e) (lineOf (between s a e)) ++ classesOf (lines (drop n s)))
       unfolding classesOf
       split-here = w .split ∙ ap (λ ls. w .done ++ classesOf ls) (taken .split)
 
-      module _ (k : ClassLine) (z : NamedBy k (take (e - a) (drop a s))) where
+      module _ (k : ClassLine) (z : NamedBy k (between s a e)) where
         pub writing-other : k ≡ Other → Writing s c i p n count q c₁ i₁ p₁
         writing-other f = record {
           most = w .most;
@@ -176,16 +176,16 @@ module _ {s : List ℕ} {c : List (List ℕ)} {i p : List ℕ} {at count q : ℕ
           same-index = w .same-index;
           same-pool = w .same-pool;
           done = w .done;
-          split = split-here ∙ ap (λ cs. w .done ++ (cs ++ classesOf (lines (drop n s)))) (other-told k (take (e - a) (drop a s)) z f);
+          split = split-here ∙ ap (λ cs. w .done ++ (cs ++ classesOf (lines (drop n s)))) (other-told k (between s a e) z f);
           written = w .written;
         }
 
         module _ {ns : ClassNames} (f : k ≡ Names ns) where
-          there : NamedAt (take (e - a) (drop a s)) ns
-          there = named-told k (take (e - a) (drop a s)) z f
+          there : NamedAt (between s a e) ns
+          there = named-told k (between s a e) z f
 
           abbrev class : Pair
-          class = classNamed (take (e - a) (drop a s)) ns
+          class = classNamed (between s a e) ns
 
           split-class : classesOf (lines s) ≡ (w .done ++ (class ∷ [])) ++ classesOf (lines (drop n s))
           split-class = split-here ∙ ap (λ cs. w .done ++ (cs ++ classesOf (lines (drop n s)))) (there .is) ∙ sym (append-assoc (w .done) (class ∷ []) (classesOf (lines (drop n s))))

@@ -21,7 +21,9 @@ ghost use Rattle.load_raw_types.specs.inner.Marks.{indexSize};
 
 // "each class row's raw then display"
 fn put_pair(pool: &mut [u8], at: usize, raw: &[u8], display: &[u8]) -> TwoTexts
-    ensures { λ r. ⌜ TwoBy r (now (pool .entry)) at (classDescriptor (now (raw .entry))) (classDescriptor (now (display .entry))) (now (pool .exit)) ⌝ }
+    ensures { λ r.
+        ⌜ TwoBy r (now (pool .entry)) at (classDescriptor (now (raw .entry))) (classDescriptor (now (display .entry)))
+        (now (pool .exit)) ⌝ }
 {
     let Wrote::Done(middle) = put_class(pool, at, raw) else {
         return TwoTexts::NoRoom;
@@ -56,8 +58,15 @@ pub fn enter_class(
     line: &[u8],
     names: ClassNames,
 ) -> Wrote
-    requires { ⌜ (count < length (now classes)) × (count < mostClasses) × (length (now index) ≡ indexSize) × (length (now pool) ≤ mostPool) × Lies (names .display) (length (now line)) × Lies (names .raw) (length (now line)) ⌝ }
-    ensures { λ r. ⌜ EnteredClassBy r (classNamed (now (line .entry)) names) count at (now (classes .entry)) (now (index .entry)) (now (pool .entry)) (now (classes .exit)) (now (index .exit)) (now (pool .exit)) ⌝ }
+    requires { ⌜ (count < length (now classes))
+        × (count < mostClasses)
+        × (length (now index) ≡ indexSize)
+        × (length (now pool) ≤ mostPool)
+        × Lies (names .display) (length (now line))
+        × Lies (names .raw) (length (now line)) ⌝ }
+    ensures { λ r.
+        ⌜ EnteredClassBy r (classNamed (now (line .entry)) names) count at (now (classes .entry)) (now (index .entry))
+        (now (pool .entry)) (now (classes .exit)) (now (index .exit)) (now (pool .exit)) ⌝ }
 {
     let start = names.raw.start;
     let end = names.raw.end;

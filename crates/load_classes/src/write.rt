@@ -29,7 +29,9 @@ pub fn write_classes(
     pool: &mut [u8],
 ) -> Classes
     requires { ⌜ (now index ≡ replicate indexSize 0) × (length (now classes) ≤ mostClasses) × (length (now pool) ≤ mostPool) ⌝ }
-    ensures { λ r. ⌜ ClassesBy r (lines (now (text .entry))) (now (classes .entry)) (now (pool .entry)) (now (classes .exit)) (now (pool .exit)) (now (index .exit)) ⌝ }
+    ensures { λ r.
+        ⌜ ClassesBy r (lines (now (text .entry))) (now (classes .entry)) (now (pool .entry)) (now (classes .exit)) (now (pool .exit))
+        (now (index .exit)) ⌝ }
 {
     let mut at = 0;
     let mut count = 0;

@@ -1,5 +1,5 @@
--- Document 01 "Fates of lines": "The loading program reads standard input (over 65,536 bytes: refusal 1) as `parse` does, with 1,024 class rows, 1,024
--- member rows and 65,536 pool bytes."
+-- Document 01 "Fates of lines": "The loading program reads standard input (over 65,536 bytes: refusal 1) as `parse` does, with 1,024 class
+-- rows, 1,024 member rows and 65,536 pool bytes."
 use mathlib.Core.List.{List}
 use Prim.Native.Nat.{ℕ}
 use lib.Dec.{ltb}

@@ -8,6 +8,7 @@ use lib.ListN.{length, take, drop, set, length-take}
 use mir.Val.{Fits}
 use mir.Syntax.{w64}
 use borrow.Author.Needs.{needs}
+use Rattle.ground.specs.Put.{between}
 use Rattle.ground.proofs.Parts.{take-rest}
 use Rattle.text_places.specs.Lines.{lines}
 use Rattle.text_places.specs.declared.spans.Span.{Span}
@@ -33,7 +34,7 @@ use Rattle.load_members.specs.inner.Roles.{roleOf}
 use Rattle.load_members.specs.inner.Enters.{slotAt, MemberReady, RoleReady, Ready, textsIn, WrittenMember, WrittenMemberBy, underClass, EnterBy}
 
 -- A member.
-pub member-parts : {s : List ℕ} {x : LineStep} {parts : MemberLine} → MemberReady s x parts → MemberIn parts (length (take (x .«end» - x .start) (drop (x .start) s)))
+pub member-parts : {s : List ℕ} {x : LineStep} {parts : MemberLine} → MemberReady s x parts → MemberIn parts (length (between s (x .start) (x .«end»)))
 member-parts k = k .lies
 
 module _ {s : List ℕ} {rows : List (List ℕ)} {index : List ℕ} {x : LineStep} {t : Slot} {p : List ℕ} (k : Ready s rows index x t p) where
@@ -45,7 +46,7 @@ module _ {s : List ℕ} {rows : List (List ℕ)} {index : List ℕ} {x : LineSte
     member-few m₁ p₁ h = inl h
 
     module _ (r : Entered) (p₁ : List ℕ)
-        (w : EnteredTextsBy r p (t .place) (textsOf (readBack rows p) (residualIn (lines (take (length s - x .next) (drop (x .next) s)))) (take (t .«own_end» - t .own) (drop (t .own) s)) (take (x .«end» - x .start) (drop (x .start) s)) parts) p₁) where
+        (w : EnteredTextsBy r p (t .place) (textsOf (readBack rows p) (residualIn (lines (between s (x .next) (length s)))) (between s (t .own) (t .«own_end»)) (between s (x .start) (x .«end»)) parts) p₁) where
       as-ruled : EnteredTextsBy r p (t .place) (textsIn s (readBack rows p) x t parts) p₁
       as-ruled = rw (take-rest s (x .next)) at w
 

@@ -12,7 +12,8 @@ ghost use mathlib.Core.Path.{_≡_};
 ghost use Rattle.load_members.specs.inner.Roles.{roleOf};
 ghost use Rattle.load_members.specs.inner.Enters.{slotAt, Ready, MemberReady, WrittenMemberBy, EnterBy};
 
-// Where the next member goes: its row, and the place of its texts. The display name of its class line stands in the text from `own` to `own_end`.
+// Where the next member goes: its row, and the place of its texts. The display name of its class line stands in the text from `own` to
+// `own_end`.
 pub struct Slot {
     pub row: usize,
     pub place: usize,
@@ -50,7 +51,9 @@ fn enter_member(
     index: &[u16],
 ) -> NextSlot
     requires { ⌜ Ready (now text) (now classes) (now index) line slot (now pool) × MemberReady (now text) line parts ⌝ }
-    ensures { λ r. ⌜ WrittenMemberBy r (now (text .entry)) (now (classes .entry)) line parts slot (now (members .entry)) (now (pool .entry)) (now (members .exit)) (now (pool .exit)) ⌝ }
+    ensures { λ r.
+        ⌜ WrittenMemberBy r (now (text .entry)) (now (classes .entry)) line parts slot (now (members .entry)) (now (pool .entry))
+        (now (members .exit)) (now (pool .exit)) ⌝ }
 {
     let row = slot.row;
     let place = slot.place;
@@ -88,7 +91,9 @@ pub fn enter_line(
     index: &[u16],
 ) -> NextSlot
     requires { ⌜ Ready (now text) (now classes) (now index) line slot (now pool) ⌝ }
-    ensures { λ r. ⌜ EnterBy (roleOf (line .kind)) r (now (text .entry)) (now (classes .entry)) line slot (now (members .entry)) (now (pool .entry)) (now (members .exit)) (now (pool .exit)) ⌝ }
+    ensures { λ r.
+        ⌜ EnterBy (roleOf (line .kind)) r (now (text .entry)) (now (classes .entry)) line slot (now (members .entry))
+        (now (pool .entry)) (now (members .exit)) (now (pool .exit)) ⌝ }
 {
     let kind = line.kind;
     match role_of(kind) {

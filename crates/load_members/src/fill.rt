@@ -37,7 +37,10 @@ pub fn write_members(
     used: usize,
 ) -> Filled
     requires { ⌜ (length (now text) ≤ mostText) × (length (now pool) ≤ mostPool) × Indexed (now classes) (now pool) (now index) used ⌝ }
-    ensures { λ r. ⌜ FilledBy r (lines (now (text .entry))) (readBack (now (classes .entry)) (now (pool .entry))) used (now (members .entry)) (now (pool .entry)) (now (members .exit)) (now (pool .exit)) ⌝ }
+    ensures { λ r.
+        let cs = readBack (now (classes .entry)) (now (pool .entry)) in
+        ⌜ FilledBy r (lines (now (text .entry))) cs used (now (members .entry)) (now (pool .entry)) (now (members .exit))
+        (now (pool .exit)) ⌝ }
 {
     let mut at = 0;
     let mut fates = no_fates();

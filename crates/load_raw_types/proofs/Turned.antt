@@ -9,6 +9,7 @@ use lib.Seq.{drop-drop}
 use mir.Val.{Fits}
 use mir.Syntax.{w64}
 use borrow.Author.Needs.{needs}
+use Rattle.ground.specs.Put.{between}
 use Rattle.ground.proofs.Parts.{take-rest}
 use Rattle.text_places.specs.declared.find.Place.{Place}
 use Rattle.text_places.specs.declared.find.Place.the-variants.{At, Nowhere}
@@ -62,7 +63,7 @@ rest-of : (text : List ℕ) (at n m : ℕ) → at + n ≡ m → drop n (drop at 
 rest-of text at n m e = drop-drop n at text ∙ ap (λ k. drop k text) e
 
 -- A byte that is looked for from a place on.
-module _ (b : ℕ) (text : List ℕ) (start : ℕ) (i : start ≤ length text) {p : Place} (e : p ≡ firstWhere (starts b) (take (length text - start) (drop start text))) where
+module _ (b : ℕ) (text : List ℕ) (start : ℕ) (i : start ≤ length text) {p : Place} (e : p ≡ firstWhere (starts b) (between text start (length text))) where
   from-here : p ≡ firstWhere (starts b) (drop start text)
   from-here = rw (take-rest text start) at e
 
@@ -80,8 +81,8 @@ module _ (b : ℕ) (text : List ℕ) (start : ℕ) (i : start ≤ length text) {
     gap-fits-past z = let r = reach in omega arith
 
 -- The piece that begins before `start`.
-module _ (look : List ℕ → Look) (dots : Bool) (text : List ℕ) (start : ℕ) (i : start ≤ length text) {p : Place} (e : p ≡ firstWhere (starts 0x3B) (take (length text - start) (drop start text))) (r : Wrote) (pool : List ℕ) (at : ℕ) (d : List ℕ) where
-  module _ (f : p ≡ Nowhere) (w : WroteBy r pool at (lookOr (classPiece dots (take (length text - start) (drop start text))) (look (classPiece dots (take (length text - start) (drop start text))))) d) where
+module _ (look : List ℕ → Look) (dots : Bool) (text : List ℕ) (start : ℕ) (i : start ≤ length text) {p : Place} (e : p ≡ firstWhere (starts 0x3B) (between text start (length text))) (r : Wrote) (pool : List ℕ) (at : ℕ) (d : List ℕ) where
+  module _ (f : p ≡ Nowhere) (w : WroteBy r pool at (lookOr (classPiece dots (between text start (length text))) (look (classPiece dots (between text start (length text))))) d) where
     all-written : WroteBy r pool at (insidePiece look dots text start) d
     all-written = wrote-as r pool at d (rw (take-rest text start) (sym (piece-whole look dots (drop start text) (sym (from-here 0x3B text start i e) ∙ f)))) w
 
@@ -91,9 +92,9 @@ module _ (look : List ℕ → Look) (dots : Bool) (text : List ℕ) (start : ℕ
     pub last-piece-no-room : r ≡ NoRoom → length pool < at + length (insidePiece look dots text start)
     last-piece-no-room g = wrote-none r pool at (insidePiece look dots text start) d all-written g
 
-  module _ {n : ℕ} (f : p ≡ At n) (w : WroteBy r pool at (lookOr (classPiece dots (take (start + n - start) (drop start text))) (look (classPiece dots (take (start + n - start) (drop start text))))) d) where
+  module _ {n : ℕ} (f : p ≡ At n) (w : WroteBy r pool at (lookOr (classPiece dots (between text start (start + n))) (look (classPiece dots (between text start (start + n))))) d) where
     piece : List ℕ
-    piece = lookOr (classPiece dots (take (start + n - start) (drop start text))) (look (classPiece dots (take (start + n - start) (drop start text))))
+    piece = lookOr (classPiece dots (between text start (start + n))) (look (classPiece dots (between text start (start + n))))
 
     split : insidePiece look dots text start ≡ piece ++ outsidePiece look dots text (start + n + 1)
     unfolding piece
@@ -119,8 +120,8 @@ module _ (look : List ℕ → Look) (dots : Bool) (text : List ℕ) (start : ℕ
 pub ruleset first-pieces = (gap-fits, gap-inside, gap-fits-past, last-piece, last-piece-no-room, first-piece, first-piece-no-room, needs)
 
 -- Between pieces.
-module _ (dots : Bool) (text : List ℕ) (start : ℕ) (i : start ≤ length text) {p : Place} (e : p ≡ firstWhere (starts 0x4C) (take (length text - start) (drop start text))) (r : Wrote) (pool : List ℕ) (at : ℕ) (d : List ℕ) where
-  module _ (f : p ≡ Nowhere) (w : WroteBy r pool at (nameBytes dots (take (length text - start) (drop start text)) ++ (0x3B ∷ [])) d) (look : List ℕ → Look) where
+module _ (dots : Bool) (text : List ℕ) (start : ℕ) (i : start ≤ length text) {p : Place} (e : p ≡ firstWhere (starts 0x4C) (between text start (length text))) (r : Wrote) (pool : List ℕ) (at : ℕ) (d : List ℕ) where
+  module _ (f : p ≡ Nowhere) (w : WroteBy r pool at (nameBytes dots (between text start (length text)) ++ (0x3B ∷ [])) d) (look : List ℕ → Look) where
     all-plain : WroteBy r pool at (outsidePiece look dots text start) d
     all-plain = wrote-as r pool at d (rw (take-rest text start) (sym (plain-all look dots (drop start text) (sym (from-here 0x4C text start i e) ∙ f)))) w
 
@@ -130,8 +131,8 @@ module _ (dots : Bool) (text : List ℕ) (start : ℕ) (i : start ≤ length tex
     pub last-plain-no-room : r ≡ NoRoom → length pool < at + length (outsidePiece look dots text start)
     last-plain-no-room g = wrote-none r pool at (outsidePiece look dots text start) d all-plain g
 
-  module _ {n : ℕ} (f : p ≡ At n) (w : WroteBy r pool at (nameBytes dots (take (start + n - start) (drop start text))) d) (look : List ℕ → Look) where
-    split-plain : outsidePiece look dots text start ≡ nameBytes dots (take (start + n - start) (drop start text)) ++ insidePiece look dots text (start + n + 1)
+  module _ {n : ℕ} (f : p ≡ At n) (w : WroteBy r pool at (nameBytes dots (between text start (start + n))) d) (look : List ℕ → Look) where
+    split-plain : outsidePiece look dots text start ≡ nameBytes dots (between text start (start + n)) ++ insidePiece look dots text (start + n + 1)
     split-plain =
         let z : start + n - start ≡ n = omega arith in
         rw z (plain-first look dots (drop start text) (sym (from-here 0x4C text start i e) ∙ f)
@@ -141,13 +142,13 @@ module _ (dots : Bool) (text : List ℕ) (start : ℕ) (i : start ≤ length tex
     first-plain g = record {
       past = omega arith;
       inside = let j = reach 0x4C text start i e f in omega arith;
-      done = nameBytes dots (take (start + n - start) (drop start text));
-      written = wrote-told r pool at (nameBytes dots (take (start + n - start) (drop start text))) d w g;
+      done = nameBytes dots (between text start (start + n));
+      written = wrote-told r pool at (nameBytes dots (between text start (start + n))) d w g;
       splits = split-plain;
     }
 
     pub first-plain-no-room : r ≡ NoRoom → length pool < at + length (outsidePiece look dots text start)
     first-plain-no-room g =
-        rw split-plain (none-then pool at (nameBytes dots (take (start + n - start) (drop start text))) (insidePiece look dots text (start + n + 1)) (wrote-none r pool at (nameBytes dots (take (start + n - start) (drop start text))) d w g))
+        rw split-plain (none-then pool at (nameBytes dots (between text start (start + n))) (insidePiece look dots text (start + n + 1)) (wrote-none r pool at (nameBytes dots (between text start (start + n))) d w g))
 
 pub ruleset plains = (gap-fits, gap-inside, gap-fits-past, last-plain, last-plain-no-room, first-plain, first-plain-no-room, needs)

@@ -82,10 +82,10 @@ kept-long (x ∷ []) e =
     absurd (omega arith)
 kept-long (x ∷ (y ∷ s)) e = omega arith
 
-kept-piece : (s : List ℕ) → keptText s ≡ true → classPiece false (take (length s - 1 - 1) (drop 1 s)) ≡ s
+kept-piece : (s : List ℕ) → keptText s ≡ true → classPiece false (between s 1 (length s - 1)) ≡ s
 kept-piece s e = go s e (kept-long s e)
   where
-    go : (l : List ℕ) → keptText l ≡ true → 2 ≤ length l → classPiece false (take (length l - 1 - 1) (drop 1 l)) ≡ l
+    go : (l : List ℕ) → keptText l ≡ true → 2 ≤ length l → classPiece false (between l 1 (length l - 1)) ≡ l
     go [] f h = absurd (omega arith)
     go (x ∷ []) f h = absurd (omega arith)
     go (x ∷ (y ∷ l)) f h =
@@ -102,7 +102,7 @@ module _ (look : List ℕ → Look) (text : List ℕ) {base : Base} (e : base �
       let g : eqb x 0x4C ≡ false = ap (λ y. eqb y 0x4C) (sym (base-letter text (sym f ∙ e))) ∙ word-other text in
       rw f (wrote-as r d at d₁ (sym (turn-letter look x g)) w)
 
-  pub base-kept-turned : base ≡ Kept → WroteBy r d at (turn look (classPiece false (take (length text - 1 - 1) (drop 1 text)))) d₁ → WroteBy r d at (turn look (baseBytes base text)) d₁
+  pub base-kept-turned : base ≡ Kept → WroteBy r d at (turn look (classPiece false (between text 1 (length text - 1)))) d₁ → WroteBy r d at (turn look (baseBytes base text)) d₁
   base-kept-turned f w = rw f (wrote-as r d at d₁ (ap (turn look) (kept-piece text (base-kept text (sym f ∙ e)))) w)
 
   pub base-named-turned : base ≡ Named → WroteBy r d at (turn look (classPiece true text)) d₁ → WroteBy r d at (turn look (baseBytes base text)) d₁
@@ -127,7 +127,7 @@ turn-brackets look zero l = refl
 turn-brackets look (suc n) l = turn-bracket look (replicate n 0x5B ++ l) ∙ ap (λ k. 0x5B ∷ k) (turn-brackets look n l)
 
 module _ (text : List ℕ) {t : TypeShape} (e : t ≡ shapeOf text) where
-  pub shape-base : t .base ≡ baseOf (take (t .«end» - t .start) (drop (t .start) text))
+  pub shape-base : t .base ≡ baseOf (between text (t .start) (t .«end»))
   shape-base = rw e
 
 module _ {rows : List (List ℕ)} {pool index : List ℕ} {at : ℕ} (x : Indexed rows pool index at) (text : List ℕ) {t : TypeShape} (e : t ≡ shapeOf text) (r : Wrote) (d : List ℕ) (w : WroteBy r pool at (replicate (t .brackets) 0x5B) d) where
@@ -146,7 +146,7 @@ module _ {rows : List (List ℕ)} {pool index : List ℕ} {at : ℕ} (x : Indexe
     pub raw-indexed : Indexed rows d index q
     raw-indexed = indexed-put x bracketed
 
-    pub raw-put : (v : Wrote) (d₁ : List ℕ) → WroteBy v d q (turn (back (readBack rows d)) (baseBytes (t .base) (take (t .«end» - t .start) (drop (t .start) text)))) d₁ →
+    pub raw-put : (v : Wrote) (d₁ : List ℕ) → WroteBy v d q (turn (back (readBack rows d)) (baseBytes (t .base) (between text (t .start) (t .«end»)))) d₁ →
         WroteBy v pool at (rawTypeOf (readBack rows pool) text) d₁
     raw-put v d₁ u =
         let b : List ℕ = turn (back (readBack rows pool)) (baseBytes (t .base) (between text (t .start) (t .«end»))) in

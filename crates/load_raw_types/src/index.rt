@@ -1,5 +1,5 @@
-// Where the search for a display class starts, and how it goes on: a number for each mark of a descriptor, and behind these a link from each row to the
-// last one before it with the same mark. One table, so that no function takes two.
+// Where the search for a display class starts, and how it goes on: a number for each mark of a descriptor, and behind these a link from
+// each row to the last one before it with the same mark. One table, so that no function takes two.
 use table_pool::slash_for_dot;
 ghost use mathlib.Core.Path.{_≡_};
 ghost use Prim.Native.Nat.{_<_};

@@ -38,7 +38,10 @@ fn put_raw_piece(
     index: &[u16],
 ) -> Wrote
     requires { ⌜ Indexed (now classes) (now pool) (now index) at ⌝ }
-    ensures { λ r. ⌜ WroteBy r (now (pool .entry)) at (lookOr (classPiece dots (now (name .entry))) (back (readBack (now (classes .entry)) (now (pool .entry))) (classPiece dots (now (name .entry))))) (now (pool .exit)) ⌝ }
+    ensures { λ r.
+        let cs = readBack (now (classes .entry)) (now (pool .entry)) in
+        ⌜ WroteBy r (now (pool .entry)) at
+        (lookOr (classPiece dots (now (name .entry))) (back cs (classPiece dots (now (name .entry))))) (now (pool .exit)) ⌝ }
 {
     match last_class(classes, pool, index, name, dots) {
         Found::Row(row) => {
@@ -71,7 +74,9 @@ fn put_first(
     index: &[u16],
 ) -> Stretch
     requires { ⌜ (start ≤ length (now text)) × Indexed (now classes) (now pool) (now index) at ⌝ }
-    ensures { λ r. ⌜ InsideBy r (back (readBack (now (classes .entry)) (now (pool .entry)))) dots (now (text .entry)) start (now (pool .entry)) at (now (pool .exit)) ⌝ }
+    ensures { λ r.
+        let cs = readBack (now (classes .entry)) (now (pool .entry)) in
+        ⌜ InsideBy r (back cs) dots (now (text .entry)) start (now (pool .entry)) at (now (pool .exit)) ⌝ }
 {
     let Place::At(gap) = first_byte(&text[start..], b';') else {
         let Wrote::Done(ended) = put_raw_piece(pool, at, &text[start..], dots, classes, index)
@@ -116,7 +121,9 @@ fn put_raw_pieces(
     index: &[u16],
 ) -> Wrote
     requires { ⌜ Indexed (now classes) (now pool) (now index) at ⌝ }
-    ensures { λ r. ⌜ WroteBy r (now (pool .entry)) at (turn (back (readBack (now (classes .entry)) (now (pool .entry)))) (classPiece dots (now (text .entry)))) (now (pool .exit)) ⌝ }
+    ensures { λ r.
+        let cs = readBack (now (classes .entry)) (now (pool .entry)) in
+        ⌜ WroteBy r (now (pool .entry)) at (turn (back cs) (classPiece dots (now (text .entry)))) (now (pool .exit)) ⌝ }
 {
     let mut start = 0;
     let mut next = at;
@@ -154,7 +161,9 @@ fn put_raw_base(
     index: &[u16],
 ) -> Wrote
     requires { ⌜ (base ≡ baseOf (now text)) × Indexed (now classes) (now pool) (now index) at ⌝ }
-    ensures { λ r. ⌜ WroteBy r (now (pool .entry)) at (turn (back (readBack (now (classes .entry)) (now (pool .entry)))) (baseBytes base (now (text .entry)))) (now (pool .exit)) ⌝ }
+    ensures { λ r.
+        let cs = readBack (now (classes .entry)) (now (pool .entry)) in
+        ⌜ WroteBy r (now (pool .entry)) at (turn (back cs) (baseBytes base (now (text .entry)))) (now (pool .exit)) ⌝ }
 {
     match base {
         Base::Letter(letter) => put_bytes(pool, at, letter, 1),
@@ -175,7 +184,9 @@ pub fn put_raw_type(
     index: &[u16],
 ) -> Wrote
     requires { ⌜ Indexed (now classes) (now pool) (now index) at ⌝ }
-    ensures { λ r. ⌜ WroteBy r (now (pool .entry)) at (rawTypeOf (readBack (now (classes .entry)) (now (pool .entry))) (now (text .entry))) (now (pool .exit)) ⌝ }
+    ensures { λ r.
+        let cs = readBack (now (classes .entry)) (now (pool .entry)) in
+        ⌜ WroteBy r (now (pool .entry)) at (rawTypeOf cs (now (text .entry))) (now (pool .exit)) ⌝ }
 {
     let shape = type_shape(text);
     let start = shape.start;

@@ -10,6 +10,7 @@ use mir.Val.{Fits}
 use mir.Syntax.{w32}
 use borrow.Author.Tests.{le-leb, lt-leb}
 use borrow.Author.Needs.{needs}
+use Rattle.ground.specs.Put.{between}
 use Rattle.ground.proofs.Parts.{take-rest}
 use Rattle.table_pool.specs.declared.write.Wrote.{Wrote}
 use Rattle.table_pool.specs.inner.Wrote.{WroteBy}
@@ -81,15 +82,15 @@ module _ {n : ℕ} {d : List ℕ} {first rest : ℕ} (s : Spelling n d first res
   spelling-end x = let a = length-set d first x in let b = s .size in omega arith
 
   module _ (h : rest ≤ 9) where
-    whole : take (10 - first) (drop first (set d first (48 + rest % 10))) ≡ decimal n
+    whole : between (set d first (48 + rest % 10)) first 10 ≡ decimal n
     whole =
         let long : 10 ≡ length (set d first (48 + rest % 10)) = sym (length-set d first (48 + rest % 10) ∙ s .size) in
-        ap (λ k. take (k - first) (drop first (set d first (48 + rest % 10)))) long
+        ap (λ k. between (set d first (48 + rest % 10)) first k) long
         ∙ take-rest (set d first (48 + rest % 10)) first ∙ drop-set d first (48 + rest % 10) spelling-inside
         ∙ ap (λ l. l ++ drop (suc first) d) (sym (one-digit first rest h)) ∙ s .is
 
     pub spelling-ends : (r : Wrote) (out : List ℕ) (at : ℕ) (out₁ : List ℕ) →
-        WroteBy r out at (take (10 - first) (drop first (set d first (48 + rest % 10)))) out₁ → WroteBy r out at (decimal n) out₁
+        WroteBy r out at (between (set d first (48 + rest % 10)) first 10) out₁ → WroteBy r out at (decimal n) out₁
     spelling-ends r out at out₁ w = wrote-as r out at out₁ whole w
 
 pub ruleset spelling = (spelling-starts, spelling-inside, spelling-first, spelling-more, spelling-falls, spelling-end, spelling-ends, needs)

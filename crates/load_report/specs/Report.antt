@@ -22,11 +22,15 @@ refusedLine number line = labelled "refused " number ++ (labelled " line " line 
 
 -- all lines, and those that give no row
 abbrev pub lineItems : Fates → List ℕ
-lineItems f = labelled "loaded lines " (f .lines) ++ (labelled " blank " (f .blank) ++ (labelled " applied " (f .applied) ++ labelled " idle " (f .idle)))
+lineItems f =
+    labelled "loaded lines " (f .lines) ++ (labelled " blank " (f .blank)
+    ++ (labelled " applied " (f .applied) ++ labelled " idle " (f .idle)))
 
 -- those that give one
 abbrev pub rowItems : Fates → List ℕ
-rowItems f = labelled " class " (f .class) ++ (labelled " field " (f .field) ++ (labelled " method " (f .method) ++ labelled " short " (f .short)))
+rowItems f =
+    labelled " class " (f .class) ++ (labelled " field " (f .field)
+    ++ (labelled " method " (f .method) ++ labelled " short " (f .short)))
 
 -- "names is pool bytes used"
 abbrev pub reportOf : Load → List ℕ

@@ -102,7 +102,8 @@ fn put_report(out: &mut [u8], load: Load) -> Wrote
     }
 }
 
-// The line for an answer, with its LF, at the start of `out`: the answer is how many bytes it has. The other bytes of `out` stay as they are.
+// The line for an answer, with its LF, at the start of `out`: the answer is how many bytes it has. The other bytes of `out` stay as they
+// are.
 pub fn report_line(load: Load, out: &mut [u8]) -> usize
     requires { ⌜ 256 ≤ length (now out) ⌝ }
     ensures { λ r. ⌜ Written r (now (out .entry)) 0 (reportOf load) (now (out .exit)) × (r ≤ 256) ⌝ }

@@ -5,6 +5,7 @@ use Prim.Native.Nat.{ℕ, _-_, _^_, _≤_, _<_}
 use native.Mathlib.Omega.{arith}
 use lib.ListN.{length, take, drop, length-take, length-drop}
 use borrow.Author.Needs.{needs}
+use Rattle.ground.specs.Put.{between}
 use Rattle.ground.proofs.Parts.{part-part}
 use Rattle.text_places.specs.declared.find.Place.{Place}
 use Rattle.text_places.specs.declared.find.Place.the-variants.{At}
@@ -68,8 +69,8 @@ comment-is (kinds.Method m r) e = absurd (let z : _≡_ {A = ℕ} 0 1 = cc in om
 comment-is (kinds.Refused n) e = absurd (let z : _≡_ {A = ℕ} 0 1 = cc in omega arith)
 
 -- what is found in a line is found in the text, else what was found before
-later-look : (s : List ℕ) (a e : ℕ) (found own : Residual) → Lies (jsonPart own) (length (take (e - a) (drop a s))) →
-    orLook (residualLook (take (e - a) (drop a s)) own) (residualLook s found) ≡ residualLook s (laterOf found a own)
+later-look : (s : List ℕ) (a e : ℕ) (found own : Residual) → Lies (jsonPart own) (length (between s a e)) →
+    orLook (residualLook (between s a e) own) (residualLook s found) ≡ residualLook s (laterOf found a own)
 later-look s a e found (Text x y p) h =
     let n = length-take (e - a) (drop a s) in
     let w = h .within in
@@ -105,35 +106,35 @@ module _ {s : List ℕ} {«from» at : ℕ} {found : Residual} (f : Following s 
       pub follow-falls : at < length s → length s - n < length s - at
       follow-falls h = let k = taken .past in let i = taken .inside in omega arith
 
-      step : residualIn (lines (drop at s)) ≡ residualBy (take (e - a) (drop a s)) (lineOf (take (e - a) (drop a s))) (residualIn (lines (drop n s)))
+      step : residualIn (lines (drop at s)) ≡ residualBy (between s a e) (lineOf (between s a e)) (residualIn (lines (drop n s)))
       unfolding residualIn
       step = ap residualIn (taken .split)
 
-      module _ {o : Opening} (k : o ≡ openingOf (lineOf (take (e - a) (drop a s)))) where
+      module _ {o : Opening} (k : o ≡ openingOf (lineOf (between s a e))) where
         pub follow-blank : o ≡ Blank → Following s «from» n found
         follow-blank b = record {
-          decides = ap (λ x. orLook x (residualLook s found)) (sym (step ∙ blank-by (take (e - a) (drop a s)) (lineOf (take (e - a) (drop a s))) (residualIn (lines (drop n s))) (sym k ∙ b))) ∙ f .decides;
+          decides = ap (λ x. orLook x (residualLook s found)) (sym (step ∙ blank-by (between s a e) (lineOf (between s a e)) (residualIn (lines (drop n s))) (sym k ∙ b))) ∙ f .decides;
           lies = f .lies;
         }
 
         pub follow-other : o ≡ Other → Gives s found (residualIn (lines (drop «from» s)))
         follow-other b = record {
-          look = ap (λ x. orLook x (residualLook s found)) (sym (step ∙ other-by (take (e - a) (drop a s)) (lineOf (take (e - a) (drop a s))) (residualIn (lines (drop n s))) (sym k ∙ b))) ∙ f .decides;
+          look = ap (λ x. orLook x (residualLook s found)) (sym (step ∙ other-by (between s a e) (lineOf (between s a e)) (residualIn (lines (drop n s))) (sym k ∙ b))) ∙ f .decides;
           lies = f .lies;
         }
 
         module _ {brace : Place} (b : o ≡ Comment brace) where
-          pub follow-kind : lineOf (take (e - a) (drop a s)) ≡ kinds.Comment brace
-          follow-kind = comment-is (lineOf (take (e - a) (drop a s))) (sym k ∙ b)
+          pub follow-kind : lineOf (between s a e) ≡ kinds.Comment brace
+          follow-kind = comment-is (lineOf (between s a e)) (sym k ∙ b)
 
-          module _ {own : Residual} (g : Gives (take (e - a) (drop a s)) own (signatureAt (take (e - a) (drop a s)) brace)) where
+          module _ {own : Residual} (g : Gives (between s a e) own (signatureAt (between s a e) brace)) where
             in-text : Lies (shift a (jsonPart own)) (length s)
             in-text =
                 let o = taken .order in
                 let w = taken .ends in
                 let n = length-take (e - a) (drop a s) in
                 let m = length-drop a s in
-                shift-lies a (jsonPart own) (length (take (e - a) (drop a s))) (length s) (omega arith) (g .lies)
+                shift-lies a (jsonPart own) (length (between s a e)) (length s) (omega arith) (g .lies)
 
             pub follow-room : length s < 2 ^ 64 → Lies (shift a (jsonPart own)) largest
             follow-room z = lies-more (omega arith) in-text
@@ -143,8 +144,8 @@ module _ {s : List ℕ} {«from» at : ℕ} {found : Residual} (f : Following s 
               decides =
                   ap (orLook (residualIn (lines (drop n s)))) (sym (later-look s a e found own (g .lies)))
                   ∙ ap (λ y. orLook (residualIn (lines (drop n s))) (orLook y (residualLook s found))) (g .look)
-                  ∙ sym (or-or (residualIn (lines (drop n s))) (signatureAt (take (e - a) (drop a s)) brace) (residualLook s found))
-                  ∙ ap (λ y. orLook y (residualLook s found)) (sym (step ∙ ap (λ y. residualBy (take (e - a) (drop a s)) y (residualIn (lines (drop n s)))) follow-kind))
+                  ∙ sym (or-or (residualIn (lines (drop n s))) (signatureAt (between s a e) brace) (residualLook s found))
+                  ∙ ap (λ y. orLook y (residualLook s found)) (sym (step ∙ ap (λ y. residualBy (between s a e) y (residualIn (lines (drop n s)))) follow-kind))
                   ∙ f .decides;
               lies = later-lies a (length s) found own (f .lies) in-text;
             })

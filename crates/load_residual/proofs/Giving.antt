@@ -8,6 +8,7 @@ use lib.ListN.{length, take, drop}
 use mir.Val.{Fits}
 use mir.Syntax.{w64}
 use borrow.Author.Needs.{needs}
+use Rattle.ground.specs.Put.{between}
 use Rattle.ground.specs.Choice.{pick}
 use Rattle.text_places.specs.declared.find.Place.{Place}
 use Rattle.text_places.specs.declared.find.Place.the-variants.{At, Nowhere}
@@ -82,16 +83,16 @@ module _ (l : List ℕ) {brace : Place} where
     pub json-inside : p .«end» ≤ length l
     json-inside = rw t (trim-lies l .within)
 
-    module _ (q : Place) (g : placeLook (take (p .«end» - start) (drop start l)) q ≡ signatureOf (take (p .«end» - start) (drop start l))) where
-      read : signatureAt l brace ≡ placeLook (take (p .«end» - start) (drop start l)) q
+    module _ (q : Place) (g : placeLook (between l start (p .«end»)) q ≡ signatureOf (between l start (p .«end»))) where
+      read : signatureAt l brace ≡ placeLook (between l start (p .«end»)) q
       read = ap (signatureAt l) e ∙ ap (λ x. signatureOf (partOf l (span start (x .«end»)))) (sym t) ∙ sym g
 
       pub gives-nothing : q ≡ Nowhere → Gives l Nothing (signatureAt l brace)
-      gives-nothing z = record { look = sym (read ∙ ap (placeLook (take (p .«end» - start) (drop start l))) z); lies = nothing-lies (length l) }
+      gives-nothing z = record { look = sym (read ∙ ap (placeLook (between l start (p .«end»))) z); lies = nothing-lies (length l) }
 
       pub gives-text : {string : ℕ} → q ≡ At string → Gives l (Text start (p .«end») string) (signatureAt l brace)
       gives-text z = record {
-        look = sym (read ∙ ap (placeLook (take (p .«end» - start) (drop start l))) z);
+        look = sym (read ∙ ap (placeLook (between l start (p .«end»))) z);
         lies = record { order = json-order; within = json-inside };
       }
 

@@ -49,8 +49,8 @@ abbrev pub signatureAt : List ℕ → Place → Look
 signatureAt l Nowhere = unknown
 signatureAt l (At brace) = signatureOf (jsonOf l brace)
 
--- "then a string `signature` replaces the raw signature of the last member of the current class": what comments after a member, before any other class
--- line or member line, give; each replaces what one before it gave. `later` is what the lines after this one give.
+-- "then a string `signature` replaces the raw signature of the last member of the current class": what comments after a member, before any
+-- other class line or member line, give; each replaces what one before it gave. `later` is what the lines after this one give.
 abbrev pub residualBy : List ℕ → Line → Look → Look
 residualBy l Blank later = later
 residualBy l (Comment brace) later = orLook later (signatureAt l brace)

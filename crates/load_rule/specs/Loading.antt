@@ -1,4 +1,5 @@
--- Document 01 "Numbers a caller can get back", "Rows and names", "Fates of lines": what a load answers, and the rows and the pool that it leaves.
+-- Document 01 "Numbers a caller can get back", "Rows and names", "Fates of lines": what a load answers, and the rows and the pool that it
+-- leaves.
 use mathlib.Core.Bool.{Bool, true, false}
 use mathlib.Core.List.{List, [], _∷_, _++_}
 use Prim.Native.Nat.{ℕ, _+_, _-_, min}

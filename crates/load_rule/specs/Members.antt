@@ -86,8 +86,8 @@ abbrev pub ownerOf : List ℕ → List ℕ → Qualified → List ℕ
 ownerOf own l (Owned owner name) = classDescriptor (partOf l owner)
 ownerOf own l (Plain name) = classDescriptor own
 
--- the member of a line, if it is a member line; `signature` is the residual one, if there is one. Rows count from 0, so that of its class is one less
--- than the class lines before it.
+-- the member of a line, if it is a member line; `signature` is the residual one, if there is one. Rows count from 0, so that of its class
+-- is one less than the class lines before it.
 abbrev pub entryIn : List Pair → Under → Look → List ℕ → Line → List Entry
 entryIn cs u signature l Blank = []
 entryIn cs u signature l (Comment brace) = []

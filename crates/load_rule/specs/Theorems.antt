@@ -1,5 +1,5 @@
--- The words of the theorems about loading (proofs/Sums, First, Exactly, Formed): what an accepted load counts and uses, which line is the first faulty one,
--- and when each answer is given.
+-- The words of the theorems about loading (proofs/Sums, First, Exactly, Formed): what an accepted load counts and uses, which line is the
+-- first faulty one, and when each answer is given.
 use mathlib.Core.Path.{_≡_}
 use mathlib.Core.Bool.{false}
 use mathlib.Core.List.{List, _∷_, _++_}
@@ -29,8 +29,8 @@ pub record Counts (ls : List (List ℕ)) (f : Fates) : Type 0 where
 abbrev pub usedOf : Fates → ℕ → Used
 usedOf f names = record { classes = f .class; members = f .field + f .method; pool = names }
 
--- The first faulty line: it stands behind lines that have no fault, its number is its place counted from 1, and the fault is the one that it has
--- where so many class lines stand before it.
+-- The first faulty line: it stands behind lines that have no fault, its number is its place counted from 1, and the fault is the one that
+-- it has where so many class lines stand before it.
 pub record First (ls : List (List ℕ)) (number line : ℕ) : Type 0 where
   pub before : List (List ℕ)
   pub here : List ℕ
@@ -74,4 +74,5 @@ pub data Way (s : List ℕ) (ls : List (List ℕ)) (n : Lent) : Load → Type 0 
   short-pool : {f : Fates} → Passed s ls f → 0 < f .class → f .class ≤ min (n .classes) mostClasses →
       f .field + f .method ≤ min (n .members) mostMembers → min (n .pool) mostPool < length (poolOf ls) → Way s ls n ShortPool
   loaded : {f : Fates} {names : ℕ} → Passed s ls f → 0 < f .class → f .class ≤ min (n .classes) mostClasses →
-      f .field + f .method ≤ min (n .members) mostMembers → length (poolOf ls) ≤ min (n .pool) mostPool → names ≡ length (poolOf ls) → Way s ls n (Loaded f names)
+      f .field + f .method ≤ min (n .members) mostMembers → length (poolOf ls) ≤ min (n .pool) mostPool →
+      names ≡ length (poolOf ls) → Way s ls n (Loaded f names)

@@ -9,6 +9,7 @@ use mir.Val.{Fits}
 use mir.Syntax.{w32}
 use borrow.Author.Tests.{ne-eqb}
 use borrow.Author.Needs.{needs}
+use Rattle.ground.specs.Put.{between}
 use Rattle.text_places.specs.declared.lines.NextLine.{NextLine}
 use Rattle.text_places.specs.declared.lines.NextLine.the-variants.{Line, NoLine}
 use Rattle.text_places.specs.Lines.{lines, nextLine}
@@ -61,28 +62,28 @@ module _ (s : List ℕ) (at : ℕ) (f : Fates) (member : Bool) where
       pub step-inside : e ≤ length s
       step-inside = line-taken s at b q .ends
 
-      module _ {kind : line.Line} (r : kind ≡ lineOf (take (e - a) (drop a s))) where
-        pub step-kind : lineOf (take (e - a) (drop a s)) ≡ kind
+      module _ {kind : line.Line} (r : kind ≡ lineOf (between s a e)) where
+        pub step-kind : lineOf (between s a e) ≡ kind
         step-kind = sym r
 
         module _ {number : ℕ} (x : number ≡ faultOf (f .class) kind) where
-          told : number ≡ faultOf (f .class) (lineOf (take (e - a) (drop a s)))
+          told : number ≡ faultOf (f .class) (lineOf (between s a e))
           told = x ∙ ap (faultOf (f .class)) r
 
           pub step-fault : (number ≡ 0 → ⊥) → scanOn f member (lines (drop at s)) ≡ scan.Faulty number (f .lines + 1)
           step-fault z =
-              let no : faultOf (f .class) (lineOf (take (e - a) (drop a s))) ≡ 0 → ⊥ = λ y. z (told ∙ y) in
-              ap (scanOn f member) (line-taken s at b q .split) ∙ scan-fault f member (take (e - a) (drop a s)) (lines (drop n s)) no
+              let no : faultOf (f .class) (lineOf (between s a e)) ≡ 0 → ⊥ = λ y. z (told ∙ y) in
+              ap (scanOn f member) (line-taken s at b q .split) ∙ scan-fault f member (between s a e) (lines (drop n s)) no
               ∙ ap (λ y. scan.Faulty y (f .lines + 1)) (sym told)
 
-          pub step-line : number ≡ 0 → {k : Fate} → k ≡ fateOf member (take (e - a) (drop a s)) kind → {g : Fates} → g ≡ plus f (one k) →
+          pub step-line : number ≡ 0 → {k : Fate} → k ≡ fateOf member (between s a e) kind → {g : Fates} → g ≡ plus f (one k) →
               {has : Bool} → has ≡ memberAfter member kind →
               StepLine s at f member (record { start = a; «end» = e; next = n; sum = g; «has_member» = has; kind = kind })
           step-line z y u v = record {
             taken = line-taken s at b q;
             is = r;
             clean = sym told ∙ z;
-            sum = u ∙ ap (λ x. plus f (one x)) (y ∙ ap (fateOf member (take (e - a) (drop a s))) r);
+            sum = u ∙ ap (λ x. plus f (one x)) (y ∙ ap (fateOf member (between s a e)) r);
             after = v ∙ ap (memberAfter member) r;
           }
 

@@ -14,7 +14,8 @@ ghost use Rattle.load_rule.specs.Loading.{mostText};
 ghost use Rattle.load_scan.specs.inner.Bounds.{Within};
 ghost use Rattle.load_scan.specs.inner.Steps.{StepBy};
 
-// Where a line stands and where the next one starts; what is counted with it; whether the current class has a last member after it; what it is.
+// Where a line stands and where the next one starts; what is counted with it; whether the current class has a last member after it; what
+// it is.
 pub struct LineStep {
     pub start: usize,
     pub end: usize,

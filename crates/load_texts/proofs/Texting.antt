@@ -6,6 +6,7 @@ use Prim.Native.Nat.{ℕ, _+_, _-_, _≤_, _<_}
 use native.Mathlib.Omega.{arith}
 use lib.ListN.{length, take, drop, length-append}
 use borrow.Author.Needs.{needs}
+use Rattle.ground.specs.Put.{between}
 use Rattle.text_places.specs.Lines.{lines}
 use Rattle.text_places.specs.declared.spans.Span.{Span}
 use Rattle.json_grammar.specs.Reader.{charsFrom}
@@ -87,7 +88,7 @@ module _ (own l : List ℕ) {b : Body} (r : Wrote) (d : List ℕ) (at : ℕ) (d�
   owner-none e w = wrote-as r d at d₁ (sym (ap (ownerText own l) e)) w
 
   module _ {m : method.Method} (e : b ≡ Method m) where
-    pub owner-named : {owner name : Span} → m .named ≡ Owned owner name → WroteBy r d at (classDescriptor (take (owner .«end» - owner .start) (drop (owner .start) l))) d₁ →
+    pub owner-named : {owner name : Span} → m .named ≡ Owned owner name → WroteBy r d at (classDescriptor (between l (owner .start) (owner .«end»))) d₁ →
         WroteBy r d at (ownerText own l b) d₁
     owner-named f w = wrote-as r d at d₁ (sym (ap (ownerText own l) e ∙ ap (ownerOf own l) f)) w
 
@@ -98,12 +99,12 @@ pub ruleset owning = (owner-order, owner-inside, owner-none, owner-named, owner-
 
 -- Display types.
 module _ (cs : List Pair) (l : List ℕ) {b : Body} (r : Wrote) (d : List ℕ) (at : ℕ) (d₁ : List ℕ) where
-  pub display-field : {declared : Span} → b ≡ Field declared → WroteBy r d at (rawTypeOf cs (take (declared .«end» - declared .start) (drop (declared .start) l))) d₁ →
+  pub display-field : {declared : Span} → b ≡ Field declared → WroteBy r d at (rawTypeOf cs (between l (declared .start) (declared .«end»))) d₁ →
       WroteBy r d at (displayTypes cs l b) d₁
   display-field e w = wrote-as r d at d₁ (sym (ap (displayTypes cs l) e)) w
 
   pub display-method : {m : method.Method} → b ≡ Method m →
-      WroteBy r d at (typesDescriptor cs (argumentsOf (take (m .arguments .«end» - m .arguments .start) (drop (m .arguments .start) l))) (take (m .returned .«end» - m .returned .start) (drop (m .returned .start) l))) d₁ →
+      WroteBy r d at (typesDescriptor cs (argumentsOf (between l (m .arguments .start) (m .arguments .«end»))) (between l (m .returned .start) (m .returned .«end»))) d₁ →
       WroteBy r d at (displayTypes cs l b) d₁
   display-method e w = wrote-as r d at d₁ (sym (ap (displayTypes cs l) e)) w
 
@@ -123,10 +124,10 @@ module _ (s : List ℕ) {r : Residual} (g : Gives s r (residualIn (lines s))) wh
     json-inside = json-lies .within
 
     pub descriptor-signed : (cs : List Pair) (l : List ℕ) (b : Body) {m : Bool} → m ≡ isMethod b → (w : Wrote) (d : List ℕ) (at : ℕ) (d₁ : List ℕ) →
-        WroteBy w d at (rawSignature m (decoded (charsFrom 0 (drop p (take (e - a) (drop a s)))))) d₁ → WroteBy w d at (descriptorText cs (residualIn (lines s)) l b) d₁
+        WroteBy w d at (rawSignature m (decoded (charsFrom 0 (drop p (between s a e))))) d₁ → WroteBy w d at (descriptorText cs (residualIn (lines s)) l b) d₁
     descriptor-signed cs l b h w d at d₁ k =
-        let known-as : residualIn (lines s) ≡ known (decoded (charsFrom 0 (drop p (take (e - a) (drop a s))))) = sym (sym (ap (residualLook s) f) ∙ g .look) in
-        wrote-as w d at d₁ (ap (λ x. rawSignature x (decoded (charsFrom 0 (drop p (take (e - a) (drop a s)))))) h ∙ sym (ap (λ o. descriptorText cs o l b) known-as)) k
+        let known-as : residualIn (lines s) ≡ known (decoded (charsFrom 0 (drop p (between s a e)))) = sym (sym (ap (residualLook s) f) ∙ g .look) in
+        wrote-as w d at d₁ (ap (λ x. rawSignature x (decoded (charsFrom 0 (drop p (between s a e))))) h ∙ sym (ap (λ o. descriptorText cs o l b) known-as)) k
 
   pub descriptor-displayed : r ≡ Nothing → (cs : List Pair) (l : List ℕ) (b : Body) (w : Wrote) (d : List ℕ) (at : ℕ) (d₁ : List ℕ) →
       WroteBy w d at (displayTypes cs l b) d₁ → WroteBy w d at (descriptorText cs (residualIn (lines s)) l b) d₁

@@ -6,6 +6,7 @@ use native.Mathlib.Omega.{arith}
 use native.Mathlib.Nat.{add-zero}
 use lib.ListN.{length, take, drop, length-append, drop-of-length-le}
 use borrow.Author.Needs.{needs}
+use Rattle.ground.specs.Put.{between}
 use Rattle.ground.proofs.PutLaws.{put-nothing}
 use Rattle.text_utf8.specs.Utf8.{piecesFrom}
 use Rattle.text_white.specs.Trim.{runOf, allWhite, trimEnd}
@@ -85,30 +86,30 @@ module _ {rows : List (List ℕ)} {index d : List ℕ} {at : ℕ} {s : List ℕ}
       pub arguing-falls : length s - n < length s - «from»
       arguing-falls = let x = splits .past in let w = splits .within in omega arith
 
-      next : argumentsOf s ≡ k .done ++ (take (e - a) (drop a s) ∷ argumentsOf (drop n s))
+      next : argumentsOf s ≡ k .done ++ (between s a e ∷ argumentsOf (drop n s))
       next = k .split ∙ ap (λ l. k .done ++ l) (splits .split)
 
-      module _ (r : Wrote) (d₂ : List ℕ) (w : WroteBy r d₁ to (rawTypeOf (readBack rows d₁) (take (e - a) (drop a s))) d₂) where
-        here : WroteBy r d₁ to (rawTypeOf (readBack rows d) (take (e - a) (drop a s))) d₂
+      module _ (r : Wrote) (d₂ : List ℕ) (w : WroteBy r d₁ to (rawTypeOf (readBack rows d₁) (between s a e)) d₂) where
+        here : WroteBy r d₁ to (rawTypeOf (readBack rows d) (between s a e)) d₂
         here = rw (k .same) at w
 
         pub arguing-room : r ≡ NoRoom → length d < at + length (argumentTypes (readBack rows d) (argumentsOf s))
         unfolding join
         arguing-room f =
             let cs : List Pair = readBack rows d in
-            let all : argumentTypes cs (argumentsOf s) ≡ argumentTypes cs (k .done) ++ (rawTypeOf cs (take (e - a) (drop a s)) ++ argumentTypes cs (argumentsOf (drop n s))) =
-            ap (argumentTypes cs) next ∙ join-append (rawTypeOf cs) (k .done) (take (e - a) (drop a s) ∷ argumentsOf (drop n s)) in
-            rw all (none-after d (rawTypeOf cs (take (e - a) (drop a s))) (argumentTypes cs (argumentsOf (drop n s))) (k .written) (wrote-none r d₁ to (rawTypeOf cs (take (e - a) (drop a s))) d₂ here f))
+            let all : argumentTypes cs (argumentsOf s) ≡ argumentTypes cs (k .done) ++ (rawTypeOf cs (between s a e) ++ argumentTypes cs (argumentsOf (drop n s))) =
+            ap (argumentTypes cs) next ∙ join-append (rawTypeOf cs) (k .done) (between s a e ∷ argumentsOf (drop n s)) in
+            rw all (none-after d (rawTypeOf cs (between s a e)) (argumentTypes cs (argumentsOf (drop n s))) (k .written) (wrote-none r d₁ to (rawTypeOf cs (between s a e)) d₂ here f))
 
         pub arguing-more : {q : ℕ} → r ≡ Done q → Arguing rows index d at s q n d₂
         arguing-more {q} f =
-            let one : Written q d₁ to (rawTypeOf (readBack rows d) (take (e - a) (drop a s))) d₂ = wrote-told r d₁ to (rawTypeOf (readBack rows d) (take (e - a) (drop a s))) d₂ here f in
-            let more : argumentTypes (readBack rows d) (k .done ++ (take (e - a) (drop a s) ∷ [])) ≡ argumentTypes (readBack rows d) (k .done) ++ rawTypeOf (readBack rows d) (take (e - a) (drop a s)) =
-            join-more (rawTypeOf (readBack rows d)) (k .done) (take (e - a) (drop a s)) in
+            let one : Written q d₁ to (rawTypeOf (readBack rows d) (between s a e)) d₂ = wrote-told r d₁ to (rawTypeOf (readBack rows d) (between s a e)) d₂ here f in
+            let more : argumentTypes (readBack rows d) (k .done ++ (between s a e ∷ [])) ≡ argumentTypes (readBack rows d) (k .done) ++ rawTypeOf (readBack rows d) (between s a e) =
+            join-more (rawTypeOf (readBack rows d)) (k .done) (between s a e) in
             record {
-              done = k .done ++ (take (e - a) (drop a s) ∷ []);
-              split = next ∙ sym (append-assoc (k .done) (take (e - a) (drop a s) ∷ []) (argumentsOf (drop n s)));
-              written = rw more (wrote-then (Done q) (rawTypeOf (readBack rows d) (take (e - a) (drop a s))) d₂ (k .written) one);
+              done = k .done ++ (between s a e ∷ []);
+              split = next ∙ sym (append-assoc (k .done) (between s a e ∷ []) (argumentsOf (drop n s)));
+              written = rw more (wrote-then (Done q) (rawTypeOf (readBack rows d) (between s a e)) d₂ (k .written) one);
               indexed = indexed-put (k .indexed) one;
               same = read-back-put (k .indexed) one ∙ k .same;
               size = written-length one ∙ k .size;

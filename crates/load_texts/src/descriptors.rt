@@ -21,10 +21,13 @@ ghost use Rattle.descriptor.specs.Raw.{rawTypeOf};
 ghost use Rattle.load_raw_types.specs.inner.Marks.{Indexed};
 ghost use Rattle.load_rule.specs.Members.{argumentTypes, typesDescriptor};
 
-// A residual signature: the string of a comment, whose first char stands at the place `string`. It is decoded and then settled where it stands.
+// A residual signature: the string of a comment, whose first char stands at the place `string`. It is decoded and then settled where it
+// stands.
 pub fn put_signature(pool: &mut [u8], at: usize, json: &[u8], string: usize, method: bool) -> Wrote
     requires { ⌜ at ≤ length (now pool) ⌝ }
-    ensures { λ r. ⌜ WroteBy r (now (pool .entry)) at (rawSignature method (decoded (charsFrom 0 (drop string (now (json .entry)))))) (now (pool .exit)) ⌝ }
+    ensures { λ r.
+        ⌜ WroteBy r (now (pool .entry)) at (rawSignature method (decoded (charsFrom 0 (drop string (now (json .entry))))))
+        (now (pool .exit)) ⌝ }
 {
     match decode_at(pool, at, json, string) {
         Written::Done(end) => settle_signature(pool, at, end, method),
@@ -42,7 +45,9 @@ fn put_arguments(
     index: &[u16],
 ) -> Wrote
     requires { ⌜ Indexed (now classes) (now pool) (now index) at ⌝ }
-    ensures { λ r. ⌜ WroteBy r (now (pool .entry)) at (argumentTypes (readBack (now (classes .entry)) (now (pool .entry))) (argumentsOf (now (arguments .entry)))) (now (pool .exit)) ⌝ }
+    ensures { λ r.
+        let cs = readBack (now (classes .entry)) (now (pool .entry)) in
+        ⌜ WroteBy r (now (pool .entry)) at (argumentTypes cs (argumentsOf (now (arguments .entry)))) (now (pool .exit)) ⌝ }
 {
     let mut to = at;
     let mut from = 0;
@@ -69,7 +74,9 @@ fn put_opening(
     index: &[u16],
 ) -> Wrote
     requires { ⌜ Indexed (now classes) (now pool) (now index) at ⌝ }
-    ensures { λ r. ⌜ WroteBy r (now (pool .entry)) at (0x28 ∷ argumentTypes (readBack (now (classes .entry)) (now (pool .entry))) (argumentsOf (now (arguments .entry)))) (now (pool .exit)) ⌝ }
+    ensures { λ r.
+        let cs = readBack (now (classes .entry)) (now (pool .entry)) in
+        ⌜ WroteBy r (now (pool .entry)) at (0x28 ∷ argumentTypes cs (argumentsOf (now (arguments .entry)))) (now (pool .exit)) ⌝ }
 {
     let Wrote::Done(opened) = put_text(pool, at, b"(") else {
         return Wrote::NoRoom;
@@ -86,7 +93,9 @@ fn put_returned(
     index: &[u16],
 ) -> Wrote
     requires { ⌜ Indexed (now classes) (now pool) (now index) at ⌝ }
-    ensures { λ r. ⌜ WroteBy r (now (pool .entry)) at (0x29 ∷ rawTypeOf (readBack (now (classes .entry)) (now (pool .entry))) (now (returned .entry))) (now (pool .exit)) ⌝ }
+    ensures { λ r.
+        let cs = readBack (now (classes .entry)) (now (pool .entry)) in
+        ⌜ WroteBy r (now (pool .entry)) at (0x29 ∷ rawTypeOf cs (now (returned .entry))) (now (pool .exit)) ⌝ }
 {
     let Wrote::Done(closed) = put_text(pool, at, b")") else {
         return Wrote::NoRoom;
@@ -104,7 +113,10 @@ pub fn put_types(
     index: &[u16],
 ) -> Wrote
     requires { ⌜ Indexed (now classes) (now pool) (now index) at ⌝ }
-    ensures { λ r. ⌜ WroteBy r (now (pool .entry)) at (typesDescriptor (readBack (now (classes .entry)) (now (pool .entry))) (argumentsOf (now (arguments .entry))) (now (returned .entry))) (now (pool .exit)) ⌝ }
+    ensures { λ r.
+        let cs = readBack (now (classes .entry)) (now (pool .entry)) in
+        ⌜ WroteBy r (now (pool .entry)) at (typesDescriptor cs (argumentsOf (now (arguments .entry))) (now (returned .entry)))
+        (now (pool .exit)) ⌝ }
 {
     let Wrote::Done(taken) = put_opening(pool, at, arguments, classes, index) else {
         return Wrote::NoRoom;

@@ -69,7 +69,9 @@ fn put_display_types(
     index: &[u16],
 ) -> Wrote
     requires { ⌜ Indexed (now classes) (now pool) (now index) at × BodyIn body (length (now line)) ⌝ }
-    ensures { λ r. ⌜ WroteBy r (now (pool .entry)) at (displayTypes (readBack (now (classes .entry)) (now (pool .entry))) (now (line .entry)) body) (now (pool .exit)) ⌝ }
+    ensures { λ r.
+        let cs = readBack (now (classes .entry)) (now (pool .entry)) in
+        ⌜ WroteBy r (now (pool .entry)) at (displayTypes cs (now (line .entry)) body) (now (pool .exit)) ⌝ }
 {
     match body {
         Body::Field(declared) => {
@@ -105,7 +107,10 @@ fn put_descriptor(
     index: &[u16],
 ) -> Wrote
     requires { ⌜ Indexed (now classes) (now pool) (now index) at × BodyIn body (length (now line)) ⌝ }
-    ensures { λ r. ⌜ WroteBy r (now (pool .entry)) at (descriptorText (readBack (now (classes .entry)) (now (pool .entry))) (residualIn (lines (now (after .entry)))) (now (line .entry)) body) (now (pool .exit)) ⌝ }
+    ensures { λ r.
+        let cs = readBack (now (classes .entry)) (now (pool .entry)) in
+        ⌜ WroteBy r (now (pool .entry)) at (descriptorText cs (residualIn (lines (now (after .entry)))) (now (line .entry)) body)
+        (now (pool .exit)) ⌝ }
 {
     match residual_after(after, 0) {
         Residual::Text { start, end, string } => put_signature(
@@ -151,7 +156,10 @@ fn put_raw_part(
     index: &[u16],
 ) -> TwoTexts
     requires { ⌜ Indexed (now classes) (now pool) (now index) at × MemberIn member (length (now line)) ⌝ }
-    ensures { λ r. ⌜ TwoBy r (now (pool .entry)) at (partOf (now (line .entry)) (member .raw)) (descriptorText (readBack (now (classes .entry)) (now (pool .entry))) (residualIn (lines (now (after .entry)))) (now (line .entry)) (member .body)) (now (pool .exit)) ⌝ }
+    ensures { λ r.
+        let cs = readBack (now (classes .entry)) (now (pool .entry)) in
+        ⌜ TwoBy r (now (pool .entry)) at (partOf (now (line .entry)) (member .raw))
+        (descriptorText cs (residualIn (lines (now (after .entry)))) (now (line .entry)) (member .body)) (now (pool .exit)) ⌝ }
 {
     let body = member.body;
     let start = member.raw.start;
@@ -174,7 +182,9 @@ fn put_display_part(
     own: &[u8],
 ) -> TwoTexts
     requires { ⌜ MemberIn member (length (now line)) ⌝ }
-    ensures { λ r. ⌜ TwoBy r (now (pool .entry)) at (partOf (now (line .entry)) (member .name)) (ownerText (now (own .entry)) (now (line .entry)) (member .body)) (now (pool .exit)) ⌝ }
+    ensures { λ r.
+        ⌜ TwoBy r (now (pool .entry)) at (partOf (now (line .entry)) (member .name))
+        (ownerText (now (own .entry)) (now (line .entry)) (member .body)) (now (pool .exit)) ⌝ }
 {
     let body = member.body;
     let start = member.name.start;
@@ -200,7 +210,10 @@ pub fn write_texts(
     index: &[u16],
 ) -> Entered
     requires { ⌜ Indexed (now classes) (now pool) (now index) at × MemberIn member (length (now line)) ⌝ }
-    ensures { λ r. ⌜ EnteredTextsBy r (now (pool .entry)) at (textsOf (readBack (now (classes .entry)) (now (pool .entry))) (residualIn (lines (now (after .entry)))) (now (own .entry)) (now (line .entry)) member) (now (pool .exit)) ⌝ }
+    ensures { λ r.
+        let cs = readBack (now (classes .entry)) (now (pool .entry)) in
+        ⌜ EnteredTextsBy r (now (pool .entry)) at
+        (textsOf cs (residualIn (lines (now (after .entry)))) (now (own .entry)) (now (line .entry)) member) (now (pool .exit)) ⌝ }
 {
     let TwoTexts::At {
         second: descriptor,

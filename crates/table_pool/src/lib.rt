@@ -1,5 +1,5 @@
-// Texts, class names and class descriptors, written into a lent pool at a place. Every public function takes any bytes; `put_copy` asks that the text
-// stands before the place.
+// Texts, class names and class descriptors, written into a lent pool at a place. Every public function takes any bytes; `put_copy` asks
+// that the text stands before the place.
 mod names;
 mod write;
 

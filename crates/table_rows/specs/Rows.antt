@@ -19,8 +19,8 @@ packClass c = c .raw .place ∷ c .raw .length ∷ c .display .place ∷ c .disp
 abbrev pub unpackClass : List ℕ → Class
 unpackClass row = record { raw = text (getD row 0 0) (getD row 1 0); display = text (getD row 2 0) (getD row 3 0) }
 
--- "A member row is fifteen numbers ..: kind (0 field, 1 method), class row, place and length of raw name, raw descriptor, display name, display owner
--- (0, 0 for a field), range flag (0 none, 1 display only, 2 both), raw range, display range; absent ranges are zeros."
+-- "A member row is fifteen numbers ..: kind (0 field, 1 method), class row, place and length of raw name, raw descriptor, display name,
+-- display owner (0, 0 for a field), range flag (0 none, 1 display only, 2 both), raw range, display range; absent ranges are zeros."
 abbrev pub textNumbers : Text → List ℕ
 textNumbers t = t .place ∷ t .length ∷ []
 
@@ -45,7 +45,8 @@ partsRow m = headNumbers m ++ rangeNumbers None
 abbrev pub unpackRanges : List ℕ → Ranges
 unpackRanges row =
     pick (eqb (getD row 10 0) 0) None
-    (pick (eqb (getD row 10 0) 1) (Display (getD row 13 0) (getD row 14 0)) (Both (getD row 11 0) (getD row 12 0) (getD row 13 0) (getD row 14 0)))
+    (pick (eqb (getD row 10 0) 1) (Display (getD row 13 0) (getD row 14 0))
+    (Both (getD row 11 0) (getD row 12 0) (getD row 13 0) (getD row 14 0)))
 
 abbrev pub unpackMember : List ℕ → Member
 unpackMember row =

@@ -7,6 +7,7 @@ use native.Mathlib.Omega.{arith}
 use lib.ListN.{length, take, drop, length-drop, drop-of-length-le}
 use lib.Seq.{take-all, drop-length}
 use borrow.Author.Needs.{needs}
+use Rattle.ground.specs.Put.{between}
 use Rattle.ground.proofs.Cases.{le-or-lt}
 use Rattle.table_rows.specs.declared.rows.Text.{Text}
 use Rattle.tables.specs.Back.{textIn}
@@ -28,7 +29,7 @@ module _ {A : Type 0} (s : List A) where
       go (inr h) = let z : min n (length s) ≡ length s = omega arith in rw (z, drop-length s) (sym (drop-of-length-le s {i = n} (omega arith)))
 
 module _ (pool : List ℕ) (t : Text) {a l : ℕ} (e : a ≡ min (t .place) (length pool)) (f : l ≡ min (t .length) (length pool - a)) where
-  pub text-part : take (a + l - a) (drop a pool) ≡ textIn pool t
+  pub text-part : between pool a (a + l) ≡ textIn pool t
   text-part =
       let z : a + l - a ≡ min (t .length) (length (drop a pool)) = omega (arith, length-drop a pool) in
       rw z (take-some (drop a pool) (t .length) ∙ ap (take (t .length)) (ap (λ n. drop n pool) e ∙ drop-some pool (t .place)))

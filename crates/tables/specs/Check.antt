@@ -1,5 +1,5 @@
--- Document 01, refusal 14, "tables malformed". "Rows and names": "Malformed: a count above the rows or pool lent, a text reaching past the used pool,
--- a class row, kind or flag out of range, or a named text not UTF-8."
+-- Document 01, refusal 14, "tables malformed". "Rows and names": "Malformed: a count above the rows or pool lent, a text reaching past the
+-- used pool, a class row, kind or flag out of range, or a named text not UTF-8."
 use mathlib.Core.Bool.{Bool, true, false}
 use mathlib.Core.List.{List, [], _∷_}
 use Prim.Native.Nat.{ℕ, _+_, min}
@@ -20,10 +20,12 @@ unfoldable pub allOf : {A : Type 0} → (A → Bool) → List A → Bool
 allOf p [] = true
 allOf p (x ∷ l) = both (p x) (allOf p l)
 
--- "a count above the rows or pool lent", where "a longer lent slice counts as" the most there may be; the arguments are the lengths of what is lent
+-- "a count above the rows or pool lent", where "a longer lent slice counts as" the most there may be; the arguments are the lengths of
+-- what is lent
 abbrev pub countsFine : ℕ → ℕ → ℕ → Used → Bool
 countsFine classes members pool used =
-    both (leb (used .classes) (min classes mostClasses)) (both (leb (used .members) (min members mostMembers)) (leb (used .pool) (min pool mostPool)))
+    both (leb (used .classes) (min classes mostClasses))
+    (both (leb (used .members) (min members mostMembers)) (leb (used .pool) (min pool mostPool)))
 
 -- "a named text not UTF-8"
 abbrev pub isValid : Check → Bool
@@ -46,7 +48,8 @@ numbersFine used row = both (ltb (unpackMember row .class) (used .classes)) (bot
 
 abbrev pub textsFine : List ℕ → Used → Member → Bool
 textsFine pool used m =
-    both (textFine pool used (m .«raw_name»)) (both (textFine pool used (m .descriptor)) (both (textFine pool used (m .name)) (textFine pool used (m .owner))))
+    both (textFine pool used (m .«raw_name»)) (both (textFine pool used (m .descriptor))
+    (both (textFine pool used (m .name)) (textFine pool used (m .owner))))
 
 abbrev pub memberFine : List ℕ → Used → List ℕ → Bool
 memberFine pool used row = both (numbersFine used row) (textsFine pool used (unpackMember row))

@@ -1,5 +1,5 @@
-// The last class row with a given descriptor. Every function takes any rows and any pool: a text that reaches past the pool's end counts as what of it
-// stands in the pool.
+// The last class row with a given descriptor. Every function takes any rows and any pool: a text that reaches past the pool's end counts
+// as what of it stands in the pool.
 use crate::texts::text_in;
 use table_rows::Class;
 use table_rows::ClassRow;

@@ -29,7 +29,10 @@ Counted (scan.Faulty number line) = Unit {0}
 
 -- "then 3 to 7 for the first faulty line ..., then 8, 9, 10, 11", where all does not fit
 abbrev pub missing : Fates → ℕ → ℕ → Load
-missing f c m = pick (eqb (f .class) 0) NoClasses (pick (ltb c (f .class)) FewClassRows (pick (ltb m (f .field + f .method)) FewMemberRows ShortPool))
+missing f c m =
+    pick (eqb (f .class) 0) NoClasses
+    (pick (ltb c (f .class)) FewClassRows
+    (pick (ltb m (f .field + f .method)) FewMemberRows ShortPool))
 
 abbrev pub refusedOf : Scan → ℕ → ℕ → Load
 refusedOf (scan.Faulty number line) c m = Faulty number line

@@ -11,9 +11,10 @@ use Rattle.load_raw_types.specs.inner.Marks.{markOf, chained}
 use Rattle.load_rule.specs.Classes.{classText, classRow}
 use Rattle.table_pool.specs.declared.write.TwoTexts.the-variants.{NoRoom}
 
--- The class `k` is the row `count` of the rows `c`, its descriptors stand in the pool `p` from the place `at` to the place `q`, and the index `i` has
--- it as the last row with its mark. With `₁`: after that.
-pub record EnteredClass (q : ℕ) (k : Pair) (count at : ℕ) (c : List (List ℕ)) (i p : List ℕ) (c₁ : List (List ℕ)) (i₁ p₁ : List ℕ) : Type 0 where
+-- The class `k` is the row `count` of the rows `c`, its descriptors stand in the pool `p` from the place `at` to the place `q`, and the
+-- index `i` has it as the last row with its mark. With `₁`: after that.
+pub record EnteredClass (q : ℕ) (k : Pair) (count at : ℕ) (c : List (List ℕ)) (i p : List ℕ)
+    (c₁ : List (List ℕ)) (i₁ p₁ : List ℕ) : Type 0 where
   pub written : Written q p at (classText k) p₁
   pub row : c₁ ≡ set c count (classRow at k)
   pub marked : i₁ ≡ chained i (markOf (k .display)) count

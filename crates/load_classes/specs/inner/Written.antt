@@ -11,9 +11,10 @@ use Rattle.load_rule.specs.Classes.{classesOf, classPool, classRows}
 use Rattle.load_classes.specs.declared.write.Classes.{Classes}
 use Rattle.load_classes.specs.declared.write.Classes.the-variants.{Written, FewRows, ShortPool}
 
--- The classes of the lines `ls` are written into the rows `c` and the pool `p`, which are `c₁` and `p₁` then. `i₁` is the index of their display
--- descriptors, `count` says how many rows are used, and `q` where the descriptors end.
-pub record ClassesAt (count q : ℕ) (ls : List (List ℕ)) (c : List (List ℕ)) (p : List ℕ) (c₁ : List (List ℕ)) (p₁ i₁ : List ℕ) : Type 0 where
+-- The classes of the lines `ls` are written into the rows `c` and the pool `p`, which are `c₁` and `p₁` then. `i₁` is the index of their
+-- display descriptors, `count` says how many rows are used, and `q` where the descriptors end.
+pub record ClassesAt (count q : ℕ) (ls : List (List ℕ)) (c : List (List ℕ)) (p : List ℕ)
+    (c₁ : List (List ℕ)) (p₁ i₁ : List ℕ) : Type 0 where
   pub counted : count ≡ length (classesOf ls)
   pub room : length (classesOf ls) ≤ length c
   pub rows : c₁ ≡ put c 0 (classRows 0 (classesOf ls))

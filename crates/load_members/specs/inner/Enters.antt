@@ -64,9 +64,11 @@ pub record WrittenMember (t₁ : Slot) (s : List ℕ) (rows : List (List ℕ)) (
   pub row : m₁ ≡ set m (t .row) (packMember (memberPlaced (x .sum .class - 1) (t .place) places (parts .body)))
   pub next : t₁ ≡ slotAt (t .row + 1) (places .«end») (t .own) (t .«own_end»)
 
-abbrev pub WrittenMemberBy : NextSlot → List ℕ → List (List ℕ) → LineStep → MemberLine → Slot → List (List ℕ) → List ℕ → List (List ℕ) → List ℕ → Type 0
+abbrev pub WrittenMemberBy : NextSlot → List ℕ → List (List ℕ) → LineStep → MemberLine → Slot →
+    List (List ℕ) → List ℕ → List (List ℕ) → List ℕ → Type 0
 WrittenMemberBy (At t₁) s rows x parts t m p m₁ p₁ = WrittenMember t₁ s rows x parts t m p m₁ p₁
-WrittenMemberBy NoRoom s rows x parts t m p m₁ p₁ = (length m ≤ t .row) ⊎ (length p < t .place + length (allTexts (textsIn s (readBack rows p) x t parts)))
+WrittenMemberBy NoRoom s rows x parts t m p m₁ p₁ =
+    (length m ≤ t .row) ⊎ (length p < t .place + length (allTexts (textsIn s (readBack rows p) x t parts)))
 
 -- nothing is written
 pub record Kept (r : NextSlot) (t : Slot) (m : List (List ℕ)) (p : List ℕ) (m₁ : List (List ℕ)) (p₁ : List ℕ) : Type 0 where

@@ -30,7 +30,8 @@ abbrev pub members : List (List ℕ) → List Pair → List Entry
 members ls cs = entriesFrom cs (under 0 []) ls
 
 -- all members of the lines `ls` are written, and `f` is what became of the lines
-pub record WrittenAll (f : Fates) (ls : List (List ℕ)) (cs : List Pair) (at q : ℕ) (m : List (List ℕ)) (p : List ℕ) (m₁ : List (List ℕ)) (p₁ : List ℕ) : Type 0 where
+pub record WrittenAll (f : Fates) (ls : List (List ℕ)) (cs : List Pair) (at q : ℕ) (m : List (List ℕ)) (p : List ℕ)
+    (m₁ : List (List ℕ)) (p₁ : List ℕ) : Type 0 where
   pub scanned : scanOf ls ≡ scan.Sound f
   pub held : Holding (members ls cs) at q m p m₁ p₁
 

@@ -1,6 +1,6 @@
--- Where the search for a display class starts, and how it goes on: a mark of each descriptor, and a table of two parts. The first 8,192 numbers say for
--- each mark which row is the last with it, the 4,096 behind them for each row which one before it is the last with the same mark. The number of a row is
--- its place and one more, and 0 where there is none.
+-- Where the search for a display class starts, and how it goes on: a mark of each descriptor, and a table of two parts. The first 8,192
+-- numbers say for each mark which row is the last with it, the 4,096 behind them for each row which one before it is the last with the
+-- same mark. The number of a row is its place and one more, and 0 where there is none.
 use mathlib.Core.Path.{_≡_}
 use mathlib.Core.List.{List, [], _∷_}
 use Prim.Native.Nat.{ℕ, zero, suc, _+_, _*_, _%_, _≤_, _<_}
@@ -40,12 +40,14 @@ lastBelow f h (suc n) = pick (eqb (f n) h) (suc n) (lastBelow f h n)
 abbrev pub chained : List ℕ → ℕ → ℕ → List ℕ
 chained index m count = set (set index (markCount + count) (getD index m 0)) m (count + 1)
 
--- The first `at` bytes of the pool hold the descriptors of all class rows, and the table says for each mark where the search starts, and for each row
--- where it goes on.
+-- The first `at` bytes of the pool hold the descriptors of all class rows, and the table says for each mark where the search starts, and
+-- for each row where it goes on.
 pub record Indexed (rows : List (List ℕ)) (pool index : List ℕ) (at : ℕ) : Type 0 where
   pub room : at ≤ length pool
-  pub raw-below : (i : ℕ) → i < length rows → unpackClass (getD rows i []) .raw .place + unpackClass (getD rows i []) .raw .length ≤ at
-  pub display-below : (i : ℕ) → i < length rows → unpackClass (getD rows i []) .display .place + unpackClass (getD rows i []) .display .length ≤ at
+  pub raw-below : (i : ℕ) → i < length rows →
+      unpackClass (getD rows i []) .raw .place + unpackClass (getD rows i []) .raw .length ≤ at
+  pub display-below : (i : ℕ) → i < length rows →
+      unpackClass (getD rows i []) .display .place + unpackClass (getD rows i []) .display .length ≤ at
   pub size : length index ≡ indexSize
   pub few : length rows ≤ mostClasses
   pub starts : (h : ℕ) → h < markCount → getD index h 0 ≡ lastBelow (rowMark rows pool) h (length rows)

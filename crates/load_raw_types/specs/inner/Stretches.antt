@@ -1,4 +1,5 @@
--- What a stretch of a text becomes, where the text stands between an `L` and a last `;`: from behind an `L` or a `;` to behind the next `;` or `L`.
+-- What a stretch of a text becomes, where the text stands between an `L` and a last `;`: from behind an `L` or a `;` to behind the next
+-- `;` or `L`.
 use mathlib.Core.Path.{_≡_}
 use mathlib.Core.Bool.{Bool}
 use mathlib.Core.List.{List, [], _∷_, _++_}
@@ -27,13 +28,15 @@ pub record Stretched (q s start size : ℕ) (whole rest pool : List ℕ) (at : �
   pub splits : whole ≡ done ++ rest
 
 abbrev pub InsideBy : Stretch → (List ℕ → Look) → Bool → List ℕ → ℕ → List ℕ → ℕ → List ℕ → Type 0
-InsideBy (More q s) look dots text start pool at pool₁ = Stretched q s start (length text) (insidePiece look dots text start) (outsidePiece look dots text s) pool at pool₁
+InsideBy (More q s) look dots text start pool at pool₁ =
+    Stretched q s start (length text) (insidePiece look dots text start) (outsidePiece look dots text s) pool at pool₁
 InsideBy (Last q) look dots text start pool at pool₁ = Written q pool at (insidePiece look dots text start) pool₁
 InsideBy NoRoom look dots text start pool at pool₁ = length pool < at + length (insidePiece look dots text start)
 
 -- whichever classes there are
 abbrev pub OutsideBy : Stretch → Bool → List ℕ → ℕ → List ℕ → ℕ → List ℕ → Type 0
 OutsideBy (More q s) dots text start pool at pool₁ =
-    (look : List ℕ → Look) → Stretched q s start (length text) (outsidePiece look dots text start) (insidePiece look dots text s) pool at pool₁
+    (look : List ℕ → Look) →
+    Stretched q s start (length text) (outsidePiece look dots text start) (insidePiece look dots text s) pool at pool₁
 OutsideBy (Last q) dots text start pool at pool₁ = (look : List ℕ → Look) → Written q pool at (outsidePiece look dots text start) pool₁
 OutsideBy NoRoom dots text start pool at pool₁ = (look : List ℕ → Look) → length pool < at + length (outsidePiece look dots text start)

@@ -37,7 +37,7 @@ same-length-2 : tie.Need-same-length-2
 same-length-2 c = search needs
 
 returns-2 : tie.Need-returns-2
-returns-2 c = (program-loads (now (c .before .before .before .before .before .before .before .before .before .before .before .before .before .before .args .input)) (c .before .before .before .before .before .before .before .before .before .before .before .if1 .left) (c .before .before .before .before .before .before .before .parse .ensures) (length-replicate {A = List ℕ} 1024 (replicate 4 0)) (length-replicate {A = List ℕ} 1024 (replicate 15 0)) (length-replicate {A = ℕ} 65536 0) (c .before .before .report-line2 .ensures .0), c .before .before .report-line2 .ensures .1)
+returns-2 c = (program-loads (now (c .before .before .before .before .before .before .before .before .before .before .before .before .before .before .args .input)) (c .before .before .before .before .before .before .before .before .before .before .before .if1 .left) (c .before .before .before .before .before .before .before .parse .ensures .0) (length-replicate {A = List ℕ} 1024 (replicate 4 0)) (length-replicate {A = List ℕ} 1024 (replicate 15 0)) (length-replicate {A = ℕ} 65536 0) (c .before .before .report-line2 .ensures .0), c .before .before .report-line2 .ensures .1)
 
 pub line-for-spec : {M : Type 1} → statement M
 line-for-spec =
