@@ -15,14 +15,8 @@ cast-t8 c = search said
 cast-t9 : tie.Need-cast-t9
 cast-t9 c = search said
 
-enum-known-second-unread : tie.Need-enum-known-second-unread
-enum-known-second-unread c = search said
-
-bit-number-requires : tie.Need-bit-number-requires
-bit-number-requires c κs = search said
-
-cast-t12 : tie.Need-cast-t12
-cast-t12 c = search said
+enum-told : tie.Need-enum-told
+enum-told c = search said
 
 returns : tie.Need-returns
 returns c = search said
@@ -38,8 +32,6 @@ clumarief-probe-leading-spec =
     enum-known-start
     cast-t8
     cast-t9
-    enum-known-second-unread
-    bit-number-requires
-    cast-t12
+    enum-told
     returns
     returns-2)
