@@ -17,10 +17,10 @@ fn is_ink(b: u8) -> bool
     if b < 0x21 {
         return false;
     }
-    if 0x7F < b {
-        return false;
+    if b < 0x80 {
+        return true;
     }
-    true
+    false
 }
 
 // Whether a white space character stands at a place.

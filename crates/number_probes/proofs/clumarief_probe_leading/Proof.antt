@@ -9,11 +9,11 @@ leading-range-requires c κs = search said
 enum-known-start : tie.Need-enum-known-start
 enum-known-start c = search said
 
+cast-t7 : tie.Need-cast-t7
+cast-t7 c = search said
+
 cast-t8 : tie.Need-cast-t8
 cast-t8 c = search said
-
-cast-t9 : tie.Need-cast-t9
-cast-t9 c = search said
 
 enum-told : tie.Need-enum-told
 enum-told c = search said
@@ -30,8 +30,8 @@ clumarief-probe-leading-spec =
     (tie.spec
     leading-range-requires
     enum-known-start
+    cast-t7
     cast-t8
-    cast-t9
     enum-told
     returns
     returns-2)
