@@ -4,3 +4,4 @@ pub mod Table
 pub mod Fill
 pub mod PutLaws
 pub mod Parts
+pub mod Stretch

@@ -5,10 +5,11 @@ use Prim.Native.Nat.{ℕ, zero, suc, _+_, _-_, _≤_, _<_}
 use native.Mathlib.Omega.{arith}
 use lib.ListN.{length, take, drop, length-take, length-drop}
 use lib.Seq.{take-all, take-nil, take-take, drop-drop}
+use Rattle.ground.specs.Put.{between}
 
 module _ {A : Type 0} where
   -- `&s[a..]` is what is left of `s`
-  pub take-rest : (s : List A) (a : ℕ) → take (length s - a) (drop a s) ≡ drop a s
+  pub take-rest : (s : List A) (a : ℕ) → between s a (length s) ≡ drop a s
   take-rest s a = take-all (length s - a) (drop a s) (rw length-drop (omega arith))
 
   -- `&s[..i]` has `i` elements
@@ -25,9 +26,13 @@ module _ {A : Type 0} where
   drop-take (suc k) (suc n) [] = sym (take-nil (suc n - suc k))
   drop-take (suc k) (suc n) (x ∷ l) = let z : suc n - suc k ≡ n - k = omega arith in rw z (drop-take k n l)
 
-  -- a part of a part
-  pub part-part : (s : List A) (a e x y : ℕ) → y ≤ e - a → take (y - x) (drop x (take (e - a) (drop a s))) ≡ take (a + y - (a + x)) (drop (a + x) s)
-  part-part s a e x y h =
+  -- a part of what is cut out of a list
+  pub cut-part : (s : List A) (a n x y : ℕ) → y ≤ n → between (take n (drop a s)) x y ≡ between s (a + x) (a + y)
+  cut-part s a n x y h =
       let same : a + y - (a + x) ≡ y - x = omega arith in
-      let cut : take (y - x) (take (e - a - x) (drop x (drop a s))) ≡ take (y - x) (drop x (drop a s)) = take-take (y - x) (e - a - x) (drop x (drop a s)) (omega arith) in
-      rw (same, drop-take x (e - a) (drop a s), cut, drop-drop x a s)
+      let cut : take (y - x) (take (n - x) (drop x (drop a s))) ≡ take (y - x) (drop x (drop a s)) = take-take (y - x) (n - x) (drop x (drop a s)) (omega arith) in
+      rw (same, drop-take x n (drop a s), cut, drop-drop x a s)
+
+  -- a part of a part
+  pub part-part : (s : List A) (a e x y : ℕ) → y ≤ e - a → between (between s a e) x y ≡ between s (a + x) (a + y)
+  part-part s a e x y h = cut-part s a (e - a) x y h

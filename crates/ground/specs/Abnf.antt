@@ -1,5 +1,5 @@
--- ABNF (RFC 5234) as plain statements about texts: a rule of a grammar is the statement that a text is of its kind. Lines of an RFC's grammar
--- are written in it one to one.
+-- ABNF (RFC 5234) as plain statements about texts: a rule of a grammar is the statement that a text is of its kind. Lines of an RFC's
+-- grammar are written in it one to one.
 use mathlib.Core.Path.{_≡_}
 use mathlib.Core.Bool.{true}
 use mathlib.Core.List.{List, [], _∷_, _++_}

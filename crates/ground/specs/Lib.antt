@@ -5,3 +5,4 @@ pub mod Choice
 pub mod Join
 pub mod Look
 pub mod Put
+pub mod inner

@@ -14,7 +14,7 @@ use Rattle.ground.proofs.Parts.{prefix-whole}
 use Rattle.ground.proofs.PutLaws.{length-put}
 use Rattle.text_places.specs.declared.lines.NextLine.{NextLine}
 use Rattle.text_places.specs.declared.lines.NextLine.the-variants.{Line}
-use Rattle.text_places.specs.Lines.{nextLine}
+use Rattle.text_places.specs.inner.NextLine.{nextLine}
 use Rattle.text_places.proofs.Taking.{Taking, line-past, line-inside, line-falls, line-starts, line-ends}
 use Rattle.json_grammar.specs.Reader.{Out, got, bad}
 use Rattle.json_decode.specs.Decoded.{writtenOf, roomOf}

@@ -11,16 +11,6 @@ ghost use Rattle.json_decode.specs.Decoded.{decodedLength, writtenOf, roomOf};
 ghost use Rattle.json_comment.specs.Answer.{commentOf, residualOf};
 ghost use Rattle.json_probes.specs.Answers.{standsKind, standsPlace, commentAnswerNumbers, decodedNumbers, writtenNumbers};
 
-// A test as a number.
-fn bit_number(b: bool) -> u32
-    ensures { λ r. ⌜ r ≡ bit b ⌝ }
-{
-    if b {
-        return 1;
-    }
-    0
-}
-
 // Which case stands under a name.
 fn stands_kind(stands: Stands) -> u64
     ensures { λ r. ⌜ r ≡ standsKind stands ⌝ }
@@ -107,5 +97,5 @@ pub extern "C" fn clumarief_probe_decode(
 pub extern "C" fn clumarief_probe_residual(text: &[u8], start: usize) -> u32
     ensures { λ r. ⌜ r ≡ bit (residualOf (charsFrom 0 (drop start (now (text .entry))))) ⌝ }
 {
-    bit_number(json_comment::is_residual(text, start))
+    text_places::bit_number(json_comment::is_residual(text, start))
 }

@@ -11,6 +11,7 @@ use mir.Val.{Fits}
 use mir.Syntax.{w64}
 use borrow.Author.Tests.{eq-eqb, ne-eqb}
 use borrow.Author.Needs.{needs}
+use Rattle.ground.specs.Put.{between}
 use Rattle.text_places.specs.declared.find.Place.{Place}
 use Rattle.text_places.specs.declared.find.Place.the-variants.{At, Nowhere}
 use Rattle.text_places.specs.Places.{firstWhere, starts}
@@ -119,19 +120,19 @@ module _ (s : List ℕ) (by : ℕ) (h : by + length s ≤ largest) {t : Arrow} (
     pub member-base : Fits w64 (by + l .start)
     member-base = let o = lie .0 .order in let w = lie .0 .within in omega arith
 
-    pub member-room : by + l .start + length (take (l .«end» - l .start) (drop (l .start) s)) ≤ largest
+    pub member-room : by + l .start + length (between s (l .start) (l .«end»)) ≤ largest
     member-room = let o = lie .0 .order in let w = lie .0 .within in let n = part-length s l (lie .0) in omega arith
 
-    module _ {raw : Span} (f : raw ≡ shift by r) {p : Place} (q : p ≡ firstWhere (starts 0x28) (take (l .«end» - l .start) (drop (l .start) s))) where
+    module _ {raw : Span} (f : raw ≡ shift by r) {p : Place} (q : p ≡ firstWhere (starts 0x28) (between s (l .start) (l .«end»))) where
       whole : {x : Place} → p ≡ x → memberAt by s ≡ bySide (by + l .start) raw (partOf s l) x
       whole k =
           ap (memberBy by s) (sym e ∙ g) ∙ ap (λ x. bySide (by + l .start) x (partOf s l) (firstWhere (starts 0x28) (partOf s l))) (sym f)
           ∙ ap (bySide (by + l .start) raw (partOf s l)) (sym q ∙ k)
 
-      pub member-field : p ≡ Nowhere → {z : Line} → z ≡ fieldAt (by + l .start) raw (take (l .«end» - l .start) (drop (l .start) s)) → z ≡ memberAt by s
+      pub member-field : p ≡ Nowhere → {z : Line} → z ≡ fieldAt (by + l .start) raw (between s (l .start) (l .«end»)) → z ≡ memberAt by s
       member-field k u = u ∙ sym (whole k)
 
-      pub member-method : {i : ℕ} → p ≡ At i → {z : Line} → z ≡ methodAt (by + l .start) raw (take (l .«end» - l .start) (drop (l .start) s)) → z ≡ memberAt by s
+      pub member-method : {i : ℕ} → p ≡ At i → {z : Line} → z ≡ methodAt (by + l .start) raw (between s (l .start) (l .«end»)) → z ≡ memberAt by s
       member-method k u = u ∙ sym (whole k)
 
 pub ruleset membering = (member-none, member-order, member-inside, member-raw, member-base, member-room, member-field, member-method, needs)
@@ -165,17 +166,17 @@ module _ (s : List ℕ) {p : Span} (e : p ≡ trimBoth s) where
     pub line-first : p .start < length s
     line-first = let o = lies .order in let w = lies .within in omega arith
 
-    pub line-room : length s < 2 ^ 64 → p .start + length (take (p .«end» - p .start) (drop (p .start) s)) ≤ largest
+    pub line-room : length s < 2 ^ 64 → p .start + length (between s (p .start) (p .«end»)) ≤ largest
     line-room b = let o = lies .order in let w = lies .within in let z = part-length s p lies in omega arith
 
-    pub line-comment : getD s (p .start) 0 ≡ 0x23 → {z : Line} → z ≡ commentAt (p .start) (take (p .«end» - p .start) (drop (p .start) s)) → z ≡ lineOf s
+    pub line-comment : getD s (p .start) 0 ≡ 0x23 → {z : Line} → z ≡ commentAt (p .start) (between s (p .start) (p .«end»)) → z ≡ lineOf s
     line-comment c u = u ∙ sym (in-it ∙ rw (ne-eqb (p .start) (p .«end») n, hash-head s p lies n, eq-eqb (getD s (p .start) 0) 0x23 c))
 
     module _ (c : getD s (p .start) 0 ≡ 0x23 → ⊥) {b : Bool} (w : b ≡ startsWhite s) where
-      pub line-member : b ≡ true → {z : Line} → z ≡ memberAt (p .start) (take (p .«end» - p .start) (drop (p .start) s)) → z ≡ lineOf s
+      pub line-member : b ≡ true → {z : Line} → z ≡ memberAt (p .start) (between s (p .start) (p .«end»)) → z ≡ lineOf s
       line-member t u = u ∙ sym (in-it ∙ rw (ne-eqb (p .start) (p .«end») n, hash-head s p lies n, ne-eqb (getD s (p .start) 0) 0x23 c, ← w, t))
 
-      pub line-class : b ≡ false → {z : Line} → z ≡ classAt (p .start) (take (p .«end» - p .start) (drop (p .start) s)) → z ≡ lineOf s
+      pub line-class : b ≡ false → {z : Line} → z ≡ classAt (p .start) (between s (p .start) (p .«end»)) → z ≡ lineOf s
       line-class t u = u ∙ sym (in-it ∙ rw (ne-eqb (p .start) (p .«end») n, hash-head s p lies n, ne-eqb (getD s (p .start) 0) 0x23 c, ← w, t))
 
 pub ruleset kinding = (line-blank, line-order, line-inside, line-first, line-room, line-comment, line-member, line-class, needs)

@@ -11,26 +11,23 @@ use lib.ListN.{length, getD, take, drop, length-drop}
 use lib.Seq.{drop-drop, getD-drop, take-take, take-length, length-take-le}
 use borrow.Author.Tests.{eqb-true, ne-eqb}
 use Rattle.ground.specs.Choice.{pick}
-use Rattle.ground.proofs.Parts.{drop-take, take-rest}
+use Rattle.ground.proofs.Parts.{take-rest, cut-part}
 use Rattle.text_places.specs.declared.find.Place.{Place}
 use Rattle.text_places.specs.declared.find.Place.the-variants.{At, Nowhere}
 use Rattle.text_places.specs.Places.{firstWhere, lastWhere, starts, startsPair}
 use Rattle.text_places.proofs.PlaceLaws.{first-inside, last-inside}
-use Rattle.text_places.proofs.Holds.{first-is, last-is, pair-inside}
-use Rattle.text_places.proofs.Found.{pair-stands}
+use Rattle.text_places.proofs.Holds.{first-is, last-is, pair-stands, pair-inside}
 use Rattle.text_utf8.specs.Grammar.{UTF8-octets}
 use Rattle.text_utf8.proofs.Boundaries.{octets-as, Texts, no-text, text, Fresh, fresh-as, octets-fresh, fresh-ascii, fresh-after, after-octets, take-octets, drop-octets, part-octets}
 use Rattle.text_places.specs.declared.spans.Span.{Span}
 use Rattle.text_white.specs.Trim.{trimBoth, startsWhite, firstWhite, lastWhite}
 use Rattle.text_white.proofs.Cuts.{trim-octets, first-white-fresh, last-white-fresh, Splitting, split-texts}
-use Rattle.number.specs.declared.read.Number.{Number}
-use Rattle.number.specs.declared.read.Number.the-variants.{Value, Unread}
 use Rattle.number.specs.declared.range.LeadingRange.{LeadingRange}
 use Rattle.number.specs.declared.range.LeadingRange.the-variants as leading
 use Rattle.number.specs.declared.range.TrailingRange.{TrailingRange}
 use Rattle.number.specs.declared.range.TrailingRange.the-variants as trailing
-use Rattle.number.specs.Numbers.{numberOf}
-use Rattle.number.specs.Ranges.{firstColon, bothRead, cutTwice, cutOnce, leadingRange}
+use Rattle.number.specs.Ranges.{leadingRange}
+use Rattle.number.proofs.Ranging.{leading-behind}
 use Rattle.line_parts.specs.declared.arrow.Arrow.the-variants.{Sides, NoArrow}
 use Rattle.line_parts.specs.declared.field.Field.the-variants as field
 use Rattle.line_parts.specs.declared.signature.Qualified.{Qualified}
@@ -47,23 +44,14 @@ use Rattle.line_parts.specs.Arguments.{commaParts, filled, argumentsOf}
 use Rattle.line_parts.specs.Arrows.{sidesOf, splitAt, arrowOf, classSides}
 use Rattle.line_parts.specs.Fields.{fieldSplit, fieldOf}
 use Rattle.line_parts.specs.Methods.{shiftName, shiftMethod, MethodIn, settledOf, withSignature, typeAt, methodFrom, methodAfter, methodOf}
-use Rattle.line_parts.proofs.Lying.{trim-lies, part-length, arrow-lies, signature-lies, shift-lies}
+use Rattle.line_parts.proofs.Lying.{trim-lies, lies-as, part-length, sides-are, arrow-lies, name-lies, signature-lies, shift-lies}
 
 -- A text that stands in another from the place `by` on: its parts are parts of that one.
 pub record Stands (s : List ℕ) (by : ℕ) (t : List ℕ) : Type 0 where
   pub is : take (length t) (drop by s) ≡ t
 
 pub stands-part : {s : List ℕ} {by : ℕ} {t : List ℕ} → Stands s by t → (q : Span) → Lies q (length t) → partOf t q ≡ partOf s (shift by q)
-stands-part {s} {by} {t} k q l =
-    let o = l .order in
-    let w = l .within in
-    let size : ℕ = q .«end» - q .start in
-    let same-size : by + q .«end» - (by + q .start) ≡ size = omega arith in
-    ap (λ x. take size (drop (q .start) x)) (sym (k .is))
-    ∙ ap (take size) (drop-take (q .start) (length t) (drop by s))
-    ∙ take-take size (length t - q .start) (drop (q .start) (drop by s)) (omega arith)
-    ∙ ap (take size) (drop-drop (q .start) by s)
-    ∙ ap (λ n. take n (drop (by + q .start) s)) (sym same-size)
+stands-part {s} {by} {t} k q l = ap (λ x. partOf x q) (sym (k .is)) ∙ cut-part s by (length t) (q .start) (q .«end») (l .within)
 
 drop-stands : (s : List ℕ) (i : ℕ) → Stands s i (drop i s)
 drop-stands s i = record { is = take-length (drop i s) }
@@ -78,14 +66,6 @@ take-part s i h q l =
     stands-part {s = s} {by = 0} (record { is = ap (λ n. take n s) (length-take-le i s h) }) q l ∙ rw (a, b)
 
 -- The sides of an arrow.
-sides-are : (a : Span) (n : ℕ) (b : Span) {l r : Span} → sidesOf a n b ≡ Sides l r → (a ≡ l) × (shift n b ≡ r)
-sides-are a n b {l} {r} e = go (isEmpty a) (isEmpty b) e
-  where
-    go : (x y : Bool) → pick x NoArrow (pick y NoArrow (Sides a (shift n b))) ≡ Sides l r → (a ≡ l) × (shift n b ≡ r)
-    go true y f = absurd (let z : _≡_ {A = ℕ} 0 1 = cc in omega arith)
-    go false true f = absurd (let z : _≡_ {A = ℕ} 0 1 = cc in omega arith)
-    go false false f = (cc, cc)
-
 pub arrow-octets : {s : List ℕ} → UTF8-octets s → {l r : Span} → arrowOf s ≡ Sides l r → UTF8-octets (partOf s l) × UTF8-octets (partOf s r)
 arrow-octets {s} o {l} {r} e = go (firstWhere (startsPair 0x2D 0x3E) s) refl e
   where
@@ -161,24 +141,12 @@ name-stands : {s : List ℕ} {by : ℕ} {t : List ℕ} → Stands s by t → (q 
 name-stands k (Owned owner name) (l, m) (a, b) = (octets-as (stands-part k owner l) a, octets-as (stands-part k name m) b)
 name-stands k (Plain name) l a = octets-as (stands-part k name l) a
 
-name-in : (s : List ℕ) → NameIn (qualifiedOf s) (length s)
-name-in s = go (lastWhere (starts 0x2E) s) refl
-  where
-    go : (p : Place) → lastWhere (starts 0x2E) s ≡ p → NameIn (qualifiedAt s p) (length s)
-    go Nowhere q = record { order = omega arith; within = omega arith }
-    go (At i) q =
-        let here = last-inside (starts 0x2E) s q in
-        (record { order = omega arith; within = omega arith }, record { order = omega arith; within = omega arith })
-
 name-take : (s : List ℕ) (i : ℕ) → i ≤ length s → (q : Qualified) → NameIn q (length (take i s)) → NameOctets (take i s) q → NameOctets s q
 name-take s i h (Owned owner name) (l, m) (a, b) = (octets-as (take-part s i h owner l) a, octets-as (take-part s i h name m) b)
 name-take s i h (Plain name) l a = octets-as (take-part s i h name l) a
 
 name-as : (s : List ℕ) {p q : Qualified} → p ≡ q → NameOctets s p → NameOctets s q
 name-as s e o = rw e at o
-
-lies-as : {p q : Span} {n : ℕ} → p ≡ q → Lies p n → Lies q n
-lies-as e l = rw e at l
 
 -- A method's name and arguments.
 pub signature-octets : {s : List ℕ} → UTF8-octets s → {n : Qualified} {a : Span} {t : TrailingRange} → methodSignature s ≡ signature.Parts n a t →
@@ -194,11 +162,11 @@ signature-octets {s} o {n} {a} {t} e = go (firstWhere (starts 0x28) s) refl (las
         let opens = first-is 0x28 s p in
         let closes = last-is 0x29 s q in
         let named : qualifiedOf (take i s) ≡ n = cc in
-        let between : span (i + 1) j ≡ a = cc in
-        let lies : Lies (span (i + 1) j) (length s) = lies-as (sym between) (signature-lies s e .1) in
+        let enclosed : span (i + 1) j ≡ a = cc in
+        let lies : Lies (span (i + 1) j) (length s) = lies-as (sym enclosed) (signature-lies s e .1) in
         let front = take-octets o i (fresh-ascii s i (omega arith)) in (
-          name-as s named (name-take s i (omega arith) (qualifiedOf (take i s)) (name-in (take i s)) (name-octets front)),
-          octets-as (ap (partOf s) between) (part-octets o (i + 1) j (lies .order) (fresh-after o i before (omega arith)) (fresh-ascii s j (omega arith))),
+          name-as s named (name-take s i (omega arith) (qualifiedOf (take i s)) (name-lies (take i s)) (name-octets front)),
+          octets-as (ap (partOf s) enclosed) (part-octets o (i + 1) j (lies .order) (fresh-after o i before (omega arith)) (fresh-ascii s j (omega arith))),
         )
 
     go : (p : Place) → firstWhere (starts 0x28) s ≡ p → (q : Place) → lastWhere (starts 0x29) s ≡ q → methodSignatureAt s p q ≡ signature.Parts n a t →
@@ -259,32 +227,17 @@ module _ {left : List ℕ} (o : UTF8-octets left) where
 
   -- what is left behind a raw range starts behind a colon
   leading-fresh : {a b rest : ℕ} → leadingRange left ≡ leading.Taken a b rest → Fresh (drop rest left)
-  leading-fresh {a} {b} {rest} e = once (firstColon left) refl e
-    where
-      read : (n m : Number) (r : ℕ) → bothRead n m r ≡ leading.Taken a b rest → r ≡ rest
-      read (Value x) (Value y) r f = cc
-      read (Value x) Unread r f = absurd (let z : _≡_ {A = ℕ} 0 1 = cc in omega arith)
-      read Unread m r f = absurd (let z : _≡_ {A = ℕ} 0 1 = cc in omega arith)
-
-      twice : (i : ℕ) (p : Place) → firstColon (drop (i + 1) left) ≡ p → cutTwice left i p (drop (i + 1) left) ≡ leading.Taken a b rest → Fresh (drop rest left)
-      twice i Nowhere q f = absurd (let z : _≡_ {A = ℕ} 0 1 = cc in omega arith)
-      twice i (At j) q f =
-          let second = first-inside (starts 0x3A) (drop (i + 1) left) q in
-          let size = length-drop (i + 1) left in
-          let is = read (numberOf (take i left)) (numberOf (take j (drop (i + 1) left))) (i + 1 + j + 1) f in
-          let colon : getD left (i + 1 + j) 0 ≡ 0x3A = sym (getD-drop (i + 1) left j 0) ∙ first-is 0x3A (drop (i + 1) left) q in
-          fresh-as (ap (λ n. drop n left) is) (fresh-after o (i + 1 + j) (omega arith) (omega arith))
-
-      once : (p : Place) → firstColon left ≡ p → cutOnce left p ≡ leading.Taken a b rest → Fresh (drop rest left)
-      once Nowhere q f = absurd (let z : _≡_ {A = ℕ} 0 1 = cc in omega arith)
-      once (At i) q f = twice i (firstColon (drop (i + 1) left)) refl f
+  leading-fresh e =
+      let c = leading-behind left e in
+      let k = c .stands in
+      fresh-as (ap (λ n. drop n left) (sym (c .next))) (fresh-after o (c .colon) (c .inside) (omega arith))
 
   pub method-octets : {m : Method} → methodOf left ≡ Parts m → MethodOctets left m
   method-octets {m} e = go (leadingRange left) refl e
     where
       go : (t : LeadingRange) → leadingRange left ≡ t → methodAfter left t ≡ Parts m → MethodOctets left m
       go (leading.Taken a b rest) q f = from-octets rest (Lines a b) (leading-fresh q) f
-      go (leading.NotTaken u) q f = from-octets 0 NoLines (octets-fresh o) f
+      go leading.NotTaken q f = from-octets 0 NoLines (octets-fresh o) f
 
 pub method-stands : {s : List ℕ} {by : ℕ} {t : List ℕ} → Stands s by t → (m : Method) → MethodIn m (length t) → MethodOctets t m → MethodOctets s (shiftMethod by m)
 method-stands k m (l, n, a) (x, y, z) = (octets-as (stands-part k (m .returned) l) x, name-stands k (m .named) n y, octets-as (stands-part k (m .arguments) a) z)

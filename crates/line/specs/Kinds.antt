@@ -75,8 +75,8 @@ memberBy by s (Sides left raw) = bySide (by + left .start) (shift by raw) (partO
 abbrev pub memberAt : ℕ → List ℕ → Line
 memberAt by s = memberBy by s (arrowOf s)
 
--- "The trimmed line decides: empty is blank; first character `#` is a comment; otherwise a line whose first character is not white space is a
--- class line, else a member line."
+-- "The trimmed line decides: empty is blank; first character `#` is a comment; otherwise a line whose first character is not white space
+-- is a class line, else a member line."
 abbrev pub lineIn : List ℕ → Span → Line
 lineIn s part =
     pick (isEmpty part) Blank

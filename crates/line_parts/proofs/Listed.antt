@@ -6,13 +6,14 @@ use Prim.Native.Nat.{ℕ, zero, suc, _+_, _-_, _^_, _≤_, _<_}
 use native.Mathlib.Omega.{arith}
 use lib.Dec.{eqb, ltb}
 use lib.ListN.{length, take, drop, length-take, length-drop, drop-of-length-le}
-use lib.Seq.{drop-drop, take-take}
+use lib.Seq.{drop-drop}
 use mir.Val.{Fits}
 use mir.Syntax.{w64}
-use borrow.Author.Tests.{eq-eqb, ne-eqb, ltb-true, ltb-false}
+use borrow.Author.Tests.{eq-eqb, ltb-true, ltb-false}
 use borrow.Author.Needs.{needs}
 use Rattle.ground.specs.Choice.{pick}
-use Rattle.ground.proofs.Parts.{take-rest, drop-take}
+use Rattle.ground.specs.Put.{between}
+use Rattle.ground.proofs.Parts.{take-rest, cut-part}
 use Rattle.text_places.specs.declared.find.Place.{Place}
 use Rattle.text_places.specs.declared.find.Place.the-variants.{At, Nowhere}
 use Rattle.text_places.specs.Places.{firstFrom, firstWhere, starts}
@@ -22,7 +23,8 @@ use Rattle.text_places.specs.declared.spans.Span.{Span}
 use Rattle.text_white.specs.Trim.{trimBoth}
 use Rattle.line_parts.specs.declared.arguments.NextArgument.the-variants.{Argument, NoArgument}
 use Rattle.text_places.specs.Spans.{isEmpty, partOf}
-use Rattle.line_parts.specs.Arguments.{commaParts, filled, argumentsOf, gap, firstFilled, nextArgument}
+use Rattle.line_parts.specs.Arguments.{commaParts, filled, argumentsOf, Splits}
+use Rattle.line_parts.specs.inner.NextArgument.{gap, firstFilled, nextArgument}
 use Rattle.text_white.proofs.TrimLaws.{trim-inside, trim-order}
 
 -- The first comma splits.
@@ -96,12 +98,12 @@ module _ {s : List ℕ} {start at : ℕ} (k : Passing s start at) where
   pub passing-ends : length s ≤ at → NoArgument ≡ nextArgument s start
   passing-ends h = sym (k .decides ∙ ap (λ l. firstFilled at (commaParts l)) (drop-of-length-le s h) ∙ none-left at)
 
-  module _ (h : at < length s) {p : Place} (e : p ≡ firstWhere (starts 0x2C) (take (length s - at) (drop at s))) where
+  module _ (h : at < length s) {p : Place} (e : p ≡ firstWhere (starts 0x2C) (between s at (length s))) where
     comma-is : p ≡ firstWhere (starts 0x2C) (drop at s)
     comma-is = rw (take-rest s at) at e
 
     -- the last part
-    module _ (g : p ≡ Nowhere) {l : Span} (f : l ≡ trimBoth (take (length s - at) (drop at s))) where
+    module _ (g : p ≡ Nowhere) {l : Span} (f : l ≡ trimBoth (between s at (length s))) where
       last-is : l ≡ trimBoth (drop at s)
       last-is = rw (take-rest s at) at f
 
@@ -111,8 +113,8 @@ module _ {s : List ℕ} {start at : ℕ} (k : Passing s start at) where
           let whole : at + length (drop at s) + 0 ≡ length s = omega (arith, length-drop at s) in
           k .decides ∙ ap (firstFilled at) (none-from 0 (drop at s) (sym comma-is ∙ g)) ∙ rw (whole, r)
 
-      pub last-blank : l .start ≡ l .«end» → NoArgument ≡ nextArgument s start
-      last-blank z = sym (last-step l last-is ∙ rw (eq-eqb (l .start) (l .«end») z))
+      pub last-blank : {b : Bool} → b ≡ isEmpty l → b ≡ true → NoArgument ≡ nextArgument s start
+      last-blank i z = sym (last-step l last-is ∙ rw (sym i ∙ z))
 
       reach : at + l .«end» ≤ length s
       reach = let a : l .«end» ≤ length (drop at s) = rw last-is (trim-inside (drop at s)) in omega (arith, length-drop at s)
@@ -123,8 +125,8 @@ module _ {s : List ℕ} {start at : ℕ} (k : Passing s start at) where
       pub last-end-fits : length s < 2 ^ 64 → Fits w64 (at + l .«end»)
       last-end-fits b = let r = reach in omega arith
 
-      pub last-argument : (l .start ≡ l .«end» → ⊥) → Argument (at + l .start) (at + l .«end») (length s) ≡ nextArgument s start
-      last-argument z = sym (last-step l last-is ∙ rw (ne-eqb (l .start) (l .«end») z))
+      pub last-argument : {b : Bool} → b ≡ isEmpty l → b ≡ false → Argument (at + l .start) (at + l .«end») (length s) ≡ nextArgument s start
+      last-argument i z = sym (last-step l last-is ∙ rw (sym i ∙ z))
 
     -- a part before a comma
     module _ {comma : ℕ} (g : p ≡ At comma) where
@@ -140,7 +142,7 @@ module _ {s : List ℕ} {start at : ℕ} (k : Passing s start at) where
       pub comma-past : length s < 2 ^ 64 → Fits w64 (at + comma + 1)
       comma-past b = let a = ahead in omega arith
 
-      module _ {l : Span} (f : l ≡ trimBoth (take (at + comma - at) (drop at s))) where
+      module _ {l : Span} (f : l ≡ trimBoth (between s at (at + comma))) where
         part-is : l ≡ trimBoth (take comma (drop at s))
         part-is = let z : at + comma - at ≡ comma = omega arith in rw z at f
 
@@ -155,8 +157,8 @@ module _ {s : List ℕ} {start at : ℕ} (k : Passing s start at) where
             let more : gap (commaParts (drop (comma + 1) (drop at s))) ≡ 1 = parts-some (drop (comma + 1) (drop at s)) in
             k .decides ∙ ap (firstFilled at) (parts-comma (drop at s) (sym comma-is ∙ g)) ∙ rw (more, size, rest, r)
 
-        pub part-blank : l .start ≡ l .«end» → Passing s start (at + comma + 1)
-        part-blank z = record { decides = step l part-is ∙ rw (eq-eqb (l .start) (l .«end») z) }
+        pub part-blank : {b : Bool} → b ≡ isEmpty l → b ≡ true → Passing s start (at + comma + 1)
+        part-blank i z = record { decides = step l part-is ∙ rw (sym i ∙ z) }
 
         within : at + l .«end» ≤ at + comma
         within = let a : l .«end» ≤ length (take comma (drop at s)) = rw part-is (trim-inside (take comma (drop at s))) in let z = size in omega arith
@@ -167,8 +169,8 @@ module _ {s : List ℕ} {start at : ℕ} (k : Passing s start at) where
         pub part-end-fits : length s < 2 ^ 64 → Fits w64 (at + l .«end»)
         part-end-fits b = let r = within in let a = ahead in omega arith
 
-        pub part-argument : (l .start ≡ l .«end» → ⊥) → Argument (at + l .start) (at + l .«end») (at + comma + 1) ≡ nextArgument s start
-        part-argument z = sym (step l part-is ∙ rw (ne-eqb (l .start) (l .«end») z))
+        pub part-argument : {b : Bool} → b ≡ isEmpty l → b ≡ false → Argument (at + l .start) (at + l .«end») (at + comma + 1) ≡ nextArgument s start
+        part-argument i z = sym (step l part-is ∙ rw (sym i ∙ z))
 
       pub part-falls : length s - (at + comma + 1) < length s - at
       part-falls = let a = ahead in omega arith
@@ -177,13 +179,6 @@ pub ruleset listing =
     (passing-starts, passing-ends, last-blank, last-start-fits, last-end-fits, last-argument, comma-fits, comma-inside, comma-past, part-blank, part-start-fits, part-end-fits, part-argument, part-falls, needs)
 
 -- The arguments of a text are found one after the other.
-pub record Splits (s : List ℕ) (at a e n : ℕ) : Type 0 where
-  pub order : a ≤ e
-  pub ends : e ≤ n
-  pub past : at < n
-  pub within : n ≤ length s
-  pub split : argumentsOf (drop at s) ≡ take (e - a) (drop a s) ∷ argumentsOf (drop n s)
-
 splits-none : (at : ℕ) (ps : List (List ℕ)) → firstFilled at ps ≡ NoArgument → filled ps ≡ []
 unfolding firstFilled filled
 splits-none at [] e = refl
@@ -203,12 +198,6 @@ nothing-filled : argumentsOf [] ≡ []
 unfolding commaParts filled
 nothing-filled = rw blank-nothing
 
--- a part of a text is a part of what starts at its place
-part-part : (s : List ℕ) (at i a e : ℕ) → e ≤ i → take (e - a) (drop a (take i (drop at s))) ≡ take (at + e - (at + a)) (drop (at + a) s)
-part-part s at i a e h =
-    let z : at + e - (at + a) ≡ e - a = omega arith in
-    ap (take (e - a)) (drop-take a i (drop at s)) ∙ take-take (e - a) (i - a) (drop a (drop at s)) (omega arith) ∙ rw (drop-drop a at s, z)
-
 module _ (s : List ℕ) where
   -- by the number of bytes that may be left
   arguments-from : (fuel at : ℕ) → length s - at < fuel → at < length s → {a e n : ℕ} → nextArgument s at ≡ Argument a e n → Splits s at a e n
@@ -226,7 +215,7 @@ module _ (s : List ℕ) where
           let o = trim-order (drop at s) in
           let w = trim-inside (drop at s) in
           let d = length-drop at s in
-          let whole : partOf (drop at s) (trimBoth (drop at s)) ≡ take (e - a) (drop a s) =
+          let whole : partOf (drop at s) (trimBoth (drop at s)) ≡ between s a e =
           (let z : e - a ≡ trimBoth (drop at s) .«end» - trimBoth (drop at s) .start = omega arith in rw (z, ← starts-at, drop-drop (trimBoth (drop at s) .start) at s)) in
           let past-all : length s ≤ n = omega arith in
           let rest : argumentsOf (drop n s) ≡ [] = ap argumentsOf (drop-of-length-le s past-all) ∙ nothing-filled in
@@ -267,7 +256,7 @@ module _ (s : List ℕ) where
               let o = trim-order (take i (drop at s)) in
               let w = trim-inside (take i (drop at s)) in
               let z = size in
-              let text : partOf (take i (drop at s)) p ≡ take (e - a) (drop a s) = part-part s at i (p .start) (p .«end») (omega arith) ∙ rw (starts-at, ends-at) in
+              let text : partOf (take i (drop at s)) p ≡ between s a e = cut-part s at i (p .start) (p .«end») (omega arith) ∙ rw (starts-at, ends-at) in
               record {
                 order = omega arith;
                 ends = omega arith;

@@ -31,7 +31,7 @@ use Rattle.text_white.proofs.TrimLaws.{trim-inside, trim-order}
 pub trim-lies : (s : List ℕ) → Lies (trimBoth s) (length s)
 trim-lies s = record { order = trim-order s; within = trim-inside s }
 
-lies-as : {p q : Span} {n : ℕ} → p ≡ q → Lies p n → Lies q n
+pub lies-as : {p q : Span} {n : ℕ} → p ≡ q → Lies p n → Lies q n
 lies-as e l = rw e at l
 
 pub lies-more : {p : Span} {m n : ℕ} → m ≤ n → Lies p m → Lies p n
@@ -44,7 +44,7 @@ pub part-length : (s : List ℕ) (p : Span) → Lies p (length s) → length (pa
 part-length s p l = let w = l .within in omega (arith, length-take (p .«end» - p .start) (drop (p .start) s), length-drop (p .start) s)
 
 -- The sides of an arrow.
-sides-are : (a : Span) (n : ℕ) (b : Span) {l r : Span} → sidesOf a n b ≡ Sides l r → (a ≡ l) × (shift n b ≡ r)
+pub sides-are : (a : Span) (n : ℕ) (b : Span) {l r : Span} → sidesOf a n b ≡ Sides l r → (a ≡ l) × (shift n b ≡ r)
 sides-are a n b {l} {r} e = go (isEmpty a) (isEmpty b) e
   where
     go : (x y : Bool) → pick x NoArrow (pick y NoArrow (Sides a (shift n b))) ≡ Sides l r → (a ≡ l) × (shift n b ≡ r)
@@ -93,7 +93,7 @@ field-lies s {d} {n} e = go (lastWhite s) refl e
         )
 
 -- A method's name and arguments.
-name-lies : (s : List ℕ) → NameIn (qualifiedOf s) (length s)
+pub name-lies : (s : List ℕ) → NameIn (qualifiedOf s) (length s)
 name-lies s = go (lastWhere (starts 0x2E) s) refl
   where
     go : (p : Place) → lastWhere (starts 0x2E) s ≡ p → NameIn (qualifiedAt s p) (length s)
@@ -128,9 +128,9 @@ signature-lies s {n} {a} {t} e = go (firstWhere (starts 0x28) s) refl (lastWhere
         let after = last-inside (starts 0x29) s q in
         let order = apart s i j (first-is 0x28 s p) (last-is 0x29 s q) (ltb-false j i h) in
         let named : qualifiedOf (take i s) ≡ n = cc in
-        let between : span (i + 1) j ≡ a = cc in
+        let enclosed : span (i + 1) j ≡ a = cc in
         let size = length-take i s in
-        (name-as (length s) named (name-more (qualifiedOf (take i s)) (omega arith) (name-lies (take i s))), lies-as between (record { order = order; within = omega arith }))
+        (name-as (length s) named (name-more (qualifiedOf (take i s)) (omega arith) (name-lies (take i s))), lies-as enclosed (record { order = order; within = omega arith }))
 
     go : (p : Place) → firstWhere (starts 0x28) s ≡ p → (q : Place) → lastWhere (starts 0x29) s ≡ q → methodSignatureAt s p q ≡ Parts n a t → NameIn n (length s) × Lies a (length s)
     go Nowhere p q r f = absurd (let z : _≡_ {A = ℕ} 0 1 = cc in omega arith)

@@ -8,6 +8,7 @@ use mir.Val.{Fits}
 use mir.Syntax.{w64}
 use borrow.Author.Tests.{lt-ltb, le-ltb}
 use borrow.Author.Needs.{needs}
+use Rattle.ground.specs.Put.{between}
 use Rattle.ground.proofs.Parts.{take-rest}
 use Rattle.text_places.specs.declared.find.Place.{Place}
 use Rattle.text_places.specs.declared.find.Place.the-variants.{At, Nowhere}
@@ -41,7 +42,7 @@ module _ (s : List ℕ) {p : Place} (e : p ≡ lastWhite s) where
     pub field-prefix : i ≡ length (take i s)
     field-prefix = let h = white in omega (arith, length-take i s)
 
-    module _ {l r : Span} (f : l ≡ trimBoth (take i s)) (h : r ≡ trimBoth (take (length s - i) (drop i s))) where
+    module _ {l r : Span} (f : l ≡ trimBoth (take i s)) (h : r ≡ trimBoth (between s i (length s))) where
       name : r ≡ trimBoth (drop i s)
       name = rw (take-rest s i) at h
 
@@ -80,7 +81,7 @@ module _ (s : List ℕ) {p : Span} (e : p ≡ trimBoth s) where
   pub after-inside : p .«end» ≤ length s
   after-inside = rw e (trim-inside s)
 
-  pub after-lines : {r : TrailingRange} → r ≡ trailingRange (take (p .«end» - p .start) (drop (p .start) s)) → r ≡ linesAfter s
+  pub after-lines : {r : TrailingRange} → r ≡ trailingRange (between s (p .start) (p .«end»)) → r ≡ linesAfter s
   after-lines f = f ∙ ap (λ x. trailingRange (partOf s x)) e
 
 pub ruleset lines-following = (after-order, after-inside, after-lines, needs)
@@ -123,7 +124,7 @@ module _ (s : List ℕ) {p : Place} (e : p ≡ firstWhere (starts 0x28) s) where
         pub signature-arguments : length s < 2 ^ 64 → Fits w64 (opened + 1)
         signature-arguments b = let c = opens in omega arith
 
-        pub signature-read : {n : Qualified} {r : TrailingRange} → n ≡ qualifiedOf (take opened s) → r ≡ linesAfter (take (length s - (close + 1)) (drop (close + 1) s)) →
+        pub signature-read : {n : Qualified} {r : TrailingRange} → n ≡ qualifiedOf (take opened s) → r ≡ linesAfter (between s (close + 1) (length s)) →
             Parts n (span (opened + 1) close) r ≡ methodSignature s
         signature-read {n} {r} a b =
             ap (λ x. Parts x (span (opened + 1) close) r) a ∙ ap (Parts (qualifiedOf (take opened s)) (span (opened + 1) close)) (rw (take-rest s (close + 1)) at b)

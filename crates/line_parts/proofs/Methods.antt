@@ -9,6 +9,7 @@ use lib.Seq.{drop-drop}
 use mir.Val.{Fits}
 use mir.Syntax.{w64}
 use borrow.Author.Needs.{needs}
+use Rattle.ground.specs.Put.{between}
 use Rattle.ground.proofs.Parts.{take-rest}
 use Rattle.text_places.specs.declared.find.Place.{Place}
 use Rattle.text_places.specs.declared.find.Place.the-variants.{At, Nowhere}
@@ -73,7 +74,7 @@ module _ (returned : Span) (named : Qualified) (arguments : Span) (raw : LineRan
 pub ruleset settling = (settled-taken, settled-raw, needs)
 
 -- From the return type on.
-module _ (left : List ℕ) (rest : ℕ) (h : rest ≤ length left) (raw : LineRange) {p : Place} (e : p ≡ firstWhite (take (length left - rest) (drop rest left))) where
+module _ (left : List ℕ) (rest : ℕ) (h : rest ≤ length left) (raw : LineRange) {p : Place} (e : p ≡ firstWhite (between left rest (length left))) where
   white-is : p ≡ firstWhite (drop rest left)
   white-is = rw (take-rest left rest) at e
 
@@ -90,7 +91,7 @@ module _ (left : List ℕ) (rest : ℕ) (h : rest ≤ length left) (raw : LineRa
     pub base-inside : rest + white ≤ length left
     base-inside = let r = reach in omega arith
 
-    module _ {part : Span} (f : part ≡ trimBoth (take (length left - (rest + white)) (drop (rest + white) left))) where
+    module _ {part : Span} (f : part ≡ trimBoth (between left (rest + white) (length left))) where
       part-is : part ≡ trimBoth (drop (rest + white) left)
       part-is = rw (take-rest left (rest + white)) at f
 
@@ -116,8 +117,8 @@ module _ (left : List ℕ) (rest : ℕ) (h : rest ≤ length left) (raw : LineRa
       pub end-inside : rest + white + part .«end» ≤ length left
       end-inside = within
 
-      module _ {t : Signature} (s : t ≡ methodSignature (take (rest + white + part .«end» - (rest + white + part .start)) (drop (rest + white + part .start) left))) where
-        text-is : take (rest + white + part .«end» - (rest + white + part .start)) (drop (rest + white + part .start) left) ≡ partOf (drop (rest + white) left) part
+      module _ {t : Signature} (s : t ≡ methodSignature (between left (rest + white + part .start) (rest + white + part .«end»))) where
+        text-is : between left (rest + white + part .start) (rest + white + part .«end») ≡ partOf (drop (rest + white) left) part
         text-is = let z : rest + white + part .«end» - (rest + white + part .start) ≡ part .«end» - part .start = omega arith in rw (z, drop-drop (part .start) (rest + white) left)
 
         signature-is : t ≡ methodSignature (partOf (drop (rest + white) left) part)
@@ -168,7 +169,7 @@ module _ (left : List ℕ) {t : LeadingRange} (e : t ≡ leadingRange left) wher
   pub method-rest : {a b rest : ℕ} → t ≡ leading.Taken a b rest → rest ≤ length left
   method-rest g = leading-rest left (sym e ∙ g)
 
-  pub method-unranged : {u : Bool} → t ≡ leading.NotTaken u → {r : MethodParts} → r ≡ methodFrom left 0 NoLines → r ≡ methodOf left
+  pub method-unranged : t ≡ leading.NotTaken → {r : MethodParts} → r ≡ methodFrom left 0 NoLines → r ≡ methodOf left
   method-unranged g f = f ∙ sym (ap (methodAfter left) (sym e ∙ g))
 
 pub ruleset ranging = (method-ranged, method-rest, method-unranged, needs)
@@ -233,7 +234,7 @@ method-lies left {m} e = go (leadingRange left) refl e
   where
     go : (t : LeadingRange) → leadingRange left ≡ t → methodAfter left t ≡ Parts m → MethodIn m (length left)
     go (leading.Taken a b rest) q f = from-lies left rest (Lines a b) (leading-rest left q) f
-    go (leading.NotTaken u) q f = from-lies left 0 NoLines (omega arith) f
+    go leading.NotTaken q f = from-lies left 0 NoLines (omega arith) f
 
 pub shift-method-lies : (by : ℕ) (m : Method) (k n : ℕ) → by + k ≤ n → MethodIn m k → MethodIn (shiftMethod by m) n
 shift-method-lies by m k n h l = (shift-lies by (m .returned) k n h (l .0), shift-name-lies by (m .named) k n h (l .1), shift-lies by (m .arguments) k n h (l .2))

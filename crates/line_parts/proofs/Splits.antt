@@ -8,6 +8,7 @@ use mir.Val.{Fits}
 use mir.Syntax.{w64}
 use borrow.Author.Tests.{eq-eqb, ne-eqb}
 use borrow.Author.Needs.{needs}
+use Rattle.ground.specs.Put.{between}
 use Rattle.ground.proofs.Parts.{take-rest}
 use Rattle.text_places.specs.declared.find.Place.{Place}
 use Rattle.text_places.specs.declared.find.Place.the-variants.{At, Nowhere}
@@ -61,7 +62,7 @@ module _ (s : List ℕ) {p : Place} (e : p ≡ firstWhere (startsPair 0x2D 0x3E)
       pub arrow-left-empty : l .start ≡ l .«end» → NoArrow ≡ arrowOf s
       arrow-left-empty z = sym (at ∙ ap (λ x. sidesOf x (i + 2) (trimBoth (drop (i + 2) s))) (sym f) ∙ left-empty l (i + 2) (trimBoth (drop (i + 2) s)) z)
 
-      module _ (n : l .start ≡ l .«end» → ⊥) {r : Span} (h : r ≡ trimBoth (take (length s - (i + 2)) (drop (i + 2) s))) where
+      module _ (n : l .start ≡ l .«end» → ⊥) {r : Span} (h : r ≡ trimBoth (between s (i + 2) (length s))) where
         right : r ≡ trimBoth (drop (i + 2) s)
         right = rw (take-rest s (i + 2)) at h
 

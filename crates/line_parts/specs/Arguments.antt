@@ -1,13 +1,13 @@
 -- Document 01 "Text and lines": "Arguments split at commas, trimmed, blank ones dropped."
+use mathlib.Core.Path.{_≡_}
 use mathlib.Core.List.{List, [], _∷_}
-use Prim.Native.Nat.{ℕ, _+_}
+use Prim.Native.Nat.{ℕ, _≤_, _<_}
 use lib.Dec.{eqb}
 use lib.ListN.{length, drop}
 use Rattle.ground.specs.Choice.{pick}
+use Rattle.ground.specs.Put.{between}
 use Rattle.text_places.specs.Lines.{onto}
 use Rattle.text_white.specs.Trim.{trimBoth}
-use Rattle.line_parts.specs.declared.arguments.NextArgument.{NextArgument}
-use Rattle.line_parts.specs.declared.arguments.NextArgument.the-variants.{Argument, NoArgument}
 use Rattle.text_places.specs.Spans.{isEmpty, partOf}
 
 -- "split at commas"
@@ -24,19 +24,11 @@ filled (p ∷ ps) = pick (isEmpty (trimBoth p)) (filled ps) (partOf p (trimBoth 
 abbrev pub argumentsOf : List ℕ → List (List ℕ)
 argumentsOf s = filled (commaParts s)
 
--- the comma after a part, if others follow
-abbrev pub gap : List (List ℕ) → ℕ
-gap [] = 0
-gap (p ∷ ps) = 1
-
--- the first of these parts that is not blank, by its place; the first part stands at the place `at`
-unfoldable pub firstFilled : ℕ → List (List ℕ) → NextArgument
-firstFilled at [] = NoArgument
-firstFilled at (p ∷ ps) =
-    let after : ℕ = at + length p + gap ps in
-    let later = firstFilled after ps in
-    pick (isEmpty (trimBoth p)) later (Argument (at + trimBoth p .start) (at + trimBoth p .«end») after)
-
--- the first argument from the place `at` on
-abbrev pub nextArgument : List ℕ → ℕ → NextArgument
-nextArgument s at = firstFilled at (commaParts (drop at s))
+-- What `next_argument` answers (the law `arguments-split`): the first argument from the place `at` on runs from `a` to `e`, and the others
+-- are those from `n` on. No rule cites it.
+pub record Splits (s : List ℕ) (at a e n : ℕ) : Type 0 where
+  pub order : a ≤ e
+  pub ends : e ≤ n
+  pub past : at < n
+  pub within : n ≤ length s
+  pub split : argumentsOf (drop at s) ≡ between s a e ∷ argumentsOf (drop n s)

@@ -1,4 +1,5 @@
--- Document 01 "Text and lines": "Class: ends with `:`, which goes; the first `->` splits; both sides, trimmed, are not empty. Member: same split."
+-- Document 01 "Text and lines": "Class: ends with `:`, which goes; the first `->` splits; both sides, trimmed, are not empty. Member: same
+-- split."
 use mathlib.Core.List.{List}
 use Prim.Native.Nat.{ℕ, _+_, _-_}
 use lib.Dec.{eqb}

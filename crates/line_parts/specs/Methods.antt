@@ -30,7 +30,14 @@ shiftName by (Plain name) = Plain (shift by name)
 
 abbrev pub shiftMethod : ℕ → Method → Method
 shiftMethod by m =
-    record { returned = shift by (m .returned); named = shiftName by (m .named); arguments = shift by (m .arguments); raw = m .raw; display = m .display; short = m .short }
+    record {
+      returned = shift by (m .returned);
+      named = shiftName by (m .named);
+      arguments = shift by (m .arguments);
+      raw = m .raw;
+      display = m .display;
+      short = m .short;
+    }
 
 -- "No such range: the display range is the raw range."
 abbrev pub settledOf : Span → Qualified → Span → LineRange → TrailingRange → Method
@@ -42,7 +49,8 @@ settledOf returned named arguments raw trailing.NotTaken =
 -- the signature stands in what starts at the place `by`
 abbrev pub withSignature : Span → ℕ → LineRange → Signature → MethodParts
 withSignature returned by raw signature.NoSignature = NoMethod
-withSignature returned by raw (signature.Parts named arguments lines) = Parts (settledOf returned (shiftName by named) (shift by arguments) raw lines)
+withSignature returned by raw (signature.Parts named arguments lines) =
+    Parts (settledOf returned (shiftName by named) (shift by arguments) raw lines)
 
 -- "Return type ends at the first white space (none: 6); the rest is trimmed."
 abbrev pub typeAt : List ℕ → ℕ → LineRange → Place → MethodParts
@@ -57,11 +65,11 @@ methodFrom left rest raw = typeAt left rest raw (firstWhite (drop rest left))
 -- "If the text before the first colon and that between the first and second both read as numbers, they are the raw range and go."
 abbrev pub methodAfter : List ℕ → LeadingRange → MethodParts
 methodAfter left (leading.Taken a e rest) = methodFrom left rest (Lines a e)
-methodAfter left (leading.NotTaken unread) = methodFrom left 0 NoLines
+methodAfter left leading.NotTaken = methodFrom left 0 NoLines
 
 abbrev pub methodOf : List ℕ → MethodParts
 methodOf left = methodAfter left (leadingRange left)
 
--- all parts lie in the first `n` bytes
+-- all parts lie in the first `n` bytes: no rule cites it, contracts and the laws "parts of a line lie in it" do
 abbrev pub MethodIn : Method → ℕ → Type 0
 MethodIn m n = Lies (m .returned) n × NameIn (m .named) n × Lies (m .arguments) n

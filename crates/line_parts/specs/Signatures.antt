@@ -44,7 +44,7 @@ methodSignatureAt s (At opened) (At close) =
 abbrev pub methodSignature : List ℕ → Signature
 methodSignature s = methodSignatureAt s (firstWhere (starts 0x28) s) (lastWhere (starts 0x29) s)
 
--- a name and its owner lie in the first `n` bytes
+-- a name and its owner lie in the first `n` bytes: no rule cites it, contracts and the laws "parts of a line lie in it" do
 abbrev pub NameIn : Qualified → ℕ → Type 0
 NameIn (Owned owner name) n = Lies owner n × Lies name n
 NameIn (Plain name) n = Lies name n

@@ -1,4 +1,5 @@
-// The parts of a class line and of a member line: both sides of the arrow, a field, a method. Every public function but those that only move places takes any bytes.
+// The parts of a class line and of a member line: both sides of the arrow, a field, a method. Every public function but those that only
+// move places takes any bytes.
 mod arguments;
 mod arrow;
 mod field;
@@ -18,6 +19,4 @@ pub use method::MethodParts;
 pub use method::method_parts;
 pub use method::shifted_method;
 pub use signature::Qualified;
-pub use signature::Signature;
 pub use signature::name_span;
-pub use signature::signature_parts;

@@ -8,7 +8,7 @@ use text_places::last_byte;
 use text_places::shifted;
 use text_white::trim_both;
 ghost use mathlib.Core.Path.{_≡_};
-ghost use Prim.Native.Nat.{_+_, _<_};
+ghost use Rattle.text_places.specs.Places.{lastWhere, starts};
 ghost use Rattle.line_parts.specs.Signatures.{nameSpan, qualifiedOf, linesAfter, methodSignature};
 
 // A method's name, with its owner where it has one.
@@ -36,11 +36,25 @@ pub enum Signature {
     NoSignature,
 }
 
-// Owner and name split at the last dot.
+// The dot that splits owner and name: the last one.
+fn last_dot(s: &[u8]) -> Place
+    ensures { λ r. ⌜ r ≡ lastWhere (starts 0x2E) (now (s .entry)) ⌝ }
+{
+    last_byte(s, b'.')
+}
+
+// The `)` that ends the arguments: the last one.
+fn last_close(s: &[u8]) -> Place
+    ensures { λ r. ⌜ r ≡ lastWhere (starts 0x29) (now (s .entry)) ⌝ }
+{
+    last_byte(s, b')')
+}
+
+// Owner and name.
 fn owner_and_name(s: &[u8]) -> Qualified
     ensures { λ r. ⌜ r ≡ qualifiedOf (now (s .entry)) ⌝ }
 {
-    let Place::At(dot) = last_byte(s, b'.') else {
+    let Place::At(dot) = last_dot(s) else {
         return Qualified::Plain {
             name: Span {
                 start: 0,
@@ -74,7 +88,7 @@ pub fn signature_parts(s: &[u8]) -> Signature
     let Place::At(open) = first_byte(s, b'(') else {
         return Signature::NoSignature;
     };
-    let Place::At(close) = last_byte(s, b')') else {
+    let Place::At(close) = last_close(s) else {
         return Signature::NoSignature;
     };
     if close < open {

@@ -1,4 +1,5 @@
--- What a line is, as 20 numbers: which kind it is, then what that holds; a part is its start and its end, and what a kind does not hold is 0.
+-- What a line is, as 20 numbers: which kind it is, then what that holds; a part is its start and its end, and what a kind does not hold
+-- is 0.
 use mathlib.Core.List.{List, [], _∷_}
 use Prim.Native.Nat.{ℕ}
 use Rattle.ground.specs.Choice.{bit}

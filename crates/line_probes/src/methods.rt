@@ -4,19 +4,9 @@ use line_parts::Method;
 use line_parts::Qualified;
 use line_parts::name_span;
 use text_places::Span;
+use text_places::bit_number;
 ghost use mathlib.Core.Path.{_≡_};
-ghost use Rattle.ground.specs.Choice.{bit};
 ghost use Rattle.line_probes.specs.LineAnswers.{owned, ownerSpan, lined, firstLine, lastLine, methodNumbers};
-
-// A test as a number.
-fn bit_number(b: bool) -> u64
-    ensures { λ r. ⌜ r ≡ bit b ⌝ }
-{
-    if b {
-        return 1;
-    }
-    0
-}
 
 // Whether a name has an owner.
 fn has_owner(named: Qualified) -> u64
@@ -94,7 +84,7 @@ pub fn method_numbers(method: Method, raw: Span) -> [u64; 20]
         has_lines(display),
         first_line(display),
         last_line(display),
-        bit_number(method.short),
+        bit_number(method.short) as u64,
         0,
     ]
 }

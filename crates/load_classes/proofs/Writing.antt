@@ -11,8 +11,8 @@ use Rattle.ground.specs.Put.{put, between}
 use Rattle.ground.proofs.PutLaws.{put-nothing, put-set, length-put}
 use Rattle.text_places.specs.declared.lines.NextLine.{NextLine}
 use Rattle.text_places.specs.declared.lines.NextLine.the-variants.{Line, NoLine}
-use Rattle.text_places.specs.Lines.{lines, nextLine}
-use Rattle.text_places.specs.inner.Taken.{Taken}
+use Rattle.text_places.specs.Lines.{lines, Taken}
+use Rattle.text_places.specs.inner.NextLine.{nextLine}
 use Rattle.text_places.proofs.Taking.{line-taken, none-taken, end-taken}
 use Rattle.text_places.specs.Spans.{Lies}
 use Rattle.line.specs.Kinds.{lineOf}

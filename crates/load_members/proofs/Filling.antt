@@ -11,8 +11,7 @@ use borrow.Author.Needs.{needs}
 use Rattle.ground.specs.Put.{put}
 use Rattle.ground.proofs.Parts.{part-part}
 use Rattle.ground.proofs.PutLaws.{put-nothing, put-set}
-use Rattle.text_places.specs.Lines.{lines}
-use Rattle.text_places.specs.inner.Taken.{Taken}
+use Rattle.text_places.specs.Lines.{lines, Taken}
 use Rattle.text_places.proofs.Taking.{end-taken}
 use Rattle.text_places.specs.declared.spans.Span.{Span}
 use Rattle.text_places.specs.Spans.{span, partOf, Lies}

@@ -11,8 +11,8 @@ use Rattle.text_places.specs.declared.find.Place.{Place}
 use Rattle.text_places.specs.declared.find.Place.the-variants.{At}
 use Rattle.text_places.specs.declared.lines.NextLine.{NextLine}
 use Rattle.text_places.specs.declared.lines.NextLine.the-variants.{Line, NoLine}
-use Rattle.text_places.specs.Lines.{lines, nextLine}
-use Rattle.text_places.specs.inner.Taken.{Taken}
+use Rattle.text_places.specs.Lines.{lines, Taken}
+use Rattle.text_places.specs.inner.NextLine.{nextLine}
 use Rattle.text_places.proofs.Taking.{line-taken, none-taken, end-taken}
 use Rattle.line.specs.declared.line.Line as line
 use Rattle.line.specs.declared.line.Line.the-variants as kinds

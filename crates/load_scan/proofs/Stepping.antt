@@ -12,7 +12,8 @@ use borrow.Author.Needs.{needs}
 use Rattle.ground.specs.Put.{between}
 use Rattle.text_places.specs.declared.lines.NextLine.{NextLine}
 use Rattle.text_places.specs.declared.lines.NextLine.the-variants.{Line, NoLine}
-use Rattle.text_places.specs.Lines.{lines, nextLine}
+use Rattle.text_places.specs.Lines.{lines}
+use Rattle.text_places.specs.inner.NextLine.{nextLine}
 use Rattle.text_places.proofs.Taking.{line-taken, none-taken}
 use Rattle.line.specs.declared.line.Line as line
 use Rattle.line.specs.Kinds.{lineOf}

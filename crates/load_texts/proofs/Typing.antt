@@ -12,8 +12,9 @@ use Rattle.text_utf8.specs.Utf8.{piecesFrom}
 use Rattle.text_white.specs.Trim.{runOf, allWhite, trimEnd}
 use Rattle.line_parts.specs.declared.arguments.NextArgument.{NextArgument}
 use Rattle.line_parts.specs.declared.arguments.NextArgument.the-variants.{Argument, NoArgument}
-use Rattle.line_parts.specs.Arguments.{commaParts, filled, argumentsOf, nextArgument}
-use Rattle.line_parts.proofs.Listed.{Splits, arguments-split, arguments-end}
+use Rattle.line_parts.specs.Arguments.{commaParts, filled, argumentsOf, Splits}
+use Rattle.line_parts.specs.inner.NextArgument.{nextArgument}
+use Rattle.line_parts.proofs.Listed.{arguments-split, arguments-end}
 use Rattle.table_pool.specs.declared.write.Wrote.{Wrote}
 use Rattle.table_pool.specs.declared.write.Wrote.the-variants.{Done, NoRoom}
 use Rattle.ground.specs.Join.{join}

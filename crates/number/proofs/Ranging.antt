@@ -5,15 +5,18 @@ use mathlib.Core.List.{List, [], _∷_}
 use Prim.Native.Nat.{ℕ, _+_, _-_, _^_, _≤_, _<_}
 use native.Mathlib.Omega.{arith}
 use lib.ListN.{length, getD, take, drop, length-drop}
+use lib.Seq.{getD-drop}
 use mir.Val.{Fits}
 use mir.Syntax.{w64}
 use borrow.Author.Tests.{eq-eqb, ne-eqb}
 use borrow.Author.Needs.{needs}
+use Rattle.ground.specs.Put.{between}
 use Rattle.ground.proofs.Parts.{take-rest, prefix-size}
 use Rattle.text_places.specs.declared.find.Place.{Place}
 use Rattle.text_places.specs.declared.find.Place.the-variants.{At, Nowhere}
 use Rattle.text_places.specs.Places.{starts}
 use Rattle.text_places.proofs.PlaceLaws.{first-inside}
+use Rattle.text_places.proofs.Holds.{first-is}
 use Rattle.number.specs.declared.read.Number.{Number}
 use Rattle.number.specs.declared.read.Number.the-variants.{Value, Unread}
 use Rattle.number.specs.declared.range.LeadingRange.the-variants as Leading
@@ -24,7 +27,7 @@ use Rattle.number.specs.Ranges.{firstColon, bothRead, cutTwice, cutOnce,
 
 -- The range before the method.
 module _ (s : List ℕ) {p : Place} (e : p ≡ firstColon s) where
-  pub lead-no-colon : p ≡ Nowhere → Leading.NotTaken false ≡ leadingRange s
+  pub lead-no-colon : p ≡ Nowhere → Leading.NotTaken ≡ leadingRange s
   lead-no-colon g = sym (rw (sym e ∙ g))
 
   module _ {first : ℕ} (g : p ≡ At first) where
@@ -37,65 +40,79 @@ module _ (s : List ℕ) {p : Place} (e : p ≡ firstColon s) where
     pub lead-after : first + 1 ≤ length s
     lead-after = let i = lead-inside in omega arith
 
-    module _ {q : Place} (f : q ≡ firstColon (take (length s - (first + 1)) (drop (first + 1) s))) where
+    module _ {q : Place} (f : q ≡ firstColon (between s (first + 1) (length s))) where
       second : q ≡ firstColon (drop (first + 1) s)
       second = rw (take-rest s (first + 1)) at f
 
-      pub lead-one-colon : q ≡ Nowhere → Leading.NotTaken false ≡ leadingRange s
+      pub lead-one-colon : q ≡ Nowhere → Leading.NotTaken ≡ leadingRange s
       lead-one-colon h = sym (rw (sym e ∙ g, sym second ∙ h))
 
-      module _ {between : ℕ} (h : q ≡ At between) where
-        reaches : first + 1 + between < length s
+      module _ {width : ℕ} (h : q ≡ At width) where
+        reaches : first + 1 + width < length s
         reaches = let i = first-inside (starts 0x3A) (drop (first + 1) s) (sym second ∙ h) in omega (arith, length-drop (first + 1) s)
 
-        pub lead-reaches : first + 1 + between ≤ length s
+        pub lead-reaches : first + 1 + width ≤ length s
         lead-reaches = let i = reaches in omega arith
 
-        pub lead-fits : length s < 2 ^ 64 → Fits w64 (first + 1 + between)
+        pub lead-fits : length s < 2 ^ 64 → Fits w64 (first + 1 + width)
         lead-fits b = let i = reaches in omega arith
 
-        pub lead-rest-fits : length s < 2 ^ 64 → Fits w64 (first + 1 + between + 1)
+        pub lead-rest-fits : length s < 2 ^ 64 → Fits w64 (first + 1 + width + 1)
         lead-rest-fits b = let i = reaches in omega arith
 
-        whole : leadingRange s ≡ bothRead (numberOf (take first s)) (numberOf (take between (drop (first + 1) s))) (first + 1 + between + 1)
+        whole : leadingRange s ≡ bothRead (numberOf (take first s)) (numberOf (take width (drop (first + 1) s))) (first + 1 + width + 1)
         whole = rw (sym e ∙ g, sym second ∙ h)
 
         module _ {n : Number} (a : n ≡ numberOf (take first s)) where
-          pub lead-first-unread : n ≡ Unread → Leading.NotTaken false ≡ leadingRange s
+          pub lead-first-unread : n ≡ Unread → Leading.NotTaken ≡ leadingRange s
           lead-first-unread y = sym (whole ∙ rw (sym a ∙ y))
 
-          module _ {start : ℕ} (y : n ≡ Value start) {m : Number} (b : m ≡ numberOf (take (first + 1 + between - (first + 1)) (drop (first + 1) s))) where
-            other : m ≡ numberOf (take between (drop (first + 1) s))
-            other = let z : first + 1 + between - (first + 1) ≡ between = omega arith in rw z at b
+          module _ {start : ℕ} (y : n ≡ Value start) {m : Number} (b : m ≡ numberOf (between s (first + 1) (first + 1 + width))) where
+            other : m ≡ numberOf (take width (drop (first + 1) s))
+            other = let z : first + 1 + width - (first + 1) ≡ width = omega arith in rw z at b
 
-            pub lead-second-unread : m ≡ Unread → Leading.NotTaken true ≡ leadingRange s
+            pub lead-second-unread : m ≡ Unread → Leading.NotTaken ≡ leadingRange s
             lead-second-unread w = sym (whole ∙ rw (sym a ∙ y, sym other ∙ w))
 
-            pub lead-taken : {«end» : ℕ} → m ≡ Value «end» → Leading.Taken start «end» (first + 1 + between + 1) ≡ leadingRange s
+            pub lead-taken : {«end» : ℕ} → m ≡ Value «end» → Leading.Taken start «end» (first + 1 + width + 1) ≡ leadingRange s
             lead-taken w = sym (whole ∙ rw (sym a ∙ y, sym other ∙ w))
 
 pub ruleset leading =
     (lead-no-colon, lead-inside, prefix-size, lead-after-fits, lead-after, lead-one-colon, lead-reaches, lead-fits, lead-rest-fits, lead-first-unread, lead-second-unread, lead-taken, needs)
 
--- What is left starts in the text.
-pub leading-rest : (s : List ℕ) {a b rest : ℕ} → leadingRange s ≡ Leading.Taken a b rest → rest ≤ length s
-leading-rest s {a} {b} {rest} e = once (firstColon s) refl e
+-- What is left starts right behind a colon.
+pub record Behind (s : List ℕ) (rest : ℕ) : Type 0 where
+  pub colon : ℕ
+  pub inside : colon < length s
+  pub stands : getD s colon 0 ≡ 0x3A
+  pub next : rest ≡ colon + 1
+
+pub leading-behind : (s : List ℕ) {a b rest : ℕ} → leadingRange s ≡ Leading.Taken a b rest → Behind s rest
+leading-behind s {a} {b} {rest} e = once (firstColon s) refl e
   where
     read : (n m : Number) (r : ℕ) → bothRead n m r ≡ Leading.Taken a b rest → r ≡ rest
     read (Value x) (Value y) r f = cc
     read (Value x) Unread r f = absurd (let z : _≡_ {A = ℕ} 0 1 = cc in omega arith)
     read Unread m r f = absurd (let z : _≡_ {A = ℕ} 0 1 = cc in omega arith)
 
-    twice : (i : ℕ) → i < length s → (p : Place) → firstColon (drop (i + 1) s) ≡ p → cutTwice s i p (drop (i + 1) s) ≡ Leading.Taken a b rest → rest ≤ length s
-    twice i h Nowhere q f = absurd (let z : _≡_ {A = ℕ} 0 1 = cc in omega arith)
-    twice i h (At j) q f =
+    twice : (i : ℕ) (p : Place) → firstColon (drop (i + 1) s) ≡ p → cutTwice s i p (drop (i + 1) s) ≡ Leading.Taken a b rest → Behind s rest
+    twice i Nowhere q f = absurd (let z : _≡_ {A = ℕ} 0 1 = cc in omega arith)
+    twice i (At j) q f =
         let second = first-inside (starts 0x3A) (drop (i + 1) s) q in
         let is = read (numberOf (take i s)) (numberOf (take j (drop (i + 1) s))) (i + 1 + j + 1) f in
-        omega (arith, length-drop (i + 1) s)
+        record {
+          colon = i + 1 + j;
+          inside = omega (arith, length-drop (i + 1) s);
+          stands = sym (getD-drop (i + 1) s j 0) ∙ first-is 0x3A (drop (i + 1) s) q;
+          next = sym is;
+        }
 
-    once : (p : Place) → firstColon s ≡ p → cutOnce s p ≡ Leading.Taken a b rest → rest ≤ length s
+    once : (p : Place) → firstColon s ≡ p → cutOnce s p ≡ Leading.Taken a b rest → Behind s rest
     once Nowhere q f = absurd (let z : _≡_ {A = ℕ} 0 1 = cc in omega arith)
-    once (At i) q f = twice i (first-inside (starts 0x3A) s q) (firstColon (drop (i + 1) s)) refl f
+    once (At i) q f = twice i (firstColon (drop (i + 1) s)) refl f
+
+pub leading-rest : (s : List ℕ) {a b rest : ℕ} → leadingRange s ≡ Leading.Taken a b rest → rest ≤ length s
+leading-rest s e = let c = leading-behind s e in let i = c .inside in let n = c .next in omega arith
 
 -- The range after the `)`.
 module _ (s : List ℕ) {p : Place} (e : p ≡ firstColon s) where
@@ -124,7 +141,7 @@ module _ (s : List ℕ) (i : ℕ) {n : Number} (a : n ≡ numberOf (take i s)) w
   pub two-unread : n ≡ Unread → Trailing.NotTaken ≡ twoNumbers (numberOf (take i s)) (numberOf (toColon (drop (i + 1) s)))
   two-unread y = sym (rw (sym a ∙ y))
 
-  module _ {start : ℕ} (y : n ≡ Value start) {u : List ℕ} (c : u ≡ toColon (take (length s - (i + 1)) (drop (i + 1) s))) {m : Number} (b : m ≡ numberOf u) where
+  module _ {start : ℕ} (y : n ≡ Value start) {u : List ℕ} (c : u ≡ toColon (between s (i + 1) (length s))) {m : Number} (b : m ≡ numberOf u) where
     later : numberOf (toColon (drop (i + 1) s)) ≡ m
     later = sym (b ∙ rw (c, take-rest s (i + 1)))
 
@@ -148,20 +165,20 @@ colon-first : (s : List ℕ) → (length s ≡ 0 → ⊥) → getD s 0 0 ≡ 0x3
 colon-first [] h e = absurd (h refl)
 colon-first (x ∷ s) h e = rw (eq-eqb x 0x3A e)
 
-module _ (s : List ℕ) (h : length s ≡ 0 → ⊥) (c : getD s 0 0 ≡ 0x3A) {p : Place} (e : p ≡ firstColon (take (length s - 1) (drop 1 s))) where
+module _ (s : List ℕ) (h : length s ≡ 0 → ⊥) (c : getD s 0 0 ≡ 0x3A) {p : Place} (e : p ≡ firstColon (between s 1 (length s))) where
   numbers : p ≡ firstColon (drop 1 s)
   numbers = rw (take-rest s 1) at e
 
-  pub trail-one : p ≡ Nowhere → {r : TrailingRange} → r ≡ oneNumber (numberOf (take (length s - 1) (drop 1 s))) → r ≡ trailingRange s
+  pub trail-one : p ≡ Nowhere → {r : TrailingRange} → r ≡ oneNumber (numberOf (between s 1 (length s))) → r ≡ trailingRange s
   trail-one g a = a ∙ sym (colon-first s h c ∙ rw (sym numbers ∙ g, take-rest s 1))
 
   module _ {i : ℕ} (g : p ≡ At i) where
-    pub trail-inside : i < length (take (length s - 1) (drop 1 s))
+    pub trail-inside : i < length (between s 1 (length s))
     trail-inside = first-inside (starts 0x3A) (take (length s - 1) (drop 1 s)) (sym e ∙ g)
 
     pub trail-two :
         {r : TrailingRange} →
-        r ≡ twoNumbers (numberOf (take i (take (length s - 1) (drop 1 s)))) (numberOf (toColon (drop (i + 1) (take (length s - 1) (drop 1 s))))) →
+        r ≡ twoNumbers (numberOf (take i (between s 1 (length s)))) (numberOf (toColon (drop (i + 1) (between s 1 (length s))))) →
         r ≡ trailingRange s
     trail-two a = a ∙ sym (colon-first s h c ∙ rw (sym numbers ∙ g, take-rest s 1))
 

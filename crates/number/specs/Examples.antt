@@ -33,7 +33,7 @@ one-to-three : leadingRange (ascii "1:3:v") ≡ Leading.Taken 1 3 4
 unfolding ascii firstFrom numberOf plain digitsFrom
 one-to-three = refl
 
-second-not : leadingRange (ascii "1:x:v") ≡ Leading.NotTaken true
+second-not : leadingRange (ascii "1:x:v") ≡ Leading.NotTaken
 unfolding ascii firstFrom numberOf plain digitsFrom
 second-not = refl
 

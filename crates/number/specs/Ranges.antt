@@ -24,16 +24,16 @@ firstColon s = firstWhere (starts 0x3A) s
 -- left starts at `rest`. A range that does not read is no range.
 abbrev pub bothRead : Number → Number → ℕ → LeadingRange
 bothRead (Value a) (Value b) rest = Leading.Taken a b rest
-bothRead (Value a) Unread rest = Leading.NotTaken true
-bothRead Unread n rest = Leading.NotTaken false
+bothRead (Value a) Unread rest = Leading.NotTaken
+bothRead Unread n rest = Leading.NotTaken
 
 -- `s` is cut at its first colon, and `t` is what follows that
 abbrev pub cutTwice : List ℕ → ℕ → Place → List ℕ → LeadingRange
-cutTwice s first Nowhere t = Leading.NotTaken false
-cutTwice s first (At between) t = bothRead (numberOf (take first s)) (numberOf (take between t)) (first + 1 + between + 1)
+cutTwice s first Nowhere t = Leading.NotTaken
+cutTwice s first (At width) t = bothRead (numberOf (take first s)) (numberOf (take width t)) (first + 1 + width + 1)
 
 abbrev pub cutOnce : List ℕ → Place → LeadingRange
-cutOnce s Nowhere = Leading.NotTaken false
+cutOnce s Nowhere = Leading.NotTaken
 cutOnce s (At first) = cutTwice s first (firstColon (drop (first + 1) s)) (drop (first + 1) s)
 
 abbrev pub leadingRange : List ℕ → LeadingRange
@@ -62,7 +62,8 @@ abbrev pub afterColon : List ℕ → Place → TrailingRange
 afterColon s Nowhere = oneNumber (numberOf s)
 afterColon s (At i) = twoNumbers (numberOf (take i s)) (numberOf (toColon (drop (i + 1) s)))
 
--- "After `)`, trimmed: a colon, a number, and optionally a colon and a number make the display range". What follows a third colon is not read.
+-- "After `)`, trimmed: a colon, a number, and optionally a colon and a number make the display range". What follows a third colon is not
+-- read.
 abbrev pub trailingRange : List ℕ → TrailingRange
 trailingRange [] = Trailing.NotTaken
 trailingRange (x ∷ s) = pick (eqb x 0x3A) (afterColon s (firstColon s)) Trailing.NotTaken

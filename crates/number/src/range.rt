@@ -9,11 +9,10 @@ ghost use lib.ListN.{length, take, drop};
 ghost use Rattle.number.specs.Numbers.{numberOf};
 ghost use Rattle.number.specs.Ranges.{leadingRange, trailingRange, toColon, oneNumber, twoNumbers};
 
-// The range before a method. `rest` is the place after its second colon. `second_unread` tells that a range was not taken though its first
-// number reads and a second part is there: that one does not read.
+// The range before a method. `rest` is the place after its second colon.
 pub enum LeadingRange {
     Taken { start: u32, end: u32, rest: usize },
-    NotTaken { second_unread: bool },
+    NotTaken,
 }
 
 // The range after a method's `)`. `second_unread` tells that a second part is there and does not read, so that `end` is `start`.
@@ -31,26 +30,18 @@ pub fn leading_range(s: &[u8]) -> LeadingRange
     ensures { λ r. ⌜ r ≡ leadingRange (now (s .entry)) ⌝ }
 {
     let Place::At(first) = first_byte(s, b':') else {
-        return LeadingRange::NotTaken {
-            second_unread: false,
-        };
+        return LeadingRange::NotTaken;
     };
     let after = first + 1;
-    let Place::At(between) = first_byte(&s[after..], b':') else {
-        return LeadingRange::NotTaken {
-            second_unread: false,
-        };
+    let Place::At(width) = first_byte(&s[after..], b':') else {
+        return LeadingRange::NotTaken;
     };
-    let second = after + between;
+    let second = after + width;
     let Number::Value(start) = read_number(&s[..first]) else {
-        return LeadingRange::NotTaken {
-            second_unread: false,
-        };
+        return LeadingRange::NotTaken;
     };
     let Number::Value(end) = read_number(&s[after..second]) else {
-        return LeadingRange::NotTaken {
-            second_unread: true,
-        };
+        return LeadingRange::NotTaken;
     };
     LeadingRange::Taken {
         start,

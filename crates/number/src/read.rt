@@ -10,8 +10,8 @@ pub enum Number {
     Unread,
 }
 
-// The number whose digits start at a place and end with the text. It stops at the first byte that is no digit, and where the value grows too
-// large: no more digits make it smaller.
+// The number whose digits start at a place and end with the text. It stops at the first byte that is no digit, and where the value grows
+// too large: no more digits make it smaller.
 fn digits_from(s: &[u8], start: usize) -> Number
     requires { ⌜ start ≤ length (now s) ⌝ }
     ensures { λ r. ⌜ r ≡ plain (drop start (now (s .entry))) ⌝ }

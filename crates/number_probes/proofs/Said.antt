@@ -21,11 +21,11 @@ module _ {t x : Number} (e : t ≡ x) where
   said-unread g = sym (rw (sym e ∙ g))
 
 module _ {t x : LeadingRange} (e : t ≡ x) where
-  pub said-leading : {a b c : ℕ} → t ≡ Leading.Taken a b c → 1 ∷ a ∷ b ∷ c ∷ 0 ∷ [] ≡ leadingNumbers x
+  pub said-leading : {a b c : ℕ} → t ≡ Leading.Taken a b c → 1 ∷ a ∷ b ∷ c ∷ [] ≡ leadingNumbers x
   said-leading g = sym (rw (sym e ∙ g))
 
-  pub said-no-leading : {u : Bool} {n : ℕ} → t ≡ Leading.NotTaken u → n ≡ bit u → 0 ∷ 0 ∷ 0 ∷ 0 ∷ n ∷ [] ≡ leadingNumbers x
-  said-no-leading g b = sym (rw (sym e ∙ g, b))
+  pub said-no-leading : t ≡ Leading.NotTaken → 0 ∷ 0 ∷ 0 ∷ 0 ∷ [] ≡ leadingNumbers x
+  said-no-leading g = sym (rw (sym e ∙ g))
 
 module _ {t x : TrailingRange} (e : t ≡ x) where
   pub said-trailing : {a b : ℕ} {u : Bool} {n : ℕ} → t ≡ Trailing.Taken a b u → n ≡ bit u → 1 ∷ a ∷ b ∷ n ∷ [] ≡ trailingNumbers x

@@ -14,8 +14,8 @@ numberNumbers (Value v) = 1 ∷ v ∷ []
 numberNumbers Unread = 0 ∷ 0 ∷ []
 
 abbrev pub leadingNumbers : LeadingRange → List ℕ
-leadingNumbers (Leading.Taken start «end» rest) = 1 ∷ start ∷ «end» ∷ rest ∷ 0 ∷ []
-leadingNumbers (Leading.NotTaken unread) = 0 ∷ 0 ∷ 0 ∷ 0 ∷ bit unread ∷ []
+leadingNumbers (Leading.Taken start «end» rest) = 1 ∷ start ∷ «end» ∷ rest ∷ []
+leadingNumbers Leading.NotTaken = 0 ∷ 0 ∷ 0 ∷ 0 ∷ []
 
 abbrev pub trailingNumbers : TrailingRange → List ℕ
 trailingNumbers (Trailing.Taken start «end» unread) = 1 ∷ start ∷ «end» ∷ bit unread ∷ []

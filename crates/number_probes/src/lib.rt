@@ -3,20 +3,9 @@ use number::LeadingRange;
 use number::Number;
 use number::TrailingRange;
 ghost use mathlib.Core.Path.{_≡_};
-ghost use Rattle.ground.specs.Choice.{bit};
 ghost use Rattle.number.specs.Numbers.{numberOf};
 ghost use Rattle.number.specs.Ranges.{leadingRange, trailingRange};
 ghost use Rattle.number_probes.specs.Answers.{numberNumbers, leadingNumbers, trailingNumbers};
-
-// A test as a number.
-fn bit_number(b: bool) -> u32
-    ensures { λ r. ⌜ r ≡ bit b ⌝ }
-{
-    if b {
-        return 1;
-    }
-    0
-}
 
 #[no_mangle]
 pub extern "C" fn clumarief_probe_number(text: &[u8], answer: &mut [u64; 2])
@@ -33,15 +22,15 @@ pub extern "C" fn clumarief_probe_number(text: &[u8], answer: &mut [u64; 2])
 }
 
 #[no_mangle]
-pub extern "C" fn clumarief_probe_leading(text: &[u8], answer: &mut [u64; 5])
+pub extern "C" fn clumarief_probe_leading(text: &[u8], answer: &mut [u64; 4])
     ensures { λ _. ⌜ now (answer .exit) ≡ leadingNumbers (leadingRange (now (text .entry))) ⌝ }
 {
     match number::leading_range(text) {
         LeadingRange::Taken { start, end, rest } => {
-            *answer = [1, start as u64, end as u64, rest as u64, 0];
+            *answer = [1, start as u64, end as u64, rest as u64];
         }
-        LeadingRange::NotTaken { second_unread } => {
-            *answer = [0, 0, 0, 0, bit_number(second_unread) as u64];
+        LeadingRange::NotTaken => {
+            *answer = [0, 0, 0, 0];
         }
     }
 }
@@ -60,7 +49,7 @@ pub extern "C" fn clumarief_probe_trailing(text: &[u8], answer: &mut [u64; 4])
                 1,
                 start as u64,
                 end as u64,
-                bit_number(second_unread) as u64,
+                text_places::bit_number(second_unread) as u64,
             ];
         }
         TrailingRange::NotTaken => {

@@ -25,12 +25,7 @@ fn before_case(s: &[u8]) {
             say::words(b", rest at ");
             say::decimal(rest);
         }
-        LeadingRange::NotTaken { second_unread } => {
-            say::words(b"none");
-            if second_unread {
-                say::words(b", second unread");
-            }
-        }
+        LeadingRange::NotTaken => say::words(b"none"),
     }
 }
 

@@ -12,6 +12,7 @@ use borrow.Author.Tests.{eqb-false}
 use borrow.Author.Needs.{needs}
 use Rattle.ground.specs.Choice.{pick}
 use Rattle.ground.proofs.Cases.{le-or-lt, clash}
+use Rattle.ground.proofs.Stretch.{along-none, along-block, block-inside}
 use Rattle.text_places.specs.Places.{starts, startsPair}
 use Rattle.text_places.specs.inner.Blocks.{Without}
 use Rattle.text_places.proofs.PlaceLaws.{Seeking, seeking-starts, seeking-more, seeking, pairing, byte-other, pair-first-other, no-pair}
@@ -40,20 +41,16 @@ module _ {b : ℕ} {s : List ℕ} {at i : ℕ} {holds : Bool} (p : Passed b s at
 pub ruleset passing = (passed-none, passed-more, passed-all, needs)
 
 pub without-none : (b : ℕ) (s : List ℕ) («from» : ℕ) → «from» ≤ length s → Without b s «from» «from»
-without-none b s f h = record { goes = omega arith; inside = h; none = λ i l u. absurd (omega arith) }
+without-none b s f h = along-none (λ x. x ≡ b → ⊥) s f h
 
 module _ {b : ℕ} {s : List ℕ} {«from» to : ℕ} (w : Without b s «from» to) (h : 16 ≤ length s - to) where
-  pub block-inside : to + 16 ≤ length s
-  block-inside = omega (arith, w .inside)
+  pub without-room : to + 16 ≤ length s
+  without-room = block-inside w h
 
   pub without-block : {r : Bool} → (r ≡ false → (k : ℕ) → k < 16 → getD s (to + k) 0 ≡ b → ⊥) → r ≡ false → Without b s «from» (to + 16)
-  without-block n f = record { goes = omega (arith, w .goes); inside = block-inside; none = λ i l u. go i l u (le-or-lt to i) }
-    where
-      go : (i : ℕ) → «from» ≤ i → i < to + 16 → (to ≤ i) ⊎ (i < to) → getD s i 0 ≡ b → ⊥
-      go i l u (inl g) = let q : to + (i - to) ≡ i = omega arith in rw q at (n f (i - to) (omega arith))
-      go i l u (inr g) = w .none i l g
+  without-block n f = along-block w h (n f)
 
-pub ruleset blocks = (without-none, block-inside, without-block, needs)
+pub ruleset blocks = (without-none, without-room, without-block, needs)
 
 -- A search that passes a stretch in which nothing is found.
 seek-past : (p : List ℕ → Bool) (s : List ℕ) (n at : ℕ) → Seeking p s at → at + n ≤ length s →
@@ -76,13 +73,13 @@ module _ {b : ℕ} {s : List ℕ} {to : ℕ} (w : Without b s 0 to) where
   seek-blocks =
       let q : 0 + to ≡ to = omega arith in
       rw q at (seek-past (starts b) s to 0 (seeking-starts (starts b) s) (omega (arith, w .inside))
-      (λ i l. byte-other b s i (omega (arith, w .inside)) (w .none i (omega arith) (omega arith))))
+      (λ i l. byte-other b s i (omega (arith, w .inside)) (w .each i (omega arith) (omega arith))))
 
   pub pair-blocks : (c : ℕ) → Seeking (startsPair b c) s to
   pair-blocks c =
       let q : 0 + to ≡ to = omega arith in
       rw q at (seek-past (startsPair b c) s to 0 (seeking-starts (startsPair b c) s) (omega (arith, w .inside))
-      (λ i l. pair-not b c s i (omega (arith, w .inside)) (w .none i (omega arith) (omega arith))))
+      (λ i l. pair-not b c s i (omega (arith, w .inside)) (w .each i (omega arith) (omega arith))))
 
 lf-past : (s : List ℕ) («from» n at : ℕ) → ToLf s «from» at → at + n ≤ length s → ((i : ℕ) → at ≤ i → i < at + n → getD s i 0 ≡ 0x0A → ⊥) → ToLf s «from» (at + n)
 lf-past s f zero at k h e = rw add-zero k
@@ -93,7 +90,7 @@ lf-past s f (suc n) at k h e =
 pub lf-blocks : {s : List ℕ} {«from» to : ℕ} → Without 0x0A s «from» to → ToLf s «from» to
 lf-blocks {s = s} {«from» = f} {to = to} w =
     let q : f + (to - f) ≡ to = omega (arith, w .goes) in
-    rw q at (lf-past s f (to - f) f (lf-starts s f (omega (arith, w .goes, w .inside))) (omega (arith, w .goes, w .inside)) (λ i l u. w .none i l (omega (arith, w .goes))))
+    rw q at (lf-past s f (to - f) f (lf-starts s f (omega (arith, w .goes, w .inside))) (omega (arith, w .goes, w .inside)) (λ i l u. w .each i l (omega (arith, w .goes))))
 
 pub ruleset seeking-blocks = (seek-blocks, seeking)
 

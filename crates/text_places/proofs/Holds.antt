@@ -1,82 +1,97 @@
--- What stands at a place that was found. Assumes nothing.
+-- What was looked for stands at the place that was found, and inside the text. Assumes nothing.
 use mathlib.Core.Path.{_≡_, refl, sym, _∙_, ap}
 use mathlib.Core.Bool.{Bool, true, false}
 use mathlib.Core.List.{List, [], _∷_}
-use Prim.Native.Nat.{ℕ, suc, _+_, _-_, _≤_}
+use mathlib.Core.Logic.{_⊎_, inl, inr}
+use Prim.Native.Nat.{ℕ, suc, _+_, _-_, _≤_, _<_}
+use native.Mathlib.Nat.{add-zero}
 use native.Mathlib.Omega.{arith}
 use lib.Dec.{eqb}
-use lib.ListN.{length, getD}
+use lib.ListN.{length, getD, drop, length-drop}
+use lib.Seq.{getD-drop}
 use borrow.Author.Tests.{eqb-true}
-use Rattle.ground.specs.Choice.{pick, both}
+use Rattle.ground.specs.Choice.{pick}
+use Rattle.ground.proofs.Cases.{both-left, both-right, clash, le-or-lt}
 use Rattle.text_places.specs.declared.find.Place.{Place}
 use Rattle.text_places.specs.declared.find.Place.the-variants.{At, Nowhere}
 use Rattle.text_places.specs.Places.{firstFrom, firstWhere, orElse, lastFrom, lastWhere, starts, startsPair}
+use Rattle.text_places.proofs.PlaceLaws.{no-pair}
 
--- the byte with the number `i`, where the first has the number `at`
-record Here (b at : ℕ) (l : List ℕ) (i : ℕ) : Type 0 where
+-- it stands at the place with the number `i`, where the first has the number `at`
+record Stands (p : List ℕ → Bool) (at : ℕ) (l : List ℕ) (i : ℕ) : Type 0 where
   past : at ≤ i
-  is : getD l (i - at) 0 ≡ b
+  is : p (drop (i - at) l) ≡ true
 
-here-first : (b at x : ℕ) (l : List ℕ) → eqb x b ≡ true → Here b at (x ∷ l) at
-here-first b at x l e = let z : at - at ≡ 0 = omega arith in record { past = omega arith; is = ap (λ k. getD (x ∷ l) k 0) z ∙ eqb-true x b e }
+module _ (p : List ℕ → Bool) where
+  stands-first : (at x : ℕ) (l : List ℕ) {i : ℕ} → At at ≡ At i → p (x ∷ l) ≡ true → Stands p at (x ∷ l) i
+  stands-first at x l {i} f e =
+      let h : at ≡ i = cc in
+      let z : i - at ≡ 0 = omega arith in
+      record { past = omega arith; is = ap (λ k. p (drop k (x ∷ l))) z ∙ e }
 
-here-later : (b at x : ℕ) (l : List ℕ) (i : ℕ) → Here b (suc at) l i → Here b at (x ∷ l) i
-here-later b at x l i h =
-    let p = h .past in
-    let z : i - at ≡ suc (i - suc at) = omega arith in
-    record { past = omega arith; is = ap (λ k. getD (x ∷ l) k 0) z ∙ h .is }
+  stands-later : (at x : ℕ) (l : List ℕ) (i : ℕ) → Stands p (suc at) l i → Stands p at (x ∷ l) i
+  stands-later at x l i h =
+      let b = h .past in
+      let z : i - at ≡ suc (i - suc at) = omega arith in
+      record { past = omega arith; is = ap (λ k. p (drop k (x ∷ l))) z ∙ h .is }
 
-here-as : {b at : ℕ} {l : List ℕ} {i j : ℕ} → i ≡ j → Here b at l i → Here b at l j
-here-as e h = rw e at h
+  first-stands : (at : ℕ) (l : List ℕ) {i : ℕ} → firstFrom p at l ≡ At i → Stands p at l i
+  unfolding firstFrom
+  first-stands at [] e = absurd (let z : _≡_ {A = ℕ} 0 1 = cc in omega arith)
+  first-stands at (x ∷ l) {i} e = go (p (x ∷ l)) refl (λ f. first-stands (suc at) l f) e
+    where
+      go : (t : Bool) → p (x ∷ l) ≡ t → (firstFrom p (suc at) l ≡ At i → Stands p (suc at) l i) → pick t (At at) (firstFrom p (suc at) l) ≡ At i → Stands p at (x ∷ l) i
+      go true q again f = stands-first at x l f q
+      go false q again f = stands-later at x l i (again f)
 
-first-here : (b at : ℕ) (l : List ℕ) {i : ℕ} → firstFrom (starts b) at l ≡ At i → Here b at l i
-unfolding firstFrom
-first-here b at [] e = absurd (let z : _≡_ {A = ℕ} 0 1 = cc in omega arith)
-first-here b at (x ∷ l) {i} e = go (eqb x b) refl (λ f. first-here b (suc at) l f) e
-  where
-    go : (t : Bool) → eqb x b ≡ t → (firstFrom (starts b) (suc at) l ≡ At i → Here b (suc at) l i) → pick t (At at) (firstFrom (starts b) (suc at) l) ≡ At i → Here b at (x ∷ l) i
-    go true q again f = let h : at ≡ i = cc in here-as h (here-first b at x l q)
-    go false q again f = here-later b at x l i (again f)
+  last-stands : (at : ℕ) (l : List ℕ) {i : ℕ} → lastFrom p at l ≡ At i → Stands p at l i
+  unfolding lastFrom
+  last-stands at [] e = absurd (let z : _≡_ {A = ℕ} 0 1 = cc in omega arith)
+  last-stands at (x ∷ l) {i} e = go (lastFrom p (suc at) l) refl (p (x ∷ l)) refl (λ f. last-stands (suc at) l f) e
+    where
+      go : (o : Place) → lastFrom p (suc at) l ≡ o → (t : Bool) → p (x ∷ l) ≡ t → (lastFrom p (suc at) l ≡ At i → Stands p (suc at) l i) →
+          orElse o (pick t (At at) Nowhere) ≡ At i → Stands p at (x ∷ l) i
+      go (At j) r t q again f = stands-later at x l i (again (r ∙ f))
+      go Nowhere r true q again f = stands-first at x l f q
+      go Nowhere r false q again f = absurd (let z : _≡_ {A = ℕ} 0 1 = cc in omega arith)
+
+  pub first-holds : (s : List ℕ) {i : ℕ} → firstWhere p s ≡ At i → p (drop i s) ≡ true
+  first-holds s {i} e = let z : i - 0 ≡ i = omega arith in ap (λ k. p (drop k s)) (sym z) ∙ first-stands 0 s e .is
+
+  pub last-holds : (s : List ℕ) {i : ℕ} → lastWhere p s ≡ At i → p (drop i s) ≡ true
+  last-holds s {i} e = let z : i - 0 ≡ i = omega arith in ap (λ k. p (drop k s)) (sym z) ∙ last-stands 0 s e .is
+
+-- a byte
+head-is : (b : ℕ) (l : List ℕ) → starts b l ≡ true → getD l 0 0 ≡ b
+head-is b [] e = clash e refl
+head-is b (x ∷ l) e = eqb-true x b e
+
+byte-is : (b : ℕ) (s : List ℕ) (i : ℕ) → starts b (drop i s) ≡ true → getD s i 0 ≡ b
+byte-is b s i e = rw (getD-drop i s 0 0, add-zero i) at (head-is b (drop i s) e)
+
+pub first-is : (b : ℕ) (s : List ℕ) {i : ℕ} → firstWhere (starts b) s ≡ At i → getD s i 0 ≡ b
+first-is b s {i} e = byte-is b s i (first-holds (starts b) s e)
+
+pub last-is : (b : ℕ) (s : List ℕ) {i : ℕ} → lastWhere (starts b) s ≡ At i → getD s i 0 ≡ b
+last-is b s {i} e = byte-is b s i (last-holds (starts b) s e)
 
 -- bytes are counted from `at` on
 pub first-past : (b at : ℕ) (l : List ℕ) {i : ℕ} → firstFrom (starts b) at l ≡ At i → at ≤ i
-first-past b at l e = first-here b at l e .past
+first-past b at l e = first-stands (starts b) at l e .past
 
-last-here : (b at : ℕ) (l : List ℕ) {i : ℕ} → lastFrom (starts b) at l ≡ At i → Here b at l i
-unfolding lastFrom
-last-here b at [] e = absurd (let z : _≡_ {A = ℕ} 0 1 = cc in omega arith)
-last-here b at (x ∷ l) {i} e = go (lastFrom (starts b) (suc at) l) refl (eqb x b) refl (λ f. last-here b (suc at) l f) e
-  where
-    go : (p : Place) → lastFrom (starts b) (suc at) l ≡ p → (t : Bool) → eqb x b ≡ t → (lastFrom (starts b) (suc at) l ≡ At i → Here b (suc at) l i) →
-        orElse p (pick t (At at) Nowhere) ≡ At i → Here b at (x ∷ l) i
-    go (At j) r t q again f = here-later b at x l i (again (r ∙ f))
-    go Nowhere r true q again f = let h : at ≡ i = cc in here-as h (here-first b at x l q)
-    go Nowhere r false q again f = absurd (let z : _≡_ {A = ℕ} 0 1 = cc in omega arith)
+-- both bytes of a pair
+pair-is : (a b : ℕ) (l : List ℕ) → startsPair a b l ≡ true → (getD l 0 0 ≡ a) × (getD l 1 0 ≡ b)
+pair-is a b [] e = clash e refl
+pair-is a b (x ∷ l) e = (eqb-true x a (both-left (eqb x a) (starts b l) e), head-is b l (both-right (eqb x a) (starts b l) e))
 
-pub first-is : (b : ℕ) (s : List ℕ) {i : ℕ} → firstWhere (starts b) s ≡ At i → getD s i 0 ≡ b
-first-is b s {i} e = let z : i - 0 ≡ i = omega arith in ap (λ k. getD s k 0) (sym z) ∙ first-here b 0 s e .is
-
-pub last-is : (b : ℕ) (s : List ℕ) {i : ℕ} → lastWhere (starts b) s ≡ At i → getD s i 0 ≡ b
-last-is b s {i} e = let z : i - 0 ≡ i = omega arith in ap (λ k. getD s k 0) (sym z) ∙ last-here b 0 s e .is
-
--- A pair has two bytes.
-no-pair : (a b x : ℕ) → startsPair a b (x ∷ []) ≡ false
-no-pair a b x = go (eqb x a)
-  where
-    go : (t : Bool) → both t false ≡ false
-    go true = refl
-    go false = refl
-
-pair-from : (a b at : ℕ) (l : List ℕ) {i : ℕ} → firstFrom (startsPair a b) at l ≡ At i → i + 2 ≤ at + length l
-unfolding firstFrom
-pair-from a b at [] e = absurd (let z : _≡_ {A = ℕ} 0 1 = cc in omega arith)
-pair-from a b at (x ∷ []) {i} e = absurd (let f : pick false (At at) Nowhere ≡ At i = rw (no-pair a b x) at e in let z : _≡_ {A = ℕ} 0 1 = cc in omega arith)
-pair-from a b at (x ∷ (y ∷ l)) {i} e = go (startsPair a b (x ∷ (y ∷ l))) (pair-from a b (suc at) (y ∷ l)) e
-  where
-    go : (t : Bool) → (firstFrom (startsPair a b) (suc at) (y ∷ l) ≡ At i → i + 2 ≤ suc at + length (y ∷ l)) →
-        pick t (At at) (firstFrom (startsPair a b) (suc at) (y ∷ l)) ≡ At i → i + 2 ≤ at + length (x ∷ (y ∷ l))
-    go true again f = let h : at ≡ i = cc in omega arith
-    go false again f = let h = again f in omega arith
+pub pair-stands : (a b : ℕ) (s : List ℕ) {i : ℕ} → firstWhere (startsPair a b) s ≡ At i → (getD s i 0 ≡ a) × (getD s (i + 1) 0 ≡ b)
+pair-stands a b s {i} e =
+    let h = pair-is a b (drop i s) (first-holds (startsPair a b) s e) in
+    (rw (getD-drop i s 0 0, add-zero i) at (h .0), rw (getD-drop i s 1 0) at (h .1))
 
 pub pair-inside : (a b : ℕ) (s : List ℕ) {i : ℕ} → firstWhere (startsPair a b) s ≡ At i → i + 2 ≤ length s
-pair-inside a b s e = let h = pair-from a b 0 s e in omega arith
+pair-inside a b s {i} e = go (le-or-lt (length (drop i s)) 1)
+  where
+    go : (length (drop i s) ≤ 1) ⊎ (1 < length (drop i s)) → i + 2 ≤ length s
+    go (inl h) = clash (first-holds (startsPair a b) s e) (no-pair a b (drop i s) h)
+    go (inr h) = omega (arith, length-drop i s)

@@ -4,4 +4,3 @@ pub mod LineLaws
 pub mod BlockLaws
 pub mod Holds
 pub mod Taking
-pub mod Found

@@ -15,9 +15,11 @@ use borrow.Author.Tests.{eq-eqb, ne-eqb, lt-ltb, le-ltb}
 use borrow.Author.Needs.{needs}
 use mathlib.Core.Logic.{_⊎_, inl, inr}
 use Rattle.ground.specs.Choice.{pick, both}
+use Rattle.ground.specs.Put.{between}
 use Rattle.ground.proofs.Cases.{le-or-lt}
 use Rattle.text_places.specs.declared.lines.NextLine.the-variants.{Line, NoLine}
-use Rattle.text_places.specs.Lines.{onto, rawLines, crEnd, lines, toLf, lineFrom, nextLine}
+use Rattle.text_places.specs.Lines.{onto, rawLines, crEnd, lines, Taken}
+use Rattle.text_places.specs.inner.NextLine.{toLf, lineFrom, nextLine}
 
 pub to-lf-le : (l : List ℕ) → toLf l ≤ length l
 unfolding toLf
@@ -132,7 +134,7 @@ module _ (s : List ℕ) (at : ℕ) {lf : ℕ} (e : lf ≡ at + toLf (drop at s))
   pub lf-inside : at < length s → lf ≤ length s
   lf-inside h = omega (arith, to-lf-le (drop at s), length-drop at s)
 
-  module _ (h : at < length s) {n : ℕ} (f : n ≡ crEnd (take (lf - at) (drop at s))) where
+  module _ (h : at < length s) {n : ℕ} (f : n ≡ crEnd (between s at lf)) where
     size : lf - at ≡ toLf (drop at s)
     size = omega arith
 
@@ -174,13 +176,6 @@ raw-split b (c ∷ l) = go (eqb b 0x0A) (raw-split c l)
     go true e = rw (lt-ltb 0 (suc (length m)) (omega arith))
     go false e = rw (e, leb·suc-suc (suc (toLf m)) (length m), suc-add)
 
-pub record LineAt (s : List ℕ) (at «end» next : ℕ) : Type 0 where
-  pub starts : at ≤ «end»
-  pub ends : «end» ≤ next
-  pub past : at < next
-  pub inside : next ≤ length s
-  pub split : lines (drop at s) ≡ take («end» - at) (drop at s) ∷ lines (drop next s)
-
 lines-split : (l : List ℕ) → 0 < length l → lines l ≡ take (crEnd (take (toLf l) l)) l ∷ lines (drop (leaves l) l)
 lines-split [] h = absurd (omega arith)
 lines-split (b ∷ l) h =
@@ -201,30 +196,31 @@ leaves-some l h = go (le-or-lt (length l) (toLf l))
     go (inl p) = rw (le-ltb (toLf l) (length l) p) (omega (arith, to-lf-le l))
     go (inr p) = rw (lt-ltb (toLf l) (length l) p) (omega arith)
 
-line-of : (s : List ℕ) (at «end» next : ℕ) → 0 < length (drop at s) →
-    «end» ≡ at + crEnd (take (toLf (drop at s)) (drop at s)) → next ≡ at + leaves (drop at s) → LineAt s at «end» next
-line-of s at «end» next some ends goes =
+line-of : (s : List ℕ) (at start «end» next : ℕ) → 0 < length (drop at s) → at ≡ start →
+    «end» ≡ at + crEnd (take (toLf (drop at s)) (drop at s)) → next ≡ at + leaves (drop at s) → Taken s at start «end» next
+line-of s at start «end» next some same ends goes =
     let f = leaves-some (drop at s) some in
     let d = length-drop at s in
     let c = cr-end-le (take (toLf (drop at s)) (drop at s)) in
     let t = length-take (toLf (drop at s)) (drop at s) in
     let size : «end» - at ≡ crEnd (take (toLf (drop at s)) (drop at s)) = omega arith in
+    let split : lines (drop at s) ≡ between s at «end» ∷ lines (drop next s) = rw (size, goes, ← drop-drop (leaves (drop at s)) at s) (lines-split (drop at s) some) in
     record {
-      starts = omega arith;
+      order = omega arith;
       ends = omega (arith, to-lf-leaves (drop at s));
       past = omega arith;
       inside = omega arith;
-      split = rw (size, goes, ← drop-drop (leaves (drop at s)) at s) (lines-split (drop at s) some);
+      split = split ∙ ap (λ k. between s k «end» ∷ lines (drop next s)) same;
     }
 
 -- what an answer of the next line says of the lines of the text
-pub line-split : (s : List ℕ) (at : ℕ) {start «end» next : ℕ} → nextLine s at ≡ Line start «end» next → LineAt s at «end» next
+pub line-split : (s : List ℕ) (at : ℕ) {start «end» next : ℕ} → nextLine s at ≡ Line start «end» next → Taken s at start «end» next
 unfolding leaves
 line-split s at {start} {«end»} {next} e = go (le-or-lt (length s) at)
   where
-    go : (length s ≤ at) ⊎ (at < length s) → LineAt s at «end» next
+    go : (length s ≤ at) ⊎ (at < length s) → Taken s at start «end» next
     go (inl h) = absurd (let n = line-none s at h in let z : _≡_ {A = ℕ} 0 1 = cc in omega arith)
     go (inr h) =
         let some : 0 < length (drop at s) = rw length-drop (omega arith) in
         let a = line-at at (drop at s) some in
-        line-of s at «end» next some (cc) (rw (← add-assoc) (cc))
+        line-of s at start «end» next some (cc) (cc) (rw (← add-assoc) (cc))

@@ -5,7 +5,8 @@ use Rattle.ground.specs.Ascii.{ascii}
 use Rattle.text_places.specs.declared.find.Place.the-variants.{At}
 use Rattle.text_places.specs.declared.lines.NextLine.the-variants.{Line}
 use Rattle.text_places.specs.Places.{firstFrom, firstWhere, lastFrom, lastWhere, starts, startsPair}
-use Rattle.text_places.specs.Lines.{rawLines, crEnd, lines, toLf, nextLine}
+use Rattle.text_places.specs.Lines.{rawLines, crEnd, lines}
+use Rattle.text_places.specs.inner.NextLine.{toLf, nextLine}
 
 some-lines : lines (ascii "a\r\r\n\nb\r") ≡ ascii "a" ∷ [] ∷ ascii "b" ∷ []
 unfolding ascii rawLines crEnd

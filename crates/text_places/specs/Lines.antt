@@ -1,11 +1,11 @@
 -- Lines: document 01 "Text and lines".
+use mathlib.Core.Path.{_≡_}
 use mathlib.Core.List.{List, [], _∷_, map}
-use Prim.Native.Nat.{ℕ, suc, _+_}
-use lib.Dec.{eqb, ltb}
+use Prim.Native.Nat.{ℕ, suc, _≤_, _<_}
+use lib.Dec.{eqb}
 use lib.ListN.{length, take, drop}
 use Rattle.ground.specs.Choice.{pick, both}
-use Rattle.text_places.specs.declared.lines.NextLine.{NextLine}
-use Rattle.text_places.specs.declared.lines.NextLine.the-variants.{Line, NoLine}
+use Rattle.ground.specs.Put.{between}
 
 -- a byte in front of the first line of what follows; where nothing follows it is a line of its own
 abbrev pub onto : ℕ → List (List ℕ) → List (List ℕ)
@@ -29,20 +29,11 @@ withoutCr l = take (crEnd l) l
 abbrev pub lines : List ℕ → List (List ℕ)
 lines s = map withoutCr (rawLines s)
 
--- how many bytes stand before the first LF, or in all where there is none
-unfoldable pub toLf : List ℕ → ℕ
-toLf [] = 0
-toLf (b ∷ s) =
-    let more = suc (toLf s) in
-    pick (eqb b 0x0A) 0 more
-
--- the line at the head of `l`, which stands at the place `at`: its start, its end, and the start of the following one
-abbrev pub lineFrom : ℕ → List ℕ → NextLine
-lineFrom at [] = NoLine
-lineFrom at (b ∷ s) =
-    let l : List ℕ = b ∷ s in
-    Line at (at + crEnd (take (toLf l) l)) (at + toLf l + pick (ltb (toLf l) (length l)) 1 0)
-
--- the line that starts at the place `at` of a text
-abbrev pub nextLine : List ℕ → ℕ → NextLine
-nextLine s at = lineFrom at (drop at s)
+-- What `next_line` answers (the law `line-split`): the line at the place `at` runs from `a` to `e`, and all lines from `at` on are it and
+-- those from `n` on. So going from `n` to `n` gives the lines of the text, each once. No rule cites it.
+pub record Taken (s : List ℕ) (at a e n : ℕ) : Type 0 where
+  pub order : a ≤ e
+  pub ends : e ≤ length s
+  pub past : at < n
+  pub inside : n ≤ length s
+  pub split : lines (drop at s) ≡ between s a e ∷ lines (drop n s)

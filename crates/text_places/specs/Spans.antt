@@ -20,6 +20,8 @@ isEmpty p = eqb (p .start) (p .«end»)
 abbrev pub partOf : List ℕ → Span → List ℕ
 partOf s p = between s (p .start) (p .«end»)
 
+-- Two words that no rule cites, but contracts and the laws "parts of a line lie in it" (line_parts/proofs/Lying).
+
 -- a part starts no later than it ends, and ends at `n` at the latest
 pub record Lies (p : Span) (n : ℕ) : Type 0 where
   pub order : p .start ≤ p .«end»

@@ -1,3 +1,3 @@
 -- Words of inner contracts: no rule cites them.
 pub mod Blocks
-pub mod Taken
+pub mod NextLine

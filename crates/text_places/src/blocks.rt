@@ -17,8 +17,8 @@ fn marked(holds: bool, x: u8, b: u8) -> bool
     holds
 }
 
-// Whether one of the 16 bytes from a place on is `b`; promised is only what passing the block needs, that none is where the answer is no. The compiler makes
-// a few vector instructions of the loop.
+// Whether one of the 16 bytes from a place on is `b`; promised is only what passing the block needs, that none is where the answer is no.
+// The compiler makes a few vector instructions of the loop.
 fn block_holds(s: &[u8], at: usize, b: u8) -> bool
     requires { ⌜ at + 16 ≤ length (now s) ⌝ }
     ensures { λ r. ⌜ (r ≡ false → (k : ℕ) → k < 16 → getD (now (s .entry)) (at + k) 0 ≡ b → ⊥) ⌝ }
@@ -32,7 +32,8 @@ fn block_holds(s: &[u8], at: usize, b: u8) -> bool
     holds
 }
 
-// A place up to which no byte from `from` on is `b`, by whole blocks. No block is asked where the byte stands first, as in a text of blank lines.
+// A place up to which no byte from `from` on is `b`, by whole blocks. No block is asked where the byte stands first, as in a text of blank
+// lines.
 pub fn after_blocks(s: &[u8], from: usize, b: u8) -> usize
     requires { ⌜ from ≤ length (now s) ⌝ }
     ensures { λ r. ⌜ Without b (now (s .entry)) from r ⌝ }

@@ -1,7 +1,9 @@
-// Places of bytes in a text, its parts and its lines, and whether two texts are the same. Every function takes any bytes but `shifted`, which moves a part.
+// Places of bytes in a text, its parts and its lines, and whether two texts are the same. Every function takes any bytes but `shifted`,
+// which moves a part.
 mod blocks;
 mod find;
 mod lines;
+mod numbers;
 mod spans;
 
 pub use find::Place;
@@ -11,5 +13,6 @@ pub use find::last_byte;
 pub use find::same_bytes;
 pub use lines::NextLine;
 pub use lines::next_line;
+pub use numbers::bit_number;
 pub use spans::Span;
 pub use spans::shifted;

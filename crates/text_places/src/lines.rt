@@ -3,7 +3,8 @@ use crate::blocks::after_blocks;
 ghost use mathlib.Core.Path.{_≡_};
 ghost use Prim.Native.Nat.{_+_, _≤_};
 ghost use lib.ListN.{length, drop};
-ghost use Rattle.text_places.specs.Lines.{nextLine, toLf, crEnd};
+ghost use Rattle.text_places.specs.Lines.{crEnd};
+ghost use Rattle.text_places.specs.inner.NextLine.{nextLine, toLf};
 
 // A line without its LF and without all CR at its end: where it starts, where it ends, and where the following one starts.
 pub enum NextLine {

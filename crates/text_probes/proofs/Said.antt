@@ -51,12 +51,6 @@ module _ {t x : NextLine} (e : t ≡ x) where
 pub ruleset said = (said-end, said-good, said-bad, said-valid, said-broken, said-line, said-no-line, needs)
 
 -- A test, and a place in a text, as numbers.
-pub bit-yes : {b : Bool} → b ≡ true → 1 ≡ bit b
-bit-yes e = sym (rw e)
-
-pub bit-no : {b : Bool} → b ≡ false → 0 ≡ bit b
-bit-no e = sym (rw e)
-
 counts : (n : ℕ) (o : Place) → ((i : ℕ) → o ≡ At i → i < n) → n < 2 ^ 64 → placeNumber o < 2 ^ 64
 counts n (At i) f h = let l = f i refl in omega arith
 counts n Nowhere f h = omega arith
@@ -84,4 +78,4 @@ pub all-trims :
     a ∷ b ∷ v .start ∷ v .«end» ∷ m ∷ n ∷ x ∷ y ∷ [] ≡ trimNumbers s
 all-trims s ev ea eb em ew en ep ex eq ey = rw (ev, ea, eb, em, en, ew, ex, ep, ey, eq)
 
-pub ruleset counted = (bit-told, all-trims, bit-yes, bit-no, first-counts, last-counts, place-at, place-none, place-fits, needs)
+pub ruleset counted = (bit-told, all-trims, first-counts, last-counts, place-at, place-none, place-fits, needs)

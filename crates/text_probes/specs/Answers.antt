@@ -27,8 +27,10 @@ nextLineNumbers NoLine = 0 ∷ 0 ∷ 0 ∷ 0 ∷ []
 -- all that the trims and the white space say of a text
 abbrev pub trimNumbers : List ℕ → List ℕ
 trimNumbers s =
-    trimStart s ∷ trimEnd s ∷ trimBoth s .start ∷ trimBoth s .«end» ∷ afterMarks s ∷ bit (startsWhite s) ∷ placeNumber (firstWhite s) ∷ placeNumber (lastWhite s) ∷ []
+    trimStart s ∷ trimEnd s ∷ trimBoth s .start ∷ trimBoth s .«end» ∷ afterMarks s
+    ∷ bit (startsWhite s) ∷ placeNumber (firstWhite s) ∷ placeNumber (lastWhite s) ∷ []
 
 -- the first and the last place of a byte, and the first of two
 abbrev pub byteNumbers : ℕ → ℕ → List ℕ → List ℕ
-byteNumbers a b s = placeNumber (firstWhere (starts a) s) ∷ placeNumber (lastWhere (starts a) s) ∷ placeNumber (firstWhere (startsPair a b) s) ∷ []
+byteNumbers a b s =
+    placeNumber (firstWhere (starts a) s) ∷ placeNumber (lastWhere (starts a) s) ∷ placeNumber (firstWhere (startsPair a b) s) ∷ []

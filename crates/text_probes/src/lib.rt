@@ -10,18 +10,8 @@ ghost use Rattle.ground.specs.Choice.{bit};
 ghost use Rattle.text_utf8.specs.Utf8.{sequenceOf, checkOf};
 ghost use Rattle.text_white.specs.White.{isWhite};
 ghost use Rattle.text_places.specs.Places.{same, placeNumber};
-ghost use Rattle.text_places.specs.Lines.{nextLine};
+ghost use Rattle.text_places.specs.inner.NextLine.{nextLine};
 ghost use Rattle.text_probes.specs.Answers.{sequenceNumbers, checkNumbers, trimNumbers, nextLineNumbers, byteNumbers};
-
-// A test as a number.
-fn bit_number(b: bool) -> u32
-    ensures { λ r. ⌜ r ≡ bit b ⌝ }
-{
-    if b {
-        return 1;
-    }
-    0
-}
 
 // A place as a number, counted from 1.
 fn place_number(p: Place) -> u64
@@ -69,7 +59,7 @@ pub extern "C" fn clumarief_probe_check(text: &[u8], answer: &mut [u64; 3])
 pub extern "C" fn clumarief_probe_white(code: u32) -> u32
     ensures { λ r. ⌜ r ≡ bit (isWhite code) ⌝ }
 {
-    bit_number(text_white::is_white(code))
+    text_places::bit_number(text_white::is_white(code))
 }
 
 #[no_mangle]
@@ -85,7 +75,7 @@ pub extern "C" fn clumarief_probe_trim(text: &[u8], answer: &mut [u64; 8])
         start as u64,
         end as u64,
         text_white::after_marks(text) as u64,
-        bit_number(text_white::starts_white(text)) as u64,
+        text_places::bit_number(text_white::starts_white(text)) as u64,
         place_number(text_white::first_white(text)),
         place_number(text_white::last_white(text)),
     ];
@@ -120,5 +110,5 @@ pub extern "C" fn clumarief_probe_bytes(text: &[u8], a: u8, b: u8, answer: &mut 
 pub extern "C" fn clumarief_probe_same(s: &[u8], t: &[u8]) -> u32
     ensures { λ r. ⌜ r ≡ bit (same (now (s .entry)) (now (t .entry))) ⌝ }
 {
-    bit_number(text_places::same_bytes(s, t))
+    text_places::bit_number(text_places::same_bytes(s, t))
 }

@@ -8,7 +8,8 @@ use native.Mathlib.Omega.{arith}
 use lib.ListN.{length, getD}
 use borrow.Author.Needs.{needs}
 use Rattle.ground.proofs.Cases.{le-or-lt}
-use Rattle.text_utf8.specs.Utf8.{AsciiTo}
+use Rattle.ground.proofs.Stretch.{along-none, along-byte, along-block, block-inside}
+use Rattle.text_utf8.specs.inner.Runs.{AsciiTo}
 
 pub greater-second : (a b : ℕ) → a < b → b ≡ max a b
 greater-second a b h = omega arith
@@ -41,25 +42,17 @@ module _ {s : List ℕ} {at greatest i : ℕ} (b : Bounded s at greatest i) wher
 pub ruleset bounding = (bounded-none, bounded-more, bounded-all, needs)
 
 pub ascii-none : (s : List ℕ) (at : ℕ) → at ≤ length s → AsciiTo s at at
-ascii-none s at h = record { goes = omega arith; inside = h; ascii = λ i l u. absurd (omega arith) }
+ascii-none s at h = along-none (λ x. x ≤ 0x7F) s at h
 
 module _ {s : List ℕ} {at to : ℕ} (a : AsciiTo s at to) where
   pub ascii-byte : to < length s → getD s to 0 ≤ 0x7F → AsciiTo s at (to + 1)
-  ascii-byte h b = record { goes = omega (arith, a .goes); inside = omega arith; ascii = λ i l u. go i l u (le-or-lt to i) }
-    where
-      go : (i : ℕ) → at ≤ i → i < to + 1 → (to ≤ i) ⊎ (i < to) → getD s i 0 ≤ 0x7F
-      go i l u (inl g) = let q : i ≡ to = omega arith in rw q b
-      go i l u (inr g) = a .ascii i l g
+  ascii-byte h b = along-byte a h b
 
-  module _ (h : 16 ≤ length s - to) {r : ℕ} (f : (k : ℕ) → k < 16 → getD s (to + k) 0 ≤ r) (b : r ≤ 0x7F) where
-    pub ascii-block : AsciiTo s at (to + 16)
-    ascii-block = record { goes = omega (arith, a .goes); inside = omega (arith, a .inside); ascii = λ i l u. go i l u (le-or-lt to i) }
-      where
-        go : (i : ℕ) → at ≤ i → i < to + 16 → (to ≤ i) ⊎ (i < to) → getD s i 0 ≤ 0x7F
-        go i l u (inl g) = let q : to + (i - to) ≡ i = omega arith in let p = f (i - to) (omega arith) in rw q at (le-trans p b)
-        go i l u (inr g) = a .ascii i l g
+  module _ (h : 16 ≤ length s - to) where
+    pub ascii-room : to + 16 ≤ length s
+    ascii-room = block-inside a h
 
-  pub block-inside : 16 ≤ length s - to → to + 16 ≤ length s
-  block-inside h = omega (arith, a .inside)
+    pub ascii-block : {r : ℕ} → ((k : ℕ) → k < 16 → getD s (to + k) 0 ≤ r) → r ≤ 0x7F → AsciiTo s at (to + 16)
+    ascii-block f b = along-block a h (λ k l. le-trans (f k l) b)
 
-pub ruleset ascii-runs = (ascii-none, ascii-byte, ascii-block, block-inside, needs)
+pub ruleset ascii-runs = (ascii-none, ascii-byte, ascii-room, ascii-block, needs)

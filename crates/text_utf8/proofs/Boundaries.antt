@@ -11,6 +11,7 @@ use lib.ListN.{length, getD, take, drop, replicate, drop-of-length-le, take-appe
 use lib.Seq.{drop-cons, drop-drop, getD-drop}
 use Rattle.ground.specs.Abnf.{octet, _⨾_, left, right, none, more}
 use Rattle.ground.specs.Choice.{within}
+use Rattle.ground.specs.Put.{between}
 use Rattle.ground.proofs.Cases.{within-yes, within-both}
 use Rattle.text_utf8.specs.declared.sequence.Sequence.{Sequence}
 use Rattle.text_utf8.specs.declared.sequence.Sequence.the-variants.{End, Good, Bad}
@@ -166,7 +167,7 @@ module _ {s : List ℕ} (o : UTF8-octets s) where
     drop-octets = both-octets .1
 
   -- between two such places
-  pub part-octets : (i j : ℕ) → i ≤ j → Fresh (drop i s) → Fresh (drop j s) → UTF8-octets (take (j - i) (drop i s))
+  pub part-octets : (i j : ℕ) → i ≤ j → Fresh (drop i s) → Fresh (drop j s) → UTF8-octets (between s i j)
   part-octets i j h f g =
       let there : i + (j - i) ≡ j = omega arith in
       let k : Fresh (drop (j - i) (drop i s)) = fresh-as (sym (drop-drop (j - i) i s ∙ ap (λ n. drop n s) there)) g in
@@ -195,10 +196,6 @@ fresh-end s i h = fresh-as (sym (drop-of-length-le s h)) at-end
 fresh-head : (s : List ℕ) → getD s 0 0 < 0x80 → Fresh s
 fresh-head [] h = at-end
 fresh-head (x ∷ s) h = at-low h
-
-fresh-lead : (s : List ℕ) → 0xC0 ≤ getD s 0 0 → Fresh s
-fresh-lead [] h = at-end
-fresh-lead (x ∷ s) h = at-high h
 
 pub fresh-ascii : (s : List ℕ) (i : ℕ) → getD s i 0 < 0x80 → Fresh (drop i s)
 fresh-ascii s i h = fresh-head (drop i s) (rw (getD-drop i s 0 0, add-zero i) h)
@@ -229,27 +226,6 @@ module _ {s : List ℕ} (o : UTF8-octets s) (i : ℕ) where
 
     pub fresh-after : Fresh (drop (i + 1) s)
     fresh-after = octets-fresh after-octets
-
-  -- the place behind a sequence that is read
-  module _ {d m : ℕ} (e : sequenceOf (drop i s) ≡ Good d m) where
-    pub past-octets : UTF8-octets (drop (i + m) s)
-    past-octets = octets-as (drop-drop m i s) (good-rest (drop i s) e (drop-octets o i (fresh-good (drop i s) e)))
-
--- The same in plain words: a well-formed text may be cut at its start, at its end, and before every octet that is no UTF8-tail.
-pub data Boundary (s : List ℕ) (i : ℕ) : Type 0 where
-  at-start : i ≡ 0 → Boundary s i
-  at-finish : length s ≤ i → Boundary s i
-  before-ascii : getD s i 0 < 0x80 → Boundary s i
-  before-lead : 0xC0 ≤ getD s i 0 → Boundary s i
-
-boundary-fresh : {s : List ℕ} → UTF8-octets s → (i : ℕ) → Boundary s i → Fresh (drop i s)
-boundary-fresh {s} o i (at-start e) = fresh-as (ap (λ n. drop n s) (sym e)) (octets-fresh o)
-boundary-fresh {s} o i (at-finish h) = fresh-end s i h
-boundary-fresh {s} o i (before-ascii l) = fresh-ascii s i l
-boundary-fresh {s} o i (before-lead l) = fresh-lead (drop i s) (rw (getD-drop i s 0 0, add-zero i) l)
-
-pub boundary-octets : {s : List ℕ} → UTF8-octets s → (i : ℕ) → Boundary s i → UTF8-octets (take i s) × UTF8-octets (drop i s)
-boundary-octets o i b = let f = boundary-fresh o i b in (take-octets o i f, drop-octets o i f)
 
 -- Octets turned one by one, where only ASCII octets change, and into such.
 module _ (f : ℕ → ℕ) (low : (x : ℕ) → x < 0x80 → f x < 0x80) (high : (x : ℕ) → 0x80 ≤ x → f x ≡ x) where

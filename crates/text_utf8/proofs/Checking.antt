@@ -12,7 +12,8 @@ use Rattle.ground.proofs.Cases.{le-or-lt}
 use Rattle.text_utf8.specs.declared.sequence.Sequence.{Sequence}
 use Rattle.text_utf8.specs.declared.sequence.Sequence.the-variants.{End, Good, Bad}
 use Rattle.text_utf8.specs.declared.check.Check.the-variants.{Valid, Broken}
-use Rattle.text_utf8.specs.Utf8.{sequenceOf, pieces, checkFrom, checkOf, AsciiTo}
+use Rattle.text_utf8.specs.Utf8.{sequenceOf, pieces, checkFrom, checkOf}
+use Rattle.text_utf8.specs.inner.Runs.{AsciiTo}
 use Rattle.text_utf8.proofs.Sequences.{sequence-ascii, end-empty}
 use Rattle.text_utf8.proofs.Pieces.{pieces-none, pieces-past, pieces-on, pieces-bad, good-inside}
 
@@ -62,8 +63,8 @@ checked-steps (suc n) {s} {at} {to} b c a = go (le-or-lt to at) (λ d e. checked
     go (inl g) again = let q : at ≡ to = omega (arith, a .goes) in rw q at c
     go (inr g) again =
         again
-        (checked-ascii c (omega (arith, a .inside)) (let l = a .ascii at (omega arith) g in omega arith))
-        (record { goes = omega arith; inside = a .inside; ascii = λ i l u. a .ascii i (omega arith) u })
+        (checked-ascii c (omega (arith, a .inside)) (let l = a .each at (omega arith) g in omega arith))
+        (record { goes = omega arith; inside = a .inside; each = λ i l u. a .each i (omega arith) u })
 
 pub checked-run : {s : List ℕ} {at to : ℕ} → Checked s at → AsciiTo s at to → Checked s to
 checked-run {s} {at} {to} c a = checked-steps (to - at) (omega arith) c a

@@ -1,7 +1,6 @@
 -- UTF-8: RFC 3629, sections 3 and 4, and the length that document 01's refusal 2 gives.
 use mathlib.Core.List.{List, [], _∷_}
-use Prim.Native.Nat.{ℕ, zero, suc, pred, _+_, _*_, _-_, _≤_, _<_}
-use lib.ListN.{length, getD}
+use Prim.Native.Nat.{ℕ, zero, suc, pred, _+_, _*_, _-_}
 use lib.Dec.{eqb}
 use Rattle.ground.specs.Choice.{pick, within}
 use Rattle.text_utf8.specs.declared.sequence.Sequence.{Sequence}
@@ -79,9 +78,3 @@ checkFrom at (Bad length ∷ ps) = Broken at length
 
 abbrev pub checkOf : List ℕ → Check
 checkOf s = checkFrom 0 (pieces s)
-
--- all bytes from one place up to another are ASCII
-pub record AsciiTo (s : List ℕ) (at to : ℕ) : Type 0 where
-  pub goes : at ≤ to
-  pub inside : to ≤ length s
-  pub ascii : (i : ℕ) → at ≤ i → i < to → getD s i 0 ≤ 0x7F

@@ -4,7 +4,8 @@ use crate::sequence::sequence_at;
 ghost use mathlib.Core.Path.{_≡_};
 ghost use Prim.Native.Nat.{ℕ, _+_, _≤_, _<_, max};
 ghost use lib.ListN.{length, getD};
-ghost use Rattle.text_utf8.specs.Utf8.{checkOf, AsciiTo};
+ghost use Rattle.text_utf8.specs.Utf8.{checkOf};
+ghost use Rattle.text_utf8.specs.inner.Runs.{AsciiTo};
 
 // Whether a whole text is UTF-8, and if not, where and how it breaks first.
 pub enum Check {

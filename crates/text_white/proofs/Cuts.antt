@@ -13,7 +13,8 @@ use Rattle.ground.specs.Choice.{pick, both}
 use Rattle.ground.proofs.Cases.{both-right, clash}
 use Rattle.text_places.specs.declared.find.Place.the-variants.{At}
 use Rattle.text_places.specs.Lines.{onto, rawLines, crEnd, withoutCr, lines}
-use Rattle.text_places.proofs.Found.{first-holds, last-holds}
+use Rattle.text_places.specs.Spans.{partOf}
+use Rattle.text_places.proofs.Holds.{first-holds, last-holds}
 use Rattle.text_utf8.specs.declared.sequence.Sequence.{Sequence}
 use Rattle.text_utf8.specs.declared.sequence.Sequence.the-variants.{End, Good, Bad}
 use Rattle.text_utf8.specs.Grammar.{UTF8-octets}
@@ -79,7 +80,7 @@ pub trim-end-octets : {s : List ℕ} → UTF8-octets s → UTF8-octets (take (tr
 trim-end-octets {s} o = take-octets o (trimEnd s) (trim-end-fresh s)
 
 -- Both ends.
-pub trim-octets : {s : List ℕ} → UTF8-octets s → UTF8-octets (take (trimBoth s .«end» - trimBoth s .start) (drop (trimBoth s .start) s))
+pub trim-octets : {s : List ℕ} → UTF8-octets s → UTF8-octets (partOf s (trimBoth s))
 trim-octets {s} o =
     let z : trimBoth s .«end» - trimBoth s .start ≡ trimEnd (drop (trimStart s) s) = omega arith in
     octets-as (ap (λ n. take n (drop (trimStart s) s)) (sym z)) (trim-end-octets (run-octets isWhite o))

@@ -21,11 +21,11 @@ ink b = within 0x21 0x7F b
 pub ink-low : (b : ℕ) → b < 0x21 → false ≡ ink b
 ink-low b h = sym (within-low 0x21 0x7F b h)
 
-pub ink-high : (b : ℕ) → 0x7F < b → false ≡ ink b
-ink-high b h = sym (within-high 0x21 0x7F b h)
+pub ink-high : (b : ℕ) → 0x80 ≤ b → false ≡ ink b
+ink-high b h = sym (within-high 0x21 0x7F b (omega arith))
 
-pub ink-inside : (b : ℕ) → 0x21 ≤ b → b ≤ 0x7F → true ≡ ink b
-ink-inside b l h = sym (within-yes 0x21 0x7F b l h)
+pub ink-inside : (b : ℕ) → 0x21 ≤ b → b < 0x80 → true ≡ ink b
+ink-inside b l h = sym (within-yes 0x21 0x7F b l (omega arith))
 
 pub ruleset ink-byte = (ink-low, ink-high, ink-inside, needs)
 

@@ -16,7 +16,8 @@ use Rattle.text_utf8.specs.declared.sequence.Sequence.{Sequence}
 use Rattle.text_utf8.specs.declared.sequence.Sequence.the-variants.{End, Good, Bad}
 use Rattle.text_utf8.specs.Utf8.{Lead, lead, leadOf, tails, afterLead, sequenceOf, pieces}
 use Rattle.text_white.specs.White.{isWhite}
-use Rattle.text_white.specs.Trim.{allWhite, trimEnd, whiteLength, Before}
+use Rattle.text_white.specs.Trim.{allWhite, trimEnd}
+use Rattle.text_white.specs.inner.Before.{whiteLength, Before}
 use Rattle.text_white.proofs.Ink.{ink, ink-reads, ink-dark}
 use Rattle.text_utf8.proofs.Leads.{lead-low-none}
 use Rattle.text_utf8.proofs.Sequences.{good-fits, end-empty, tails-fit, first-good, second-good, went-on}

@@ -12,12 +12,14 @@ use mir.Syntax.{w64}
 use borrow.Author.Tests.{eq-eqb, ne-eqb}
 use borrow.Author.Needs.{needs}
 use Rattle.ground.specs.Choice.{pick}
+use Rattle.ground.specs.Put.{between}
 use Rattle.ground.proofs.Parts.{take-rest}
 use Rattle.text_utf8.specs.declared.sequence.Sequence.{Sequence}
 use Rattle.text_utf8.specs.declared.sequence.Sequence.the-variants.{End, Good, Bad}
 use Rattle.text_utf8.specs.Utf8.{sequenceOf, pieces}
 use Rattle.text_white.specs.White.{isWhite}
-use Rattle.text_white.specs.Trim.{runOf, allWhite, trimStart, trimEnd, trimBoth, startsWhite, whiteLength}
+use Rattle.text_white.specs.Trim.{runOf, allWhite, trimStart, trimEnd, trimBoth, startsWhite}
+use Rattle.text_white.specs.inner.Before.{whiteLength}
 use Rattle.text_utf8.proofs.Sequences.{end-empty, good-fits}
 use Rattle.text_places.proofs.PlaceLaws.{seeking, backing}
 use Rattle.text_utf8.proofs.Pieces.{pieces-none, pieces-good, pieces-past, pieces-on, pieces-bad, good-inside}
@@ -143,7 +145,7 @@ module _ (s : List ℕ) {a : ℕ} (e : a ≡ trimStart s) where
   pub both-part : a ≤ length s
   both-part = rw e (trim-start-inside s)
 
-  module _ {n : ℕ} (f : n ≡ trimEnd (take (length s - a) (drop a s))) where
+  module _ {n : ℕ} (f : n ≡ trimEnd (between s a (length s))) where
     ends : n ≡ trimEnd (drop (trimStart s) s)
     ends = f ∙ rw (take-rest s a, e)
 

@@ -2,3 +2,4 @@
 pub mod White
 pub mod Trim
 pub mod Examples
+pub mod inner

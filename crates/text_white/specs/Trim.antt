@@ -1,8 +1,7 @@
 -- White space at the ends of a text and in it. On a text that is not UTF-8, a byte at which no good sequence stands is no white space.
 use mathlib.Core.List.{List, [], _∷_}
 use mathlib.Core.Bool.{Bool, true, false}
-use mathlib.Core.Path.{_≡_}
-use Prim.Native.Nat.{ℕ, suc, _+_, _-_, _≤_, _<_}
+use Prim.Native.Nat.{ℕ, suc, _+_}
 use lib.Dec.{eqb}
 use lib.ListN.{drop}
 use Rattle.ground.specs.Choice.{pick, both}
@@ -64,18 +63,3 @@ firstWhite s = firstWhere startsWhite s
 
 abbrev pub lastWhite : List ℕ → Place
 lastWhite s = lastWhere startsWhite s
-
--- the length of the white space character at the head, 0 where there is none
-abbrev pub whiteLengthOf : Sequence → ℕ
-whiteLengthOf End = 0
-whiteLengthOf (Good code length) = pick (isWhite code) length 0
-whiteLengthOf (Bad length) = 0
-
-abbrev pub whiteLength : List ℕ → ℕ
-whiteLength s = whiteLengthOf (sequenceOf s)
-
--- `r` bytes before `end` starts the white space character that ends there, or `r` is 0 and there is none
-pub record Before (s : List ℕ) («end» r : ℕ) : Type 0 where
-  pub fits : r ≤ «end»
-  pub found : 0 < r → whiteLength (drop («end» - r) s) ≡ r
-  pub missed : r ≡ 0 → (k : ℕ) → 0 < k → k ≤ «end» → whiteLength (drop («end» - k) s) ≡ k → ⊥

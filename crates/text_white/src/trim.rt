@@ -7,7 +7,8 @@ use text_utf8::sequence_at;
 ghost use mathlib.Core.Path.{_≡_};
 ghost use lib.ListN.{drop};
 ghost use Rattle.ground.specs.Choice.{within};
-ghost use Rattle.text_white.specs.Trim.{trimStart, trimEnd, trimBoth, afterMarks, startsWhite, firstWhite, lastWhite, whiteLength, Before};
+ghost use Rattle.text_white.specs.Trim.{trimStart, trimEnd, trimBoth, afterMarks, startsWhite, firstWhite, lastWhite};
+ghost use Rattle.text_white.specs.inner.Before.{whiteLength, Before};
 
 // Whether a byte alone tells that no white space stands there, and that none ends there: an ASCII character above the space.
 fn is_ink(b: u8) -> bool
@@ -16,10 +17,10 @@ fn is_ink(b: u8) -> bool
     if b < 0x21 {
         return false;
     }
-    if 0x7F < b {
-        return false;
+    if b < 0x80 {
+        return true;
     }
-    true
+    false
 }
 
 // Whether a white space character stands at a place.

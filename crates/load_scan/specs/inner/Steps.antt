@@ -5,8 +5,7 @@ use mathlib.Core.List.{List, []}
 use Prim.Native.Nat.{ℕ, _+_}
 use lib.ListN.{drop}
 use Rattle.ground.specs.Put.{between}
-use Rattle.text_places.specs.Lines.{lines}
-use Rattle.text_places.specs.inner.Taken.{Taken}
+use Rattle.text_places.specs.Lines.{lines, Taken}
 use Rattle.line.specs.Kinds.{lineOf}
 use Rattle.load_rule.specs.declared.Fates.{Fates}
 use Rattle.load_rule.specs.declared.Scan.{Scan}

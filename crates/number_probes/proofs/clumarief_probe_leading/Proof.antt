@@ -9,20 +9,14 @@ leading-range-requires c κs = search said
 enum-known-start : tie.Need-enum-known-start
 enum-known-start c = search said
 
+cast-t7 : tie.Need-cast-t7
+cast-t7 c = search said
+
 cast-t8 : tie.Need-cast-t8
 cast-t8 c = search said
 
-cast-t9 : tie.Need-cast-t9
-cast-t9 c = search said
-
-enum-known-second-unread : tie.Need-enum-known-second-unread
-enum-known-second-unread c = search said
-
-bit-number-requires : tie.Need-bit-number-requires
-bit-number-requires c κs = search said
-
-cast-t12 : tie.Need-cast-t12
-cast-t12 c = search said
+enum-told : tie.Need-enum-told
+enum-told c = search said
 
 returns : tie.Need-returns
 returns c = search said
@@ -36,10 +30,8 @@ clumarief-probe-leading-spec =
     (tie.spec
     leading-range-requires
     enum-known-start
+    cast-t7
     cast-t8
-    cast-t9
-    enum-known-second-unread
-    bit-number-requires
-    cast-t12
+    enum-told
     returns
     returns-2)

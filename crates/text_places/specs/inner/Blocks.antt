@@ -1,11 +1,9 @@
 -- A stretch of a text that does not hold a byte.
 use mathlib.Core.Path.{_≡_}
 use mathlib.Core.List.{List}
-use Prim.Native.Nat.{ℕ, _≤_, _<_}
-use lib.ListN.{length, getD}
+use Prim.Native.Nat.{ℕ}
+use Rattle.ground.specs.inner.Along.{Along}
 
 -- no byte from one place up to another is `b`
-pub record Without (b : ℕ) (s : List ℕ) («from» to : ℕ) : Type 0 where
-  pub goes : «from» ≤ to
-  pub inside : to ≤ length s
-  pub none : (i : ℕ) → «from» ≤ i → i < to → getD s i 0 ≡ b → ⊥
+abbrev pub Without : ℕ → List ℕ → ℕ → ℕ → Type 0
+Without b s «from» to = Along (λ x. x ≡ b → ⊥) s «from» to

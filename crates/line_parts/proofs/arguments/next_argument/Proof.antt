@@ -45,6 +45,9 @@ part-trim-both-end c = search listing
 trim-both-requires : tie.Need-trim-both-requires Inv-loop μ-loop
 trim-both-requires c κs = search listing
 
+is-blank-requires : tie.Need-is-blank-requires Inv-loop μ-loop
+is-blank-requires c κs = search listing
+
 returns : tie.Need-returns Inv-loop μ-loop
 returns c = search listing
 
@@ -72,6 +75,9 @@ part-trim-both-end-2 c = search listing
 trim-both-requires-2 : tie.Need-trim-both-requires-2 Inv-loop μ-loop
 trim-both-requires-2 c κs = search listing
 
+is-blank-requires-2 : tie.Need-is-blank-requires-2 Inv-loop μ-loop
+is-blank-requires-2 c κs = search listing
+
 add-at : tie.Need-add-at Inv-loop μ-loop
 add-at c = search listing
 
@@ -84,11 +90,11 @@ loop-again c = search listing
 add-t8 : tie.Need-add-t8 Inv-loop μ-loop
 add-t8 c = search listing
 
-add-t24 : tie.Need-add-t24 Inv-loop μ-loop
-add-t24 c = part-end-fits (c .before .before .before .before .before .before .before .before .before .before .before .before .loop .inv) (c .before .before .before .before .before .before .before .before .before .before .before .loop-test .taken) (c .before .before .before .before .before .before .before .before .before .first-byte .ensures) (c .before .before .before .before .before .before .before .comma .given .1) (c .before .before .before .before .trim-both2 .ensures) (search needs)
-
 add-t25 : tie.Need-add-t25 Inv-loop μ-loop
-add-t25 c = search listing
+add-t25 c = part-end-fits (c .before .before .before .before .before .before .before .before .before .before .before .before .loop .inv) (c .before .before .before .before .before .before .before .before .before .before .before .loop-test .taken) (c .before .before .before .before .before .before .before .before .before .first-byte .ensures) (c .before .before .before .before .before .before .before .comma .given .1) (c .before .before .before .before .trim-both2 .ensures) (search needs)
+
+add-t26 : tie.Need-add-t26 Inv-loop μ-loop
+add-t26 c = search listing
 
 returns-3 : tie.Need-returns-3 Inv-loop μ-loop
 returns-3 c = search listing
@@ -113,6 +119,7 @@ next-argument-spec =
     part-trim-both-start
     part-trim-both-end
     trim-both-requires
+    is-blank-requires
     returns
     add-t15
     add-t19
@@ -122,11 +129,12 @@ next-argument-spec =
     part-trim-both-start-2
     part-trim-both-end-2
     trim-both-requires-2
+    is-blank-requires-2
     add-at
     loop-less
     loop-again
     add-t8
-    add-t24
     add-t25
+    add-t26
     returns-3
     returns-4)

@@ -3,8 +3,8 @@ use Rattle.line_parts.proofs.Members.{naming}
 use Rattle.line_parts.proofs.signature.owner_and_name.Statement.{statement}
 use Rattle.line_parts.proofs.signature.owner_and_name.Tie as tie
 
-last-byte-requires : tie.Need-last-byte-requires
-last-byte-requires c κs = search naming
+last-dot-requires : tie.Need-last-dot-requires
+last-dot-requires c κs = search naming
 
 enum-known-dot : tie.Need-enum-known-dot
 enum-known-dot c = search naming
@@ -23,4 +23,4 @@ returns-2 c = search naming
 
 pub owner-and-name-spec : {M : Type 1} → statement M
 owner-and-name-spec =
-    tie.close (tie.spec last-byte-requires enum-known-dot enum-told returns add-t7 returns-2)
+    tie.close (tie.spec last-dot-requires enum-known-dot enum-told returns add-t7 returns-2)

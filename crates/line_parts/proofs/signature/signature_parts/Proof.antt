@@ -15,8 +15,8 @@ enum-told c = search signing
 returns : tie.Need-returns
 returns c = search signing
 
-last-byte-requires : tie.Need-last-byte-requires
-last-byte-requires c κs = search signing
+last-close-requires : tie.Need-last-close-requires
+last-close-requires c κs = search signing
 
 enum-known-close : tie.Need-enum-known-close
 enum-known-close c = search signing
@@ -65,7 +65,7 @@ signature-parts-spec =
     enum-known-open
     enum-told
     returns
-    last-byte-requires
+    last-close-requires
     enum-known-close
     enum-told-2
     returns-2

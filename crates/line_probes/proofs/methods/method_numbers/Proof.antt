@@ -6,8 +6,8 @@ use Rattle.line_probes.proofs.methods.method_numbers.Tie as tie
 owner-of-requires : tie.Need-owner-of-requires
 owner-of-requires c κs = search said-methods
 
-name-of-requires : tie.Need-name-of-requires
-name-of-requires c κs = search said-methods
+name-span-requires : tie.Need-name-span-requires
+name-span-requires c κs = search said-methods
 
 has-owner-requires : tie.Need-has-owner-requires
 has-owner-requires c κs = search said-methods
@@ -33,6 +33,9 @@ last-line-requires-2 c κs = search said-methods
 bit-number-requires : tie.Need-bit-number-requires
 bit-number-requires c κs = search said-methods
 
+cast-t28 : tie.Need-cast-t28
+cast-t28 c = search said-methods
+
 returns : tie.Need-returns
 returns c = search said-methods
 
@@ -41,7 +44,7 @@ method-numbers-spec =
     tie.close
     (tie.spec
     owner-of-requires
-    name-of-requires
+    name-span-requires
     has-owner-requires
     has-lines-requires
     first-line-requires
@@ -50,4 +53,5 @@ method-numbers-spec =
     first-line-requires-2
     last-line-requires-2
     bit-number-requires
+    cast-t28
     returns)

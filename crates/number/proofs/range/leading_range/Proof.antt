@@ -30,8 +30,8 @@ part-first-byte-end c = search leading
 first-byte-requires-2 : tie.Need-first-byte-requires-2
 first-byte-requires-2 c κs = search leading
 
-enum-known-between : tie.Need-enum-known-between
-enum-known-between c = search leading
+enum-known-width : tie.Need-enum-known-width
+enum-known-width c = search leading
 
 enum-told-2 : tie.Need-enum-told-2
 enum-told-2 c = search leading
@@ -97,7 +97,7 @@ leading-range-spec =
     part-first-byte-start
     part-first-byte-end
     first-byte-requires-2
-    enum-known-between
+    enum-known-width
     enum-told-2
     returns-2
     add-second

@@ -2,7 +2,7 @@
 use Rattle.text_utf8.proofs.Ascii.{ascii-runs}
 use Prim.Native.Nat.{_-_}
 use lib.ListN.{length}
-use Rattle.text_utf8.specs.Utf8.{AsciiTo}
+use Rattle.text_utf8.specs.inner.Runs.{AsciiTo}
 use Rattle.text_utf8.proofs.check.ascii_bytes.Statement.{statement}
 use Rattle.text_utf8.proofs.check.ascii_bytes.Tie as tie
 
