@@ -13,7 +13,7 @@ use Rattle.text_places.specs.declared.lines.NextLine.{NextLine}
 use Rattle.text_places.specs.declared.lines.NextLine.the-variants.{Line, NoLine}
 use Rattle.text_places.specs.Lines.{lines, Taken}
 use Rattle.text_places.specs.inner.NextLine.{nextLine}
-use Rattle.text_places.proofs.Taking.{line-taken, none-taken, end-taken}
+use Rattle.text_places.proofs.Taking.{line-taken, none-taken, end-taken, line-order, line-ends, line-falls}
 use Rattle.text_places.specs.Spans.{Lies}
 use Rattle.line.specs.Kinds.{lineOf}
 use Rattle.table_pool.specs.declared.write.Wrote.{Wrote}
@@ -155,15 +155,6 @@ module _ {s : List ℕ} {c : List (List ℕ)} {i p : List ℕ} {at count q : ℕ
       taken : Taken s at a e n
       taken = line-taken s at x y
 
-      pub writing-order : a ≤ e
-      writing-order = taken .order
-
-      pub writing-inside : e ≤ length s
-      writing-inside = taken .ends
-
-      pub writing-falls : at < length s → length s - n < length s - at
-      writing-falls h = let u = taken .past in let v = taken .inside in omega arith
-
       split-here : classesOf (lines s) ≡ w .done ++ (classIn (between s a e) (lineOf (between s a e)) ++ classesOf (lines (drop n s)))
       unfolding classesOf
       split-here = w .split ∙ ap (λ ls. w .done ++ classesOf ls) (taken .split)
@@ -229,4 +220,4 @@ module _ {s : List ℕ} {c : List (List ℕ)} {i p : List ℕ} {at count q : ℕ
                 }
 
 pub ruleset writing =
-    (writing-starts, writing-ends, writing-size, writing-pool, writing-count, writing-fits, writing-none, writing-order, writing-inside, writing-falls, writing-other, display-there, raw-there, writing-few, writing-short, writing-more, needs)
+    (writing-starts, writing-ends, writing-size, writing-pool, writing-count, writing-fits, writing-none, line-order, line-ends, line-falls, writing-other, display-there, raw-there, writing-few, writing-short, writing-more, needs)

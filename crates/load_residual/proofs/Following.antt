@@ -13,7 +13,7 @@ use Rattle.text_places.specs.declared.lines.NextLine.{NextLine}
 use Rattle.text_places.specs.declared.lines.NextLine.the-variants.{Line, NoLine}
 use Rattle.text_places.specs.Lines.{lines, Taken}
 use Rattle.text_places.specs.inner.NextLine.{nextLine}
-use Rattle.text_places.proofs.Taking.{line-taken, none-taken, end-taken}
+use Rattle.text_places.proofs.Taking.{line-taken, none-taken, end-taken, line-order, line-ends, line-falls}
 use Rattle.line.specs.declared.line.Line as line
 use Rattle.line.specs.declared.line.Line.the-variants as kinds
 use Rattle.text_places.specs.Spans.{shift, Lies, largest}
@@ -97,15 +97,6 @@ module _ {s : List ℕ} {«from» at : ℕ} {found : Residual} (f : Following s 
       taken : Taken s at a e n
       taken = line-taken s at p q
 
-      pub follow-order : a ≤ e
-      follow-order = taken .order
-
-      pub follow-inside : e ≤ length s
-      follow-inside = taken .ends
-
-      pub follow-falls : at < length s → length s - n < length s - at
-      follow-falls h = let k = taken .past in let i = taken .inside in omega arith
-
       step : residualIn (lines (drop at s)) ≡ residualBy (between s a e) (lineOf (between s a e)) (residualIn (lines (drop n s)))
       unfolding residualIn
       step = ap residualIn (taken .split)
@@ -151,4 +142,4 @@ module _ {s : List ℕ} {«from» at : ℕ} {found : Residual} (f : Following s 
             })
 
 pub ruleset following =
-    (follow-starts, follow-ends, follow-none, follow-order, follow-inside, follow-falls, follow-blank, follow-other, follow-kind, follow-room, follow-comment, needs)
+    (follow-starts, follow-ends, follow-none, line-order, line-ends, line-falls, follow-blank, follow-other, follow-kind, follow-room, follow-comment, needs)

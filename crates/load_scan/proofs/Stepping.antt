@@ -14,7 +14,7 @@ use Rattle.text_places.specs.declared.lines.NextLine.{NextLine}
 use Rattle.text_places.specs.declared.lines.NextLine.the-variants.{Line, NoLine}
 use Rattle.text_places.specs.Lines.{lines}
 use Rattle.text_places.specs.inner.NextLine.{nextLine}
-use Rattle.text_places.proofs.Taking.{line-taken, none-taken}
+use Rattle.text_places.proofs.Taking.{line-taken, none-taken, line-order, line-ends}
 use Rattle.line.specs.declared.line.Line as line
 use Rattle.line.specs.Kinds.{lineOf}
 use Rattle.load_rule.specs.declared.Fate.{Fate}
@@ -57,12 +57,6 @@ module _ (s : List ℕ) (at : ℕ) (f : Fates) (member : Bool) where
     step-end q = none-taken s at b q
 
     module _ {a e n : ℕ} (q : t ≡ Line a e n) where
-      pub step-order : a ≤ e
-      step-order = line-taken s at b q .order
-
-      pub step-inside : e ≤ length s
-      step-inside = line-taken s at b q .ends
-
       module _ {kind : line.Line} (r : kind ≡ lineOf (between s a e)) where
         pub step-kind : lineOf (between s a e) ≡ kind
         step-kind = sym r
@@ -88,7 +82,7 @@ module _ (s : List ℕ) (at : ℕ) (f : Fates) (member : Bool) where
             after = v ∙ ap (memberAfter member) r;
           }
 
-pub ruleset stepping = (step-fits, step-bounds, step-end, step-order, step-inside, step-kind, step-fault, step-line, needs)
+pub ruleset stepping = (step-fits, step-bounds, step-end, line-order, line-ends, step-kind, step-fault, step-line, needs)
 
 -- What it said.
 module _ (s : List ℕ) (at : ℕ) (f : Fates) (member : Bool) where
