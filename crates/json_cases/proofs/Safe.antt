@@ -21,7 +21,8 @@ use Rattle.json_decode.specs.declared.write.Written.the-variants.{Done, NoRoom}
 ends-inside : (o : Out (List ℕ)) (at : ℕ) (d : List ℕ) {n : ℕ} → writtenOf o at (length d) ≡ Done n → n ≤ length (roomOf o at d)
 ends-inside (got v r) at d {n} = go (leb (at + length v) (length d)) refl
   where
-    go : (b : Bool) → leb (at + length v) (length d) ≡ b → pick b (Done (at + length v)) NoRoom ≡ Done n → n ≤ length (pick b (put d at v) d)
+    go : (b : Bool) → leb (at + length v) (length d) ≡ b → pick b (Done (at + length v)) NoRoom ≡ Done n →
+        n ≤ length (pick b (put d at v) d)
     go true p e =
         let h = leb-true (at + length v) (length d) p in
         let same : at + length v ≡ n = cc in

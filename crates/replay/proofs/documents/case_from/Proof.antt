@@ -1,4 +1,4 @@
--- `replay::documents::case_from` meets its contract, by the laws of Cases; its invariant: each place is inside the text, not before the first.
+-- `replay::documents::case_from` meets its contract, by the laws of Cases; its invariant: each place is inside the text, not before `from`.
 use Rattle.replay.proofs.Cases.{seeking, Seeking}
 use Prim.Native.Nat.{_-_}
 use lib.ListN.{length}
