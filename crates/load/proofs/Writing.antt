@@ -25,10 +25,10 @@ use Rattle.load_rule.specs.declared.Scan.the-variants as scan
 use Rattle.load_rule.specs.declared.Load.{Load}
 use Rattle.load_rule.specs.declared.Load.the-variants as loads
 use Rattle.load_rule.specs.Fates.{scanOf}
-use Rattle.load_rule.specs.Classes.{classesOf, classPool, classRows}
-use Rattle.load_rule.specs.Members.{entryPool, entryRows}
+use Rattle.load_rule.specs.Classes.{classesOf, classPool, classRows, classRow, classText}
+use Rattle.load_rule.specs.Members.{entryPool, entryRows, entryRow, entryText}
 use Rattle.load_rule.specs.Loading.{entriesOf, poolOf, scanned, isLoaded, lent}
-use Rattle.load_rule.proofs.Appended.{class-rows-length, entry-rows-length}
+use Rattle.load_rule.proofs.Appended.{rows-length}
 use Rattle.load_classes.specs.declared.write.Classes.{Classes}
 use Rattle.load_classes.specs.declared.write.Classes.the-variants as classes
 use Rattle.load_classes.specs.inner.Written.{ClassesAt, ClassesBy}
@@ -74,7 +74,7 @@ module _ (ls : List (List ℕ)) (c : List (List ℕ)) (p : List ℕ) (k : Classe
   at-them = rw e at w
 
   size : length (classRows 0 (classesOf ls)) ≡ count
-  size = class-rows-length 0 (classesOf ls) ∙ sym (at-them .counted)
+  size = rows-length classRow classText 0 (classesOf ls) ∙ sym (at-them .counted)
 
   rows-are : take count c₁ ≡ classRows 0 (classesOf ls)
   rows-are = ap (λ n. take n c₁) (sym size) ∙ ap (take (length (classRows 0 (classesOf ls)))) (at-them .rows) ∙ put-part c 0 (classRows 0 (classesOf ls)) (omega arith)
@@ -133,11 +133,11 @@ module _ (ls : List (List ℕ)) (c : List (List ℕ)) (p : List ℕ) (k : Classe
       into-all h =
           let starts : q ≡ length (classPool (classesOf ls)) = at-them .texts .past ∙ zero-add (length (classPool (classesOf ls))) in
           let named : names ≡ length (poolOf ls) = texts .past ∙ zero-add (length (poolOf ls)) in
-          let n = entry-rows-length (length (classPool (classesOf ls))) (entriesOf ls) in
+          let n = rows-length entryRow entryText (length (classPool (classesOf ls))) (entriesOf ls) in
           record {
             answer = h ∙ accepted-as ls (length c) (length m) (length p) (all .scanned) (at-them .room) (held .room) (let r = texts .room in omega arith) named;
             full = λ t. record {
-              class-room = omega (arith, at-them .room, class-rows-length 0 (classesOf ls));
+              class-room = omega (arith, at-them .room, rows-length classRow classText 0 (classesOf ls));
               member-room = omega (arith, held .room);
               pool-room = let r = texts .room in omega arith;
               classes = at-them .rows;

@@ -26,7 +26,7 @@ use Rattle.tables.specs.Back.{readBack}
 use Rattle.load_raw_types.specs.inner.Marks.{markOf, chained, Indexed, indexSize}
 use Rattle.load_raw_types.proofs.Indexing.{indexed-none, indexed-class, read-back-class}
 use Rattle.load_rule.specs.Classes.{classIn, classesOf, classText, classPool, classRow, classRows}
-use Rattle.load_rule.proofs.Appended.{join-more, join-append, class-rows-length, class-rows-more}
+use Rattle.load_rule.proofs.Appended.{join-more, join-append, rows-length, rows-more}
 use Rattle.load_classes.specs.declared.names.ClassNames.{ClassNames}
 use Rattle.load_classes.specs.declared.names.ClassLine.{ClassLine}
 use Rattle.load_classes.specs.declared.names.ClassLine.the-variants.{Names, Other}
@@ -34,6 +34,7 @@ use Rattle.load_classes.specs.inner.Names.{classNamed, NamedAt, NamedBy}
 use Rattle.load_classes.specs.inner.Entries.{EnteredClass, EnteredClassBy}
 use Rattle.load_classes.specs.inner.Written.{ClassesAt}
 use Rattle.table_rows.specs.Rows.{mostClasses, mostPool}
+use Rattle.load_rule.specs.Laid.{rowsFrom}
 
 -- the classes `done` are written
 pub record Rows (done : List Pair) (c : List (List ℕ)) (p : List ℕ) (count q : ℕ) (c₁ : List (List ℕ)) (i₁ p₁ : List ℕ) : Type 0 where
@@ -46,7 +47,7 @@ pub record Rows (done : List Pair) (c : List (List ℕ)) (p : List ℕ) (count q
   pub back : readBack (classRows 0 done) p₁ ≡ done
 
 rows-none : (c : List (List ℕ)) (p i : List ℕ) → i ≡ replicate indexSize 0 → Rows [] c p 0 0 c i p
-unfolding classRows join
+unfolding rowsFrom join
 rows-none c p i e = record {
   counted = refl;
   room = omega arith;
@@ -60,24 +61,24 @@ rows-none c p i e = record {
 -- one class more
 module _ {done : List Pair} {c : List (List ℕ)} {p : List ℕ} {count at : ℕ} {c₁ : List (List ℕ)} {i₁ p₁ : List ℕ} (w : Rows done c p count at c₁ i₁ p₁) where
   long : count ≡ 0 + length (classRows 0 done)
-  long = let a = w .counted in let b = class-rows-length 0 done in omega arith
+  long = let a = w .counted in let b = rows-length classRow classText 0 done in omega arith
 
   module _ (k : Pair) {q : ℕ} {c₂ : List (List ℕ)} {i₂ p₂ : List ℕ} (e : EnteredClass q k count at c₁ i₁ p₁ c₂ i₂ p₂) where
     abbrev wider : List (List ℕ)
     wider = classRows 0 done ++ (classRow at k ∷ [])
 
     all-rows : wider ≡ classRows 0 (done ++ (k ∷ []))
-    all-rows = ap (λ n. classRows 0 done ++ (classRow n k ∷ [])) (w .texts .past) ∙ sym (class-rows-more 0 done k)
+    all-rows = ap (λ n. classRows 0 done ++ (classRow n k ∷ [])) (w .texts .past) ∙ sym (rows-more classRow classText 0 done k)
 
-    rows-more : count < length c → count < mostClasses → Rows (done ++ (k ∷ [])) c p (count + 1) q c₂ i₂ p₂
-    rows-more h few =
+    one-more : count < length c → count < mostClasses → Rows (done ++ (k ∷ [])) c p (count + 1) q c₂ i₂ p₂
+    one-more h few =
         let n = length-append done (k ∷ []) in
         let o = w .counted in
         let m = long in
         let put-there : c₂ ≡ put c 0 wider =
         e .row ∙ ap (λ x. set x count (classRow at k)) (w .rows) ∙ ap (λ x. set (put c 0 (classRows 0 done)) x (classRow at k)) m
         ∙ put-set c 0 (classRows 0 done) (classRow at k) (omega arith) in
-        let marked : i₂ ≡ chained i₁ (markOf (k .display)) (length (classRows 0 done)) = e .marked ∙ ap (chained i₁ (markOf (k .display))) (w .counted ∙ sym (class-rows-length 0 done)) in
+        let marked : i₂ ≡ chained i₁ (markOf (k .display)) (length (classRows 0 done)) = e .marked ∙ ap (chained i₁ (markOf (k .display))) (w .counted ∙ sym (rows-length classRow classText 0 done)) in
         let wide : length wider ≡ length (classRows 0 done) + 1 = length-append (classRows 0 done) (classRow at k ∷ []) in
         let there : Indexed wider p₂ (chained i₁ (markOf (k .display)) (length (classRows 0 done))) q = indexed-class (k .raw) (k .display) (e .written) (w .indexed) (omega arith) in
         let back : readBack wider p₂ ≡ done ++ (k ∷ []) = read-back-class (k .raw) (k .display) (e .written) (w .indexed) ∙ ap (λ x. x ++ (k ∷ [])) (w .back) in
@@ -216,7 +217,7 @@ module _ {s : List ℕ} {c : List (List ℕ)} {i p : List ℕ} {at count q : ℕ
                 let entered : EnteredClass q₂ class count q c₁ i₁ p₁ c₂ i₂ p₂ = rw h at g in
                 let u = w .same-rows in
                 let v = w .most in
-                let more = rows-more (w .written) class entered (omega arith) (omega arith) in
+                let more = one-more (w .written) class entered (omega arith) (omega arith) in
                 record {
                   most = w .most;
                   same-rows = more .size;

@@ -1,6 +1,7 @@
 // One class: its descriptors in the pool, its row, and its mark in the index.
 use crate::names::ClassNames;
 use load_raw_types::mark_class;
+use table_pool::TwoTexts;
 use table_pool::Wrote;
 use table_pool::put_class;
 use table_rows::Class;
@@ -12,28 +13,26 @@ ghost use Prim.Native.Nat.{_≤_, _<_, _-_};
 ghost use lib.ListN.{length};
 ghost use Rattle.text_places.specs.Spans.{Lies};
 ghost use Rattle.table_pool.specs.Names.{classDescriptor};
+ghost use Rattle.table_pool.specs.inner.Wrote.{TwoBy};
 ghost use Rattle.table_rows.specs.Rows.{text, packClass, mostClasses, mostPool};
-ghost use Rattle.load_classes.specs.inner.Entries.{PairBy, EnteredClassBy};
+ghost use Rattle.load_classes.specs.inner.Entries.{EnteredClassBy};
 ghost use Rattle.load_classes.specs.inner.Names.{classNamed};
 ghost use Rattle.load_raw_types.specs.inner.Marks.{indexSize};
 
-// Two descriptors are written: where the second one starts, and the place after it.
-pub enum PairPlaces {
-    At { middle: usize, next: usize },
-    NoRoom,
-}
-
 // "each class row's raw then display"
-fn put_pair(pool: &mut [u8], at: usize, raw: &[u8], display: &[u8]) -> PairPlaces
-    ensures { λ r. ⌜ PairBy r (now (pool .entry)) at (classDescriptor (now (raw .entry))) (classDescriptor (now (display .entry))) (now (pool .exit)) ⌝ }
+fn put_pair(pool: &mut [u8], at: usize, raw: &[u8], display: &[u8]) -> TwoTexts
+    ensures { λ r. ⌜ TwoBy r (now (pool .entry)) at (classDescriptor (now (raw .entry))) (classDescriptor (now (display .entry))) (now (pool .exit)) ⌝ }
 {
     let Wrote::Done(middle) = put_class(pool, at, raw) else {
-        return PairPlaces::NoRoom;
+        return TwoTexts::NoRoom;
     };
     let Wrote::Done(next) = put_class(pool, middle, display) else {
-        return PairPlaces::NoRoom;
+        return TwoTexts::NoRoom;
     };
-    PairPlaces::At { middle, next }
+    TwoTexts::At {
+        second: middle,
+        next,
+    }
 }
 
 // The row of a class whose raw descriptor runs from `at` to `middle`, and its display descriptor from there to `next`.
@@ -64,7 +63,10 @@ pub fn enter_class(
     let end = names.raw.end;
     let first = names.display.start;
     let last = names.display.end;
-    let PairPlaces::At { middle, next } = put_pair(pool, at, &line[start..end], &line[first..last])
+    let TwoTexts::At {
+        second: middle,
+        next,
+    } = put_pair(pool, at, &line[start..end], &line[first..last])
     else {
         return Wrote::NoRoom;
     };

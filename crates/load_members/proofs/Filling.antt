@@ -32,7 +32,7 @@ use Rattle.load_rule.specs.Loading.{mostText}
 use Rattle.load_rule.specs.Fates.{noFates, classLine, faultsFrom, scanOf}
 use Rattle.load_rule.specs.Members.{Entry, Under, under, underAfter, entryIn, entriesFrom, entryText, entryPool, entryRow, entryRows}
 use Rattle.load_rule.proofs.Tally.{fate-class}
-use Rattle.load_rule.proofs.Appended.{join-more, join-append, entry-rows-length, entry-rows-more}
+use Rattle.load_rule.proofs.Appended.{join-more, join-append, rows-length, rows-more}
 use Rattle.load_scan.specs.inner.Bounds.{Within}
 use Rattle.load_scan.proofs.Stepping.{step-told, step-ended, step-faulty}
 use Rattle.load_scan.proofs.Scanning.{Scanning, scan-end, scanned-more}
@@ -53,6 +53,7 @@ use Rattle.load_texts.specs.inner.Places.{EnteredTexts, memberPlaced}
 use Rattle.load_members.specs.inner.Filled.{Holding, Over, members, WrittenAll, CutShort}
 use Rattle.load_texts.proofs.Typing.{written-nothing}
 use Rattle.load_members.proofs.Entering.{entryOf, entry-member, entry-class, entry-neither, under-class, under-neither, under-member, member-counts, member-classed, member-lies, class-lies, entry-text, entry-row}
+use Rattle.load_rule.specs.Laid.{rowsFrom}
 
 -- the rule starts with nothing counted
 pub from-nothing : (ls : List (List ℕ)) → scanOn noFates false ls ≡ scanOf ls
@@ -75,7 +76,7 @@ pub record Filling (s : List ℕ) (rows : List (List ℕ)) (index : List ℕ) (u
 
 pub filling-starts : (s : List ℕ) (rows : List (List ℕ)) (index : List ℕ) (used : ℕ) (m₀ : List (List ℕ)) (p₀ : List ℕ) → length s ≤ mostText → Indexed rows p₀ index used →
     {f : Fates} → f ≡ noFates → {t : Slot} → t ≡ slotAt 0 used 0 0 → Filling s rows index used m₀ p₀ 0 t false f m₀ p₀
-unfolding join entryRows
+unfolding join rowsFrom
 filling-starts s rows index used m₀ p₀ h x g e = rw (g, e) (record {
   short = h;
   scanning = record {
@@ -280,7 +281,7 @@ module _ {s : List ℕ} {rows : List (List ℕ)} {index : List ℕ} {used : ℕ}
             let size = k .rows-size in
             let c = k .counts in
             let l = w .room in
-            let rows-count : t .row ≡ 0 + length (entryRows used (k .done)) = c ∙ sym (entry-rows-length used (k .done)) ∙ sym (zero-add (length (entryRows used (k .done)))) in
+            let rows-count : t .row ≡ 0 + length (entryRows used (k .done)) = c ∙ sym (rows-length entryRow entryText used (k .done)) ∙ sym (zero-add (length (entryRows used (k .done)))) in
             let fits : 0 + length (entryRows used (k .done)) < length m₀ = omega arith in
             let row : List ℕ = packMember (memberPlaced (y .sum .class - 1) (t .place) (w .places) (parts .body)) in
             let texts-are : entryPool (k .done) ++ allTexts texts ≡ entryPool (k .done ++ (entry ∷ [])) =
@@ -295,7 +296,7 @@ module _ {s : List ℕ} {rows : List (List ℕ)} {index : List ℕ} {used : ℕ}
                 rows =
                     ap (λ x. set x (t .row) row) (k .held .rows) ∙ ap (λ x. set (put m₀ 0 (entryRows used (k .done))) x row) rows-count
                     ∙ put-set m₀ 0 (entryRows used (k .done)) row fits
-                    ∙ ap (λ x. put m₀ 0 (entryRows used (k .done) ++ (x ∷ []))) row-is ∙ ap (put m₀ 0) (sym (entry-rows-more used (k .done) entry));
+                    ∙ ap (λ x. put m₀ 0 (entryRows used (k .done) ++ (x ∷ []))) row-is ∙ ap (put m₀ 0) (sym (rows-more entryRow entryText used (k .done) entry));
                 texts = wrote-as (Done (w .places .«end»)) p₀ used p₁ texts-are (wrote-then (Done (w .places .«end»)) (allTexts texts) p₁ (k .held .texts) (it .written));
               };
               counts = ap (λ x. x + 1) c ∙ sym (length-append (k .done) (entry ∷ []));

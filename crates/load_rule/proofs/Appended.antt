@@ -5,9 +5,7 @@ use Prim.Native.Nat.{ℕ, suc, _+_}
 use native.Mathlib.Nat.{add-assoc, add-zero}
 use lib.ListN.{length, length-append}
 use Rattle.ground.specs.Join.{join}
-use Rattle.table_rows.specs.Classes.{Pair}
-use Rattle.load_rule.specs.Classes.{classText, classPool, classRow, classRows}
-use Rattle.load_rule.specs.Members.{Entry, entryText, entryPool, entryRow, entryRows}
+use Rattle.load_rule.specs.Laid.{rowsFrom}
 
 -- texts joined one after the other
 pub join-more : {A : Type 0} (f : A → List ℕ) (xs : List A) (x : A) → join (map f (xs ++ (x ∷ []))) ≡ join (map f xs) ++ f x
@@ -20,30 +18,18 @@ unfolding join
 join-append f [] ys = refl
 join-append f (x ∷ xs) ys = ap (λ l. f x ++ l) (join-append f xs ys) ∙ sym (append-assoc (f x) (join (map f xs)) (join (map f ys)))
 
--- Classes.
-pub class-rows-length : (p : ℕ) (cs : List Pair) → length (classRows p cs) ≡ length cs
-unfolding classRows
-class-rows-length p [] = refl
-class-rows-length p (c ∷ cs) = ap suc (class-rows-length (p + length (classText c)) cs)
+-- Rows.
+module _ {A : Type 0} (row : ℕ → A → List ℕ) (text : A → List ℕ) where
+  pub rows-length : (p : ℕ) (xs : List A) → length (rowsFrom row text p xs) ≡ length xs
+  unfolding rowsFrom
+  rows-length p [] = refl
+  rows-length p (x ∷ xs) = ap suc (rows-length (p + length (text x)) xs)
 
-pub class-rows-more : (p : ℕ) (cs : List Pair) (c : Pair) → classRows p (cs ++ (c ∷ [])) ≡ classRows p cs ++ (classRow (p + length (classPool cs)) c ∷ [])
-unfolding classRows join
-class-rows-more p [] c = ap (λ n. classRow n c ∷ []) (sym (add-zero p))
-class-rows-more p (d ∷ cs) c =
-    ap (λ l. classRow p d ∷ l) (class-rows-more (p + length (classText d)) cs c)
-    ∙ ap (λ n. classRow p d ∷ (classRows (p + length (classText d)) cs ++ (classRow n c ∷ [])))
-    (add-assoc p (length (classText d)) (length (classPool cs)) ∙ ap (λ n. p + n) (sym (length-append (classText d) (classPool cs))))
-
--- Members.
-pub entry-rows-length : (p : ℕ) (es : List Entry) → length (entryRows p es) ≡ length es
-unfolding entryRows
-entry-rows-length p [] = refl
-entry-rows-length p (e ∷ es) = ap suc (entry-rows-length (p + length (entryText e)) es)
-
-pub entry-rows-more : (p : ℕ) (es : List Entry) (e : Entry) → entryRows p (es ++ (e ∷ [])) ≡ entryRows p es ++ (entryRow (p + length (entryPool es)) e ∷ [])
-unfolding entryRows join
-entry-rows-more p [] e = ap (λ n. entryRow n e ∷ []) (sym (add-zero p))
-entry-rows-more p (d ∷ es) e =
-    ap (λ l. entryRow p d ∷ l) (entry-rows-more (p + length (entryText d)) es e)
-    ∙ ap (λ n. entryRow p d ∷ (entryRows (p + length (entryText d)) es ++ (entryRow n e ∷ [])))
-    (add-assoc p (length (entryText d)) (length (entryPool es)) ∙ ap (λ n. p + n) (sym (length-append (entryText d) (entryPool es))))
+  pub rows-more : (p : ℕ) (xs : List A) (x : A) →
+      rowsFrom row text p (xs ++ (x ∷ [])) ≡ rowsFrom row text p xs ++ (row (p + length (join (map text xs))) x ∷ [])
+  unfolding rowsFrom join
+  rows-more p [] x = ap (λ n. row n x ∷ []) (sym (add-zero p))
+  rows-more p (y ∷ xs) x =
+      ap (λ l. row p y ∷ l) (rows-more (p + length (text y)) xs x)
+      ∙ ap (λ n. row p y ∷ (rowsFrom row text (p + length (text y)) xs ++ (row n x ∷ [])))
+      (add-assoc p (length (text y)) (length (join (map text xs))) ∙ ap (λ n. p + n) (sym (length-append (text y) (join (map text xs)))))

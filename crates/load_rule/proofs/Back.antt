@@ -9,6 +9,7 @@ use Rattle.tables.specs.declared.check.Used.{Used}
 use Rattle.tables.specs.Back.{pairOf, readBack}
 use Rattle.tables.proofs.Holding.{Holds, holds-all, holds-first, holds-second}
 use Rattle.load_rule.specs.Classes.{classText, classPool, classRow, classRows}
+use Rattle.load_rule.specs.Laid.{rowsFrom}
 
 same-cons : {x y : Pair} {a b : List Pair} → x ≡ y → a ≡ b → x ∷ a ≡ y ∷ b
 same-cons e f = cc
@@ -18,7 +19,7 @@ module _ (pool : List ℕ) (used : Used) where
   class-back p c h = rw (holds-first (c .raw) (c .display) h .is, holds-second (c .raw) (c .display) h .is)
 
   rows-back : (p : ℕ) (cs : List Pair) → Holds pool used p (classPool cs) → readBack (classRows p cs) pool ≡ cs
-  unfolding classRows join
+  unfolding rowsFrom join
   rows-back p [] h = refl
   rows-back p (c ∷ cs) h =
       same-cons (class-back p c (holds-first (classText c) (classPool cs) h))

@@ -32,12 +32,13 @@ use Rattle.load_rule.specs.Fates.{fatesFrom, ownerless, faultOf, classLi
 use Rattle.load_rule.specs.Classes.{classesOf, classText, classPool, classRow, classRows}
 use Rattle.load_rule.specs.Members.{MemberKind, field, method, Entry, Under, under, underAfter, entryIn, entriesFrom, displayText, entryText, entryPool, kindNumber, ownerAt, entryRow, entryRows}
 use Rattle.load_rule.specs.Loading.{Lent, entriesOf, poolOf, classRowsOf, memberRowsOf, answerOf, linesStr, linesParse, classesLeft, membersLeft, poolLeft}
-use Rattle.load_rule.proofs.Appended.{class-rows-length, entry-rows-length}
+use Rattle.load_rule.proofs.Appended.{rows-length}
 use Rattle.load_rule.proofs.Sums.{fates-sum, class-count, member-count}
 use Rattle.load_rule.proofs.First.{Clean, sound-clean, classes-cons}
 use Rattle.load_rule.specs.Theorems.{Fitted, usedOf}
 use Rattle.load_rule.proofs.Exactly.{loaded-iff, loaded-leaves}
 use Rattle.load_rule.proofs.Octets.{KindOctets, EntryOctets, Entries, no-entry, an-entry, str-texts, parse-texts, pool-texts}
+use Rattle.load_rule.specs.Laid.{rowsFrom}
 
 -- A member's class row: a member line is sound only behind a class line.
 data Below (count : ℕ) : List Entry → Type 0 where
@@ -96,7 +97,7 @@ module _ (pool : List ℕ) (used : Used) where
       (record { raw = holds-fine (holds-first (c .raw) (c .display) h) r; display = holds-fine (holds-second (c .raw) (c .display) h) d })
 
   class-rows-fine : {cs : List Pair} → Pairs cs → (p : ℕ) → Holds pool used p (classPool cs) → allOf (classFine pool used) (classRows p cs) ≡ true
-  unfolding classRows join
+  unfolding rowsFrom join
   class-rows-fine no-pair p h = all-none (classFine pool used)
   class-rows-fine (a-pair {c} {cs} r d ps) p h =
       all-cons (classFine pool used) (classRow p c) (classRows (p + length (classText c)) cs)
@@ -142,7 +143,7 @@ module _ (pool : List ℕ) (used : Used) where
 
   entry-rows-fine : {es : List Entry} → Entries es → Below (used .classes) es → (p : ℕ) → Holds pool used p (entryPool es) →
       allOf (memberFine pool used) (entryRows p es) ≡ true
-  unfolding entryRows join
+  unfolding rowsFrom join
   entry-rows-fine no-entry none-below p h = all-none (memberFine pool used)
   entry-rows-fine (an-entry {e} {es} o q) (below l b) p h =
       all-cons (memberFine pool used) (entryRow p e) (entryRows (p + length (entryText e)) es)
@@ -167,10 +168,10 @@ module _ (s : List ℕ) (ls : List (List ℕ)) (n : Lent) {f : Fates} {names : �
   member-total = ap (λ x. x .field + x .method) (fates-sum ls (fitted .passed .sound) .is) ∙ member-count false (classesOf ls) (under 0 []) ls
 
   class-rows-total : length (classRowsOf ls) ≡ f .class
-  class-rows-total = class-rows-length 0 (classesOf ls) ∙ sym class-total
+  class-rows-total = rows-length classRow classText 0 (classesOf ls) ∙ sym class-total
 
   member-rows-total : length (memberRowsOf ls) ≡ f .field + f .method
-  member-rows-total = entry-rows-length (length (classPool (classesOf ls))) (entriesOf ls) ∙ sym member-total
+  member-rows-total = rows-length entryRow entryText (length (classPool (classesOf ls))) (entriesOf ls) ∙ sym member-total
 
   under-classes : Below (f .class) (entriesOf ls)
   under-classes =

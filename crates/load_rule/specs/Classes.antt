@@ -10,6 +10,7 @@ use Rattle.table_pool.specs.Names.{classDescriptor}
 use Rattle.ground.specs.Join.{join}
 use Rattle.table_rows.specs.Classes.{Pair, pair}
 use Rattle.table_rows.specs.Rows.{text, packClass}
+use Rattle.load_rule.specs.Laid.{rowsFrom}
 
 -- the class of a line, if it is a class line
 abbrev pub classIn : List ℕ → Line → List Pair
@@ -36,6 +37,5 @@ classPool cs = join (map classText cs)
 abbrev pub classRow : ℕ → Pair → List ℕ
 classRow p c = packClass (record { raw = text p (length (c .raw)); display = text (p + length (c .raw)) (length (c .display)) })
 
-unfoldable pub classRows : ℕ → List Pair → List (List ℕ)
-classRows p [] = []
-classRows p (c ∷ cs) = classRow p c ∷ classRows (p + length (classText c)) cs
+abbrev pub classRows : ℕ → List Pair → List (List ℕ)
+classRows p cs = rowsFrom classRow classText p cs

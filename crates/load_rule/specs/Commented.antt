@@ -18,9 +18,10 @@ use Rattle.table_rows.specs.Classes.{shown}
 use Rattle.descriptor.specs.Pieces.{partsFrom}
 use Rattle.load_rule.specs.Comments.{residualIn}
 use Rattle.load_rule.specs.Fates.{fatesFrom, faultsFrom}
-use Rattle.load_rule.specs.Classes.{classesOf, classRows}
-use Rattle.load_rule.specs.Members.{entriesFrom, entryRows}
+use Rattle.load_rule.specs.Classes.{classesOf}
+use Rattle.load_rule.specs.Members.{entriesFrom}
 use Rattle.load_rule.specs.Loading.{Lent, lent, answerOf, linesStr, loadNumbers, poolOf}
+use Rattle.load_rule.specs.Laid.{rowsFrom}
 
 abbrev enough : Lent
 enough = lent 9 9 999
@@ -48,5 +49,5 @@ examples :
     × (poolOf (linesStr two) ≡ ascii "Lx;La;bFn")
     × (loadNumbers (answerOf late (linesStr late) enough) ≡ 0 ∷ 0 ∷ 0 ∷ 4 ∷ 0 ∷ 0 ∷ 1 ∷ 2 ∷ 1 ∷ 0 ∷ 0 ∷ 15 ∷ [])
     × (poolOf (linesStr late) ≡ ascii "Lx;La;Ly;Lc;bIn")
-unfolding ascii rawLines crEnd firstFrom lastFrom numbers.digitsFrom numbers.plain numbers.numberOf runOf trimEnd allWhite piecesFrom sequenceOf afterLead leadOf tails isWhite inRanges whiteRanges commaParts filled checkFrom same baseEnd bracketCount partsFrom join shown residualIn fatesFrom faultsFrom classesOf classRows entriesFrom entryRows utf8 lastOf andThen pastAll structural past shortEscape escape pieceOf charsFrom stringOf pastWord flatOf afterItem itemsOf insideOf enclosedOf memberOf nestedOf valueOf membersOf
+unfolding ascii rawLines crEnd firstFrom lastFrom numbers.digitsFrom numbers.plain numbers.numberOf runOf trimEnd allWhite piecesFrom sequenceOf afterLead leadOf tails isWhite inRanges whiteRanges commaParts filled checkFrom same baseEnd bracketCount partsFrom join shown residualIn fatesFrom faultsFrom classesOf rowsFrom entriesFrom utf8 lastOf andThen pastAll structural past shortEscape escape pieceOf charsFrom stringOf pastWord flatOf afterItem itemsOf insideOf enclosedOf memberOf nestedOf valueOf membersOf
 examples = (refl, refl, refl, refl, refl)

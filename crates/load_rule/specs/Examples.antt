@@ -19,9 +19,10 @@ use Rattle.load_rule.specs.declared.Load.{Load}
 use Rattle.load_rule.specs.declared.Load.the-variants.{Faulty, NoClasses, FewClassRows, FewMemberRows, ShortPool}
 use Rattle.load_rule.specs.Comments.{residualIn}
 use Rattle.load_rule.specs.Fates.{fatesFrom, faultsFrom}
-use Rattle.load_rule.specs.Classes.{classesOf, classRows}
-use Rattle.load_rule.specs.Members.{entriesFrom, entryRows}
+use Rattle.load_rule.specs.Classes.{classesOf}
+use Rattle.load_rule.specs.Members.{entriesFrom}
 use Rattle.load_rule.specs.Loading.{Lent, lent, answerOf, linesStr, loadNumbers, classRowsOf, memberRowsOf, poolOf}
+use Rattle.load_rule.specs.Laid.{rowsFrom}
 
 -- the answer for a text, where so much is lent
 abbrev loads : String → Lent → Load
@@ -48,5 +49,5 @@ examples :
     ≡ (0 ∷ 0 ∷ 11 ∷ 1 ∷ 12 ∷ 1 ∷ 13 ∷ 1 ∷ 0 ∷ 0 ∷ 0 ∷ 0 ∷ 0 ∷ 0 ∷ 0 ∷ [])
     ∷ (1 ∷ 0 ∷ 14 ∷ 1 ∷ 15 ∷ 6 ∷ 21 ∷ 3 ∷ 24 ∷ 8 ∷ 2 ∷ 1 ∷ 3 ∷ 10 ∷ 12 ∷ [])
     ∷ [])
-unfolding ascii rawLines crEnd firstFrom lastFrom digitsFrom plain numberOf runOf trimEnd allWhite piecesFrom sequenceOf afterLead leadOf tails isWhite inRanges whiteRanges commaParts filled checkFrom same baseEnd bracketCount partsFrom join shown residualIn fatesFrom faultsFrom classesOf classRows entriesFrom entryRows
+unfolding ascii rawLines crEnd firstFrom lastFrom digitsFrom plain numberOf runOf trimEnd allWhite piecesFrom sequenceOf afterLead leadOf tails isWhite inRanges whiteRanges commaParts filled checkFrom same baseEnd bracketCount partsFrom join shown residualIn fatesFrom faultsFrom classesOf rowsFrom entriesFrom
 examples = (refl, refl, refl, refl, refl, refl, refl, refl, refl, refl, refl, refl, refl)

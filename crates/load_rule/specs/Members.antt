@@ -23,6 +23,7 @@ use Rattle.table_rows.specs.declared.rows.Ranges.the-variants.{None, Display, B
 use Rattle.table_rows.specs.Rows.{text, packMember}
 use Rattle.descriptor.specs.Raw.{rawTypeOf}
 use Rattle.load_rule.specs.Comments.{residualIn}
+use Rattle.load_rule.specs.Laid.{rowsFrom}
 
 -- the raw descriptor of a field: that of its residual signature, else that of its display type
 abbrev pub fieldDescriptor : List Pair → Look → List ℕ → List ℕ
@@ -155,6 +156,5 @@ entryRow p e =
       ranges = kindRanges (e .kind);
     })
 
-unfoldable pub entryRows : ℕ → List Entry → List (List ℕ)
-entryRows p [] = []
-entryRows p (e ∷ es) = entryRow p e ∷ entryRows (p + length (entryText e)) es
+abbrev pub entryRows : ℕ → List Entry → List (List ℕ)
+entryRows p es = rowsFrom entryRow entryText p es

@@ -22,8 +22,8 @@ use Rattle.table_pool.specs.Names.{classDescriptor}
 use Rattle.descriptor.specs.Signatures.{rawSignature}
 use Rattle.ground.specs.Look.{Look, known, unknown}
 use Rattle.table_rows.specs.Classes.{Pair}
-use Rattle.table_pool.specs.inner.Wrote.{Written, WroteBy}
-use Rattle.table_pool.proofs.Writes.{written-length, wrote-told, wrote-none, wrote-then, none-then, wrote-as}
+use Rattle.table_pool.specs.inner.Wrote.{WroteBy, TwoAt, TwoBy}
+use Rattle.table_pool.proofs.Writes.{written-length, wrote-told, wrote-then, wrote-as, two-no-first, two-no-second, two-done, two-told, two-none}
 use Rattle.tables.specs.Back.{readBack}
 use Rattle.descriptor.specs.Raw.{rawTypeOf}
 use Rattle.load_raw_types.specs.inner.Marks.{Indexed}
@@ -38,9 +38,9 @@ use Rattle.load_texts.specs.declared.texts.Body.the-variants.{Field, Met
 use Rattle.load_texts.specs.declared.texts.MemberLine.{MemberLine}
 use Rattle.load_texts.specs.declared.texts.Entered.the-variants as entered
 use Rattle.load_texts.specs.inner.Texts.{BodyIn, MemberIn, isMethod, displayTypes, descriptorText, ownerText, MemberTexts, allTexts}
-use Rattle.load_texts.specs.declared.texts.TwoTexts.{TwoTexts}
-use Rattle.load_texts.specs.declared.texts.TwoTexts.the-variants as two
-use Rattle.load_texts.specs.inner.Places.{TwoAt, TwoBy, EnteredTexts}
+use Rattle.table_pool.specs.declared.write.TwoTexts.{TwoTexts}
+use Rattle.table_pool.specs.declared.write.TwoTexts.the-variants as two
+use Rattle.load_texts.specs.inner.Places.{EnteredTexts}
 use Rattle.load_texts.proofs.Typing.{indexed-after}
 
 -- Parts of a body lie in its line.
@@ -136,25 +136,6 @@ module _ (s : List ℕ) {r : Residual} (g : Gives s r (residualIn (lines s))) wh
 
 pub ruleset describing = (json-order, json-inside, descriptor-signed, descriptor-displayed, needs)
 
--- Two texts, one after the other.
-module _ (d : List ℕ) (at : ℕ) (a b : List ℕ) (r : Wrote) (d₁ : List ℕ) (w : WroteBy r d at a d₁) where
-  pub two-no-first : r ≡ NoRoom → length d < at + length (a ++ b)
-  two-no-first e = none-then d at a b (wrote-none r d at a d₁ w e)
-
-  module _ {m : ℕ} (e : r ≡ Done m) (r₂ : Wrote) (d₂ : List ℕ) (v : WroteBy r₂ d₁ m b d₂) where
-    first : Written m d at a d₁
-    first = wrote-told r d at a d₁ w e
-
-    pub two-no-second : r₂ ≡ NoRoom → length d < at + length (a ++ b)
-    two-no-second f = wrote-none r₂ d at (a ++ b) d₂ (wrote-then r₂ b d₂ first v) f
-
-    pub two-done : {q : ℕ} → r₂ ≡ Done q → TwoAt m q d at a b d₂
-    two-done f = record {
-      second = first .past;
-      next = wrote-told r₂ d₁ m b d₂ v f .past;
-      written = wrote-told r₂ d at (a ++ b) d₂ (wrote-then r₂ b d₂ first v) f;
-    }
-
 -- The parts of a member line lie in it.
 module _ {m : MemberLine} {n : ℕ} (i : MemberIn m n) where
   pub raw-order : m .raw .start ≤ m .raw .«end»
@@ -190,12 +171,6 @@ module _ (rows : List (List ℕ)) (index d : List ℕ) (at : ℕ) (x : Indexed r
 pub ruleset raw-part = (raw-order, raw-inside, body-inside, two-no-first, indexed-after, raw-no-second, raw-done, needs)
 
 -- Both parts.
-two-told : (r : TwoTexts) (d : List ℕ) (at : ℕ) (a b d₁ : List ℕ) {m q : ℕ} → TwoBy r d at a b d₁ → r ≡ two.At m q → TwoAt m q d at a b d₁
-two-told r d at a b d₁ w e = rw e at w
-
-two-none : (r : TwoTexts) (d : List ℕ) (at : ℕ) (a b d₁ : List ℕ) → TwoBy r d at a b d₁ → r ≡ two.NoRoom → length d < at + length (a ++ b)
-two-none r d at a b d₁ w e = rw e at w
-
 abbrev four : List ℕ → List ℕ → List ℕ → List ℕ → MemberTexts
 four a b c e = record { raw = a; descriptor = b; name = c; owner = e }
 

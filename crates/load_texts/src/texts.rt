@@ -6,6 +6,7 @@ use line_parts::Qualified;
 use load_raw_types::put_raw_type;
 use load_residual::Residual;
 use load_residual::residual_after;
+use table_pool::TwoTexts;
 use table_pool::Wrote;
 use table_pool::put_class;
 use table_pool::put_text;
@@ -15,12 +16,12 @@ ghost use mathlib.Core.Path.{_≡_};
 ghost use lib.ListN.{length};
 ghost use Rattle.text_places.specs.Lines.{lines};
 ghost use Rattle.text_places.specs.Spans.{partOf};
-ghost use Rattle.table_pool.specs.inner.Wrote.{WroteBy};
+ghost use Rattle.table_pool.specs.inner.Wrote.{WroteBy, TwoBy};
 ghost use Rattle.tables.specs.Back.{readBack};
 ghost use Rattle.load_raw_types.specs.inner.Marks.{Indexed};
 ghost use Rattle.load_rule.specs.Comments.{residualIn};
 ghost use Rattle.load_texts.specs.inner.Texts.{BodyIn, MemberIn, isMethod, displayTypes, descriptorText, ownerText, textsOf};
-ghost use Rattle.load_texts.specs.inner.Places.{TwoBy, EnteredTextsBy};
+ghost use Rattle.load_texts.specs.inner.Places.{EnteredTextsBy};
 
 // What only a field has, and what only a method has.
 pub enum Body {
@@ -46,12 +47,6 @@ pub struct Places {
 
 pub enum Entered {
     At(Places),
-    NoRoom,
-}
-
-// Two texts are written: where the second one starts, and the place after it.
-pub enum TwoTexts {
-    At { second: usize, next: usize },
     NoRoom,
 }
 

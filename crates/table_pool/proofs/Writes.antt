@@ -15,7 +15,9 @@ use Rattle.ground.specs.Put.{put}
 use Rattle.ground.proofs.PutLaws.{paste-put, put-put, length-put}
 use Rattle.table_pool.specs.declared.write.Wrote.{Wrote}
 use Rattle.table_pool.specs.declared.write.Wrote.the-variants.{Done, NoRoom}
-use Rattle.table_pool.specs.inner.Wrote.{Written, WroteBy}
+use Rattle.table_pool.specs.declared.write.TwoTexts.{TwoTexts}
+use Rattle.table_pool.specs.declared.write.TwoTexts.the-variants as two
+use Rattle.table_pool.specs.inner.Wrote.{Written, WroteBy, TwoAt, TwoBy}
 
 -- the first `k` of the bytes `b` are written
 pub record Pasting (d : List ℕ) (at : ℕ) (b room : List ℕ) (k : ℕ) : Type 0 where
@@ -139,3 +141,28 @@ wrote-then NoRoom {a = a} b d₂ w v = let n = length-append a b in let l = writ
 
 pub none-then : (d : List ℕ) (at : ℕ) (a b : List ℕ) → length d < at + length a → length d < at + length (a ++ b)
 none-then d at a b h = omega (arith, length-append a b)
+
+-- Two texts, one after the other.
+module _ (d : List ℕ) (at : ℕ) (a b : List ℕ) (r : Wrote) (d₁ : List ℕ) (w : WroteBy r d at a d₁) where
+  pub two-no-first : r ≡ NoRoom → length d < at + length (a ++ b)
+  two-no-first e = none-then d at a b (wrote-none r d at a d₁ w e)
+
+  module _ {m : ℕ} (e : r ≡ Done m) (r₂ : Wrote) (d₂ : List ℕ) (v : WroteBy r₂ d₁ m b d₂) where
+    first : Written m d at a d₁
+    first = wrote-told r d at a d₁ w e
+
+    pub two-no-second : r₂ ≡ NoRoom → length d < at + length (a ++ b)
+    two-no-second f = wrote-none r₂ d at (a ++ b) d₂ (wrote-then r₂ b d₂ first v) f
+
+    pub two-done : {q : ℕ} → r₂ ≡ Done q → TwoAt m q d at a b d₂
+    two-done f = record {
+      second = first .past;
+      next = wrote-told r₂ d₁ m b d₂ v f .past;
+      written = wrote-told r₂ d at (a ++ b) d₂ (wrote-then r₂ b d₂ first v) f;
+    }
+
+pub two-told : (r : TwoTexts) (d : List ℕ) (at : ℕ) (a b d₁ : List ℕ) {m q : ℕ} → TwoBy r d at a b d₁ → r ≡ two.At m q → TwoAt m q d at a b d₁
+two-told r d at a b d₁ w e = rw e at w
+
+pub two-none : (r : TwoTexts) (d : List ℕ) (at : ℕ) (a b d₁ : List ℕ) → TwoBy r d at a b d₁ → r ≡ two.NoRoom → length d < at + length (a ++ b)
+two-none r d at a b d₁ w e = rw e at w

@@ -9,6 +9,7 @@ pub use names::put_name;
 pub use names::put_piece;
 pub use names::slash_for_dot;
 pub use names::stored_byte;
+pub use write::TwoTexts;
 pub use write::Wrote;
 pub use write::put_bytes;
 pub use write::put_copy;

@@ -9,6 +9,12 @@ pub enum Wrote {
     NoRoom,
 }
 
+// Two texts are written one after the other: where the second one starts, and the place after it.
+pub enum TwoTexts {
+    At { second: usize, next: usize },
+    NoRoom,
+}
+
 // A text as it is.
 pub fn put_text(pool: &mut [u8], at: usize, text: &[u8]) -> Wrote
     ensures { λ r. ⌜ WroteBy r (now (pool .entry)) at (now (text .entry)) (now (pool .exit)) ⌝ }

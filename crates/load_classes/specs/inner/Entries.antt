@@ -9,18 +9,7 @@ use Rattle.table_rows.specs.Classes.{Pair}
 use Rattle.table_pool.specs.inner.Wrote.{Written}
 use Rattle.load_raw_types.specs.inner.Marks.{markOf, chained}
 use Rattle.load_rule.specs.Classes.{classText, classRow}
-use Rattle.load_classes.specs.declared.entry.PairPlaces.{PairPlaces}
-use Rattle.load_classes.specs.declared.entry.PairPlaces.the-variants.{At, NoRoom}
-
--- the texts `a` and `b` are written into the pool `d` at the place `at`: `m` is where the second one starts, and `q` the place after it
-pub record PairAt (m q : ℕ) (d : List ℕ) (at : ℕ) (a b d₁ : List ℕ) : Type 0 where
-  pub second : m ≡ at + length a
-  pub after : q ≡ m + length b
-  pub written : Written q d at (a ++ b) d₁
-
-abbrev pub PairBy : PairPlaces → List ℕ → ℕ → List ℕ → List ℕ → List ℕ → Type 0
-PairBy (At m q) d at a b d₁ = PairAt m q d at a b d₁
-PairBy NoRoom d at a b d₁ = length d < at + length (a ++ b)
+use Rattle.table_pool.specs.declared.write.TwoTexts.the-variants.{NoRoom}
 
 -- The class `k` is the row `count` of the rows `c`, its descriptors stand in the pool `p` from the place `at` to the place `q`, and the index `i` has
 -- it as the last row with its mark. With `₁`: after that.

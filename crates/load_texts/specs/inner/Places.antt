@@ -13,19 +13,8 @@ use Rattle.load_texts.specs.declared.texts.Body.the-variants.{Field, Met
 use Rattle.load_texts.specs.declared.texts.Places.{Places}
 use Rattle.load_texts.specs.declared.texts.Entered.{Entered}
 use Rattle.load_texts.specs.declared.texts.Entered.the-variants.{At, NoRoom}
-use Rattle.load_texts.specs.declared.texts.TwoTexts.{TwoTexts}
-use Rattle.load_texts.specs.declared.texts.TwoTexts.the-variants as two
+use Rattle.table_pool.specs.declared.write.TwoTexts.the-variants as two
 use Rattle.load_texts.specs.inner.Texts.{MemberTexts, allTexts}
-
--- the texts `a` and `b` are written into the pool `d` at the place `at`: `m` is where the second one starts, and `q` the place after it
-pub record TwoAt (m q : ℕ) (d : List ℕ) (at : ℕ) (a b d₁ : List ℕ) : Type 0 where
-  pub second : m ≡ at + length a
-  pub next : q ≡ m + length b
-  pub written : Written q d at (a ++ b) d₁
-
-abbrev pub TwoBy : TwoTexts → List ℕ → ℕ → List ℕ → List ℕ → List ℕ → Type 0
-TwoBy (two.At m q) d at a b d₁ = TwoAt m q d at a b d₁
-TwoBy two.NoRoom d at a b d₁ = length d < at + length (a ++ b)
 
 -- the places `q` of the texts `t`, which stand from `at` on
 pub record Placed (q : Places) (at : ℕ) (t : MemberTexts) : Type 0 where

@@ -3,11 +3,14 @@ use Rattle.load_members.proofs.Slots.{line-slots}
 use Rattle.load_members.proofs.enter.enter_line.Statement.{statement}
 use Rattle.load_members.proofs.enter.enter_line.Tie as tie
 
+role-of-requires : tie.Need-role-of-requires
+role-of-requires c κs = search line-slots
+
 enum-told : tie.Need-enum-told
 enum-told c = search line-slots
 
-enum-known-role : tie.Need-enum-known-role
-enum-known-role c = search line-slots
+enum-known-display : tie.Need-enum-known-display
+enum-known-display c = search line-slots
 
 add-named : tie.Need-add-named
 add-named c = search line-slots
@@ -15,8 +18,8 @@ add-named c = search line-slots
 add-named-2 : tie.Need-add-named-2
 add-named-2 c = search line-slots
 
-enum-known-role-2 : tie.Need-enum-known-role-2
-enum-known-role-2 c = search line-slots
+enum-known-parts : tie.Need-enum-known-parts
+enum-known-parts c = search line-slots
 
 enter-member-requires : tie.Need-enter-member-requires
 enter-member-requires c κs = search line-slots
@@ -40,11 +43,12 @@ pub enter-line-spec : {M : Type 1} → statement M
 enter-line-spec =
     tie.close
     (tie.spec
+    role-of-requires
     enum-told
-    enum-known-role
+    enum-known-display
     add-named
     add-named-2
-    enum-known-role-2
+    enum-known-parts
     enter-member-requires
     returns
     returns-2

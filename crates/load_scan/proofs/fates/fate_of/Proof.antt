@@ -18,6 +18,9 @@ comment-fate-requires c κs = search fating
 returns : tie.Need-returns
 returns c = search fating
 
+comment-fate-requires-2 : tie.Need-comment-fate-requires-2
+comment-fate-requires-2 c κs = search fating
+
 enum-told-2 : tie.Need-enum-told-2
 enum-told-2 c = search fating
 
@@ -60,6 +63,7 @@ fate-of-spec =
     gives-signature-requires
     comment-fate-requires
     returns
+    comment-fate-requires-2
     enum-told-2
     enum-told-3
     enum-known-kind-2
