@@ -27,13 +27,12 @@ module _ (s : List ℕ) (ls : List (List ℕ)) (n : Lent) {f : Fates} {names : �
   pub used-inside : names ≤ length pool
   used-inside =
       let accepted : answerOf s ls n ≡ Loaded f names = sym a ∙ l in
-      let left : pool ≡ poolOf ls ++ replicate (n .pool - length (poolOf ls)) 0 = p ∙ loaded-leaves s ls n accepted .2 in
-      let size : length pool ≡ length (poolOf ls) + length (replicate (n .pool - length (poolOf ls)) 0) =
-      ap length left ∙ length-append (poolOf ls) (replicate (n .pool - length (poolOf ls)) 0) in
+      let rest : List ℕ = replicate (n .pool - length (poolOf ls)) 0 in
+      let size : length pool ≡ length (poolOf ls) + length rest = ap length (p ∙ loaded-leaves s ls n accepted .2) ∙ length-append (poolOf ls) rest in
       let named = loaded-iff s ls n f names .0 accepted .named in
       omega arith
 
   pub used-part : names ≡ length (take names pool)
   used-part = prefix-whole pool names used-inside
 
-pub ruleset using = (line-inside, line-part, used-inside, used-part, needs)
+pub ruleset writing = (line-inside, line-part, used-inside, used-part, needs)
