@@ -1,9 +1,9 @@
 -- The line and the used pool are parts of what they were written to. Assumes nothing.
 use mathlib.Core.Path.{_≡_, sym, _∙_, ap}
-use mathlib.Core.List.{List, _++_}
+use mathlib.Core.List.{List}
 use Prim.Native.Nat.{ℕ, _+_, _-_, _≤_}
 use native.Mathlib.Omega.{arith}
-use lib.ListN.{length, take, replicate, length-append, length-replicate}
+use lib.ListN.{length, take, replicate, length-append}
 use borrow.Author.Needs.{needs}
 use Rattle.ground.proofs.Parts.{prefix-whole}
 use Rattle.table_pool.specs.inner.Wrote.{Written}
@@ -28,7 +28,8 @@ module _ (s : List ℕ) (ls : List (List ℕ)) (n : Lent) {f : Fates} {names : �
   used-inside =
       let accepted : answerOf s ls n ≡ Loaded f names = sym a ∙ l in
       let rest : List ℕ = replicate (n .pool - length (poolOf ls)) 0 in
-      let size : length pool ≡ length (poolOf ls) + length rest = ap length (p ∙ loaded-leaves s ls n accepted .2) ∙ length-append (poolOf ls) rest in
+      let size : length pool ≡ length (poolOf ls) + length rest =
+      ap length (p ∙ loaded-leaves s ls n accepted .2) ∙ length-append (poolOf ls) rest in
       let named = loaded-iff s ls n f names .0 accepted .named in
       omega arith
 
