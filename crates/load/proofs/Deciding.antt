@@ -23,7 +23,7 @@ use Rattle.load_rule.specs.Loading.{entriesOf, poolOf, scanned, linesLoad, most
 use Rattle.load_rule.specs.Members.{under}
 use Rattle.load_rule.proofs.Sums.{fates-sum, class-count, member-count}
 use Rattle.load_scan.specs.inner.Bounds.{Within}
-use Rattle.load_scan.proofs.Scanning.{scanOn}
+use Rattle.load_scan.specs.inner.Steps.{scanOn}
 use Rattle.load_members.proofs.Filling.{from-nothing}
 use Rattle.load.specs.inner.Into.{Counted, missing, refusedOf, acceptedOf}
 

@@ -19,7 +19,7 @@ ghost use Prim.Native.Nat.{_≤_};
 ghost use lib.ListN.{length, drop};
 ghost use Rattle.text_places.specs.Lines.{lines};
 ghost use Rattle.load_rule.specs.Loading.{isLoaded, linesParse, linesStr, lent, answerOf, classesLeft, membersLeft, poolLeft, mostText};
-ghost use Rattle.load.specs.inner.Left.{Cleared, Left};
+ghost use Rattle.load.specs.inner.Left.{Cleared, Left, Leaving};
 
 fn is_loaded(load: Load) -> bool
     ensures { λ r. ⌜ r ≡ isLoaded load ⌝ }
@@ -94,12 +94,10 @@ fn load_from(
     requires { ⌜ start ≤ length (now text) ⌝ }
     ensures { λ r.
         let s = now (text .entry) in
-        let ls = lines (drop start s) in
-        let room = lent (length (now (classes .entry))) (length (now (members .entry))) (length (now (pool .entry))) in
-        ⌜ (r ≡ answerOf s ls room)
-        × (now (classes .exit) ≡ classesLeft s ls room)
-        × (now (members .exit) ≡ membersLeft s ls room)
-        × (now (pool .exit) ≡ poolLeft s ls room) ⌝ }
+        let c = length (now (classes .entry)) in
+        let m = length (now (members .entry)) in
+        let p = length (now (pool .entry)) in
+        ⌜ Leaving r s (lines (drop start s)) c m p (now (classes .exit)) (now (members .exit)) (now (pool .exit)) ⌝ }
 {
     if MOST_TEXT < text.len() {
         clear(classes, members, pool);

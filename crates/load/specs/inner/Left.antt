@@ -5,7 +5,7 @@ use Prim.Native.Nat.{ℕ}
 use lib.ListN.{replicate}
 use Rattle.table_rows.specs.Rows.{zeroClass, zeroMember}
 use Rattle.load_rule.specs.declared.Load.{Load}
-use Rattle.load_rule.specs.Loading.{lent, counting, linesLoad, leaves, classRowsOf, memberRowsOf, poolOf}
+use Rattle.load_rule.specs.Loading.{lent, counting, linesLoad, leaves, classRowsOf, memberRowsOf, poolOf, answerOf, classesLeft, membersLeft, poolLeft}
 
 -- all is zero
 pub record Cleared (nc nm np : ℕ) (c m : List (List ℕ)) (p : List ℕ) : Type 0 where
@@ -19,3 +19,10 @@ pub record Left (r : Load) (ls : List (List ℕ)) (nc nm np : ℕ) (c m : List (
   pub classes : c ≡ leaves zeroClass nc r (classRowsOf ls)
   pub members : m ≡ leaves zeroMember nm r (memberRowsOf ls)
   pub pool : p ≡ leaves 0 np r (poolOf ls)
+
+-- what loading the text `s`, whose lines are `ls`, answers and leaves
+pub record Leaving (r : Load) (s : List ℕ) (ls : List (List ℕ)) (nc nm np : ℕ) (c m : List (List ℕ)) (p : List ℕ) : Type 0 where
+  pub answer : r ≡ answerOf s ls (lent nc nm np)
+  pub classes : c ≡ classesLeft s ls (lent nc nm np)
+  pub members : m ≡ membersLeft s ls (lent nc nm np)
+  pub pool : p ≡ poolLeft s ls (lent nc nm np)

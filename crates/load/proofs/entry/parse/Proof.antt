@@ -1,5 +1,5 @@
 -- `load::entry::parse` meets its contract, by the laws of Answering.
-use Rattle.load.proofs.Answering.{marking}
+use Rattle.load.proofs.Answering.{marks-dropped, marking}
 use Rattle.load.proofs.entry.parse.Statement.{statement}
 use Rattle.load.proofs.entry.parse.Tie as tie
 
@@ -19,7 +19,7 @@ same-length-3 : tie.Need-same-length-3
 same-length-3 c = search marking
 
 returns : tie.Need-returns
-returns c = search marking
+returns c = let l = marks-dropped _ (c .before .before .before .before .before .before .before .before .after-marks .ensures) _ _ _ (c .before .before .before .before .load-from .ensures) in (l .answer, l .classes, l .members, l .pool)
 
 pub parse-spec : {M : Type 1} → statement M
 parse-spec =
