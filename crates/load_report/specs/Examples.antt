@@ -3,12 +3,16 @@ use mathlib.Core.Path.{_≡_, refl}
 use mathlib.Core.List.{_++_}
 use Rattle.ground.specs.Ascii.{ascii}
 use Rattle.load_rule.specs.declared.Load.the-variants.{Loaded, TooLong, NotUtf8, Faulty, NoClasses}
-use Rattle.load_rule.specs.Fates.{fates}
+use Rattle.load_rule.specs.declared.Fates.{Fates}
 use Rattle.load_report.specs.Digits.{decimalFrom, decimal}
 use Rattle.load_report.specs.Report.{lineEnd, reportOf}
 
+-- what became of the lines of document 01's example
+abbrev five : Fates
+five = record { lines = 5; blank = 1; applied = 1; idle = 0; class = 1; field = 1; method = 1; short = 0 }
+
 examples :
-    (reportOf (Loaded (fates 5 1 1 0 1 1 1 0) 32) ≡ ascii "loaded lines 5 blank 1 applied 1 idle 0 class 1 field 1 method 1 short 0 names 32" ++ lineEnd)
+    (reportOf (Loaded five 32) ≡ ascii "loaded lines 5 blank 1 applied 1 idle 0 class 1 field 1 method 1 short 0 names 32" ++ lineEnd)
     × (reportOf (Faulty 4 1) ≡ ascii "refused 4 line 1" ++ lineEnd)
     × (reportOf (NotUtf8 1 1) ≡ ascii "refused 2 at 1 length 1" ++ lineEnd)
     × (reportOf NoClasses ≡ ascii "refused 8 line 0" ++ lineEnd)
