@@ -1,8 +1,8 @@
--- The program stays within its slices and ends. Assumes nothing.
+-- The program stays within its room. Assumes nothing.
 use mathlib.Core.Path.{_≡_, refl, sym, _∙_}
 use mathlib.Core.Bool.{Bool, true, false}
 use mathlib.Core.List.{List}
-use Prim.Native.Nat.{ℕ, _+_, _-_, _≤_, _<_}
+use Prim.Native.Nat.{ℕ, _+_, _≤_}
 use native.Mathlib.Omega.{arith}
 use lib.Dec.{leb}
 use lib.ListN.{length, take}
@@ -12,45 +12,17 @@ use Rattle.ground.specs.Choice.{pick}
 use Rattle.ground.specs.Put.{put}
 use Rattle.ground.proofs.Parts.{prefix-whole}
 use Rattle.ground.proofs.PutLaws.{length-put}
-use Rattle.text_places.specs.declared.lines.NextLine.{NextLine}
-use Rattle.text_places.specs.declared.lines.NextLine.the-variants.{Line}
-use Rattle.text_places.specs.inner.NextLine.{nextLine}
-use Rattle.text_places.proofs.Taking.{Taking, line-past, line-inside, line-falls, line-starts, line-ends}
 use Rattle.json_grammar.specs.Reader.{Out, got, bad}
 use Rattle.json_decode.specs.Decoded.{writtenOf, roomOf}
 use Rattle.json_decode.specs.declared.write.Written.{Written}
 use Rattle.json_decode.specs.declared.write.Written.the-variants.{Done, NoRoom}
 
--- the first case from a line on is looked for line by line
-pub record Seeking (s : List ℕ) («from» at : ℕ) : Type 0 where
-  pub past : «from» ≤ at
-  pub inside : at ≤ length s
-
-pub seeking-starts : (s : List ℕ) («from» : ℕ) → «from» ≤ length s → Seeking s «from» «from»
-seeking-starts s f h = omega arith
-
-pub seeking-next :
-    (s : List ℕ) {«from» at a e n : ℕ} {t : NextLine} → Seeking s «from» at → t ≡ nextLine s at → t ≡ Line a e n → Seeking s «from» n
-seeking-next s {at = at} k p q = let h = line-past s at p q in let i = line-inside s at p q in omega arith
-
-pub ruleset seeking = (seeking-starts, seeking-next, line-falls, needs)
-
--- the next case stands after the line that opens this one
-pub case-falls :
-    (s : List ℕ) {at a e n next : ℕ} {t : NextLine} → t ≡ nextLine s at → t ≡ Line a e n → n ≤ next → at < length s →
-    length s - next < length s - at
-case-falls s {at = at} p q i h = let l = line-past s at p q in omega arith
-
-pub case-next : (s : List ℕ) {next : ℕ} → next ≤ length s → Taking s next
-case-next s h = record { inside = h }
-
-pub ruleset taking = (line-inside, line-starts, line-ends, case-falls, case-next, needs)
-
 -- what is written ends inside the room
 ends-inside : (o : Out (List ℕ)) (at : ℕ) (d : List ℕ) {n : ℕ} → writtenOf o at (length d) ≡ Done n → n ≤ length (roomOf o at d)
 ends-inside (got v r) at d {n} = go (leb (at + length v) (length d)) refl
   where
-    go : (b : Bool) → leb (at + length v) (length d) ≡ b → pick b (Done (at + length v)) NoRoom ≡ Done n → n ≤ length (pick b (put d at v) d)
+    go : (b : Bool) → leb (at + length v) (length d) ≡ b → pick b (Done (at + length v)) NoRoom ≡ Done n →
+        n ≤ length (pick b (put d at v) d)
     go true p e =
         let h = leb-true (at + length v) (length d) p in
         let same : at + length v ≡ n = cc in

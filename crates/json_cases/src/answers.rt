@@ -1,5 +1,4 @@
 // What is written for a case.
-use crate::say;
 use json_comment::Comment;
 use json_comment::Stands;
 use json_decode::Written;
@@ -9,20 +8,20 @@ fn text(document: &[u8], start: usize) {
     let mut room = io::buffer();
     match json_decode::decode_at(&mut room, 0, document, start) {
         Written::Done(n) => {
-            say::words(b"text ");
-            say::decimal(n);
-            say::words(b" ");
-            say::words(&room[..n]);
+            replay::words(b"text ");
+            replay::decimal(n);
+            replay::words(b" ");
+            replay::words(&room[..n]);
         }
-        Written::NoRoom => say::words(b"text too long"),
-        Written::NoString => say::words(b"text unread"),
+        Written::NoRoom => replay::words(b"text too long"),
+        Written::NoString => replay::words(b"text unread"),
     }
 }
 
 fn member(document: &[u8], stands: Stands) {
     match stands {
-        Stands::Missing => say::words(b"missing"),
-        Stands::Other => say::words(b"other"),
+        Stands::Missing => replay::words(b"missing"),
+        Stands::Other => replay::words(b"other"),
         Stands::Text(start) => text(document, start),
     }
 }
@@ -31,19 +30,19 @@ fn member(document: &[u8], stands: Stands) {
 fn residual(document: &[u8], id: Stands) {
     if let Stands::Text(start) = id {
         if json_comment::is_residual(document, start) {
-            say::words(b" (residual)");
+            replay::words(b" (residual)");
         }
     }
 }
 
 pub fn answer(document: &[u8]) {
     match json_comment::read_comment(document) {
-        Comment::Unreadable => say::words(b"unreadable"),
+        Comment::Unreadable => replay::words(b"unreadable"),
         Comment::Readable { id, signature } => {
-            say::words(b"id ");
+            replay::words(b"id ");
             member(document, id);
             residual(document, id);
-            say::words(b", signature ");
+            replay::words(b", signature ");
             member(document, signature);
         }
     }

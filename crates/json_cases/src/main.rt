@@ -10,25 +10,16 @@ use libc::STDIN_FILENO;
 use text_places::NextLine;
 
 mod answers;
-mod documents;
-mod say;
 
-// The name of a case, from the line that opens it.
-fn name(line: &[u8]) {
-    if 2 <= line.len() {
-        say::words(&line[2..]);
-    }
-}
-
-fn replay(line: &[u8], document: &[u8]) {
-    name(line);
-    say::words(b": ");
+fn replay_case(line: &[u8], document: &[u8]) {
+    replay::case_name(line);
+    replay::words(b": ");
     answers::answer(document);
-    say::words(b"\n");
+    replay::words(b"\n");
 }
 
 fn each_case(s: &[u8]) {
-    let mut at = documents::case_from(s, 0);
+    let mut at = replay::case_from(s, 0);
     while at < s.len() {
         let NextLine::Line {
             start: _,
@@ -38,9 +29,9 @@ fn each_case(s: &[u8]) {
         else {
             return;
         };
-        let next = documents::case_from(s, start);
-        let stop = documents::document_end(s, start, next);
-        replay(&s[at..end], &s[start..stop]);
+        let next = replay::case_from(s, start);
+        let stop = replay::document_end(s, start, next);
+        replay_case(&s[at..end], &s[start..stop]);
         at = next;
     }
 }

@@ -19,7 +19,7 @@ fn replay(line: &[u8]) {
         return;
     }
     if line[0] == b'#' {
-        say::words(line);
+        replay::words(line);
         say::line_end();
         return;
     }

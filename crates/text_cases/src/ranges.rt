@@ -1,5 +1,4 @@
 // Cases of numbers and of ranges.
-use crate::say;
 use number::LeadingRange;
 use number::Number;
 use number::TrailingRange;
@@ -7,25 +6,25 @@ use text_places::Place;
 
 fn number_case(s: &[u8]) {
     match number::read_number(s) {
-        Number::Value(v) => say::decimal(v as usize),
-        Number::Unread => say::words(b"unread"),
+        Number::Value(v) => replay::decimal(v as usize),
+        Number::Unread => replay::words(b"unread"),
     }
 }
 
 fn from_to(start: u32, end: u32) {
-    say::decimal(start as usize);
-    say::words(b" to ");
-    say::decimal(end as usize);
+    replay::decimal(start as usize);
+    replay::words(b" to ");
+    replay::decimal(end as usize);
 }
 
 fn before_case(s: &[u8]) {
     match number::leading_range(s) {
         LeadingRange::Taken { start, end, rest } => {
             from_to(start, end);
-            say::words(b", rest at ");
-            say::decimal(rest);
+            replay::words(b", rest at ");
+            replay::decimal(rest);
         }
-        LeadingRange::NotTaken => say::words(b"none"),
+        LeadingRange::NotTaken => replay::words(b"none"),
     }
 }
 
@@ -38,10 +37,10 @@ fn after_case(s: &[u8]) {
         } => {
             from_to(start, end);
             if second_unread {
-                say::words(b", short");
+                replay::words(b", short");
             }
         }
-        TrailingRange::NotTaken => say::words(b"none"),
+        TrailingRange::NotTaken => replay::words(b"none"),
     }
 }
 

@@ -34,13 +34,13 @@ fn hex_bytes(line: &[u8], bytes: &mut [u8]) -> usize
 
 fn verdict(s: &[u8]) {
     match text_utf8::check_text(s) {
-        Check::Valid => say::words(b"valid:"),
+        Check::Valid => replay::words(b"valid:"),
         Check::Broken { at, length } => {
-            say::words(b"broken at ");
-            say::decimal(at);
-            say::words(b" length ");
-            say::decimal(length);
-            say::words(b":");
+            replay::words(b"broken at ");
+            replay::decimal(at);
+            replay::words(b" length ");
+            replay::decimal(length);
+            replay::words(b":");
         }
     }
 }
@@ -54,13 +54,13 @@ fn each_sequence(s: &[u8]) {
                 return;
             }
             Sequence::Good { code, length } => {
-                say::words(b" ");
+                replay::words(b" ");
                 say::code_point(code);
                 at += length;
             }
             Sequence::Bad { length } => {
-                say::words(b" ?");
-                say::decimal(length);
+                replay::words(b" ?");
+                replay::decimal(length);
                 if length == 0 {
                     return;
                 }

@@ -1,9 +1,9 @@
--- `json_cases::documents::case_from` meets its contract, by the laws of Safe; its invariant: each place is inside the text, and not before the first.
-use Rattle.json_cases.proofs.Safe.{seeking, Seeking}
+-- `replay::documents::case_from` meets its contract, by the laws of Cases; its invariant: each place is inside the text, not before `from`.
+use Rattle.replay.proofs.Cases.{seeking, Seeking}
 use Prim.Native.Nat.{_-_}
 use lib.ListN.{length}
-use Rattle.json_cases.proofs.documents.case_from.Statement.{statement}
-use Rattle.json_cases.proofs.documents.case_from.Tie as tie
+use Rattle.replay.proofs.documents.case_from.Statement.{statement}
+use Rattle.replay.proofs.documents.case_from.Tie as tie
 
 abbrev Inv-loop : tie.InvT-loop
 Inv-loop s from at₀ at = Seeking s from at

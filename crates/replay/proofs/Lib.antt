@@ -1,0 +1,2 @@
+-- Laws, one file a subject.
+pub mod Cases
