@@ -31,6 +31,7 @@ use Rattle.ground.specs.Look.{Look, known, unknown, lookOr, orLook}
 use Rattle.ground.specs.Join.{join}
 use Rattle.table_rows.specs.Classes.{Pair, shown, swapped, back}
 use Rattle.descriptor.specs.Pieces.{byte, piece, partsFrom, turned, turn}
+use Rattle.descriptor.proofs.Typing.{base-le}
 
 -- Names.
 slash-low : (x : ℕ) → x < 0x80 → slash x < 0x80
@@ -61,16 +62,6 @@ brackets-fresh b (suc (suc n)) f = go (bracketsAt b n) refl (λ g. brackets-fres
         let opens = eqb-true (getD b n 0) 0x5B (both-left (eqb (getD b n 0) 0x5B) (eqb (getD b (suc n) 0) 0x5D) e) in
         again (fresh-ascii b n (omega arith))
     go false e again = f
-
-base-end-le : (b : List ℕ) (n : ℕ) → baseEnd b n ≤ n
-unfolding baseEnd
-base-end-le b zero = omega arith
-base-end-le b (suc zero) = omega arith
-base-end-le b (suc (suc n)) = go (bracketsAt b n) (base-end-le b n)
-  where
-    go : (t : Bool) → baseEnd b n ≤ n → pick t (baseEnd b n) (suc (suc n)) ≤ suc (suc n)
-    go true h = omega arith
-    go false h = omega arith
 
 stripped-octets : {s : List ℕ} → UTF8-octets s → UTF8-octets (take (baseEnd s (length s)) s)
 stripped-octets {s} o = take-octets o (baseEnd s (length s)) (brackets-fresh s (length s) (fresh-end s (length s) (omega arith)))
@@ -106,7 +97,7 @@ type-octets {s} o =
     let p : Span = trimBoth s in
     let b : List ℕ = between s (p .start) (p .«end») in
     let e : ℕ = baseEnd b (length b) in
-    let few = base-end-le b (length b) in
+    let few = base-le b (length b) in
     let size = length-take (p .«end» - p .start) (drop (p .start) s) in
     let same-size : p .start + e - p .start ≡ e = omega arith in
     let base : take e b ≡ between s (p .start) (p .start + e) =

@@ -211,7 +211,7 @@ module _ {s : List ℕ} {«end» count : ℕ} (k : Stripping s «end» count) wh
 pub ruleset stripping = (stripping-starts, stripped-short, bracket-inside, bracket-last, stripped-open, stripped-close, stripped-more, count-fits, needs)
 
 -- The shape of a type.
-base-le : (s : List ℕ) (e : ℕ) → baseEnd s e ≤ e
+pub base-le : (s : List ℕ) (e : ℕ) → baseEnd s e ≤ e
 unfolding baseEnd
 base-le s zero = omega arith
 base-le s (suc zero) = omega arith

@@ -4,3 +4,4 @@ pub mod Signatures
 pub mod Pieces
 pub mod Raw
 pub mod Examples
+pub mod RawExamples

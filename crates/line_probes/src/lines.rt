@@ -9,8 +9,7 @@ ghost use Prim.Native.Nat.{_<_, _^_};
 ghost use Rattle.text_places.specs.Places.{placeNumber};
 ghost use Rattle.line.specs.Kinds.{lineOf};
 ghost use Rattle.line_parts.specs.inner.NextArgument.{nextArgument};
-ghost use Rattle.line_probes.specs.LineAnswers.{sevenNumbers, commentLineNumbers, classNumbers, fieldNumbers};
-ghost use Rattle.line_probes.specs.LineAnswers.{lineKindNumbers, argumentNumbers};
+ghost use Rattle.line_probes.specs.LineAnswers.{sevenNumbers, commentLineNumbers, classNumbers, fieldNumbers, lineKindNumbers, argumentNumbers};
 
 // An answer of at most seven numbers.
 fn seven(kind: u64, a: u64, b: u64, c: u64, d: u64, e: u64, f: u64) -> [u64; 20]

@@ -5,7 +5,7 @@ use libc::STDOUT_FILENO;
 mod answer;
 
 fn main() {
-    // One byte more than is read, so that a longer input shows.
+    // One byte more than an input may have, so that a longer one shows.
     let mut input = [0u8; 65537];
     let n = io::read_full(STDIN_FILENO, &mut input);
     let mut out = [0u8; 256];

@@ -13,7 +13,7 @@ use mathlib.Core.Logic.{_⊎_, inl, inr}
 use Rattle.ground.proofs.Cases.{le-or-lt}
 use Rattle.text_places.specs.Places.{same}
 use Rattle.text_places.proofs.PlaceLaws.{matching-uneven, same-equal, same-refl}
-use Rattle.table_pool.specs.Names.{slashIf, nameBytes, classPiece}
+use Rattle.table_pool.specs.inner.Named.{slashIf, nameBytes, classPiece}
 use Rattle.table_pool.proofs.Naming.{name-length, name-byte}
 
 -- Texts that differ at a place.

@@ -16,7 +16,7 @@ use Rattle.tables.specs.Back.{readBack}
 use Rattle.load_raw_types.specs.declared.types.Stretch.{Stretch}
 use Rattle.load_raw_types.specs.declared.types.Stretch.the-variants as stretches
 use Rattle.load_raw_types.specs.declared.types.Stretch.the-variants.{More, Last}
-use Rattle.table_pool.specs.Names.{classPiece}
+use Rattle.table_pool.specs.inner.Named.{classPiece}
 use Rattle.load_raw_types.specs.inner.Marks.{Indexed}
 use Rattle.load_raw_types.specs.inner.Stretches.{insidePiece, outsidePiece, Stretched, InsideBy, OutsideBy}
 use Rattle.load_raw_types.proofs.Indexing.{indexed-put, read-back-put}

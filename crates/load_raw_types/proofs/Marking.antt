@@ -13,7 +13,8 @@ use mir.Syntax.{w8, w64}
 use lib.Seq.{drop-cons}
 use borrow.Author.Needs.{needs}
 use Rattle.ground.specs.Choice.{pick}
-use Rattle.table_pool.specs.Names.{slash, classDescriptor, slashIf, nameBytes, classPiece}
+use Rattle.table_pool.specs.inner.Named.{slashIf, nameBytes, classPiece}
+use Rattle.table_pool.specs.Names.{slash, classDescriptor}
 use Rattle.load_raw_types.specs.inner.Marks.{markFrom, markOf, chained, indexSize, markCount}
 use Rattle.table_rows.specs.Rows.{mostClasses}
 

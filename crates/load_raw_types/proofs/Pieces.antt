@@ -14,7 +14,8 @@ use Rattle.text_places.specs.declared.find.Place.the-variants.{At, Nowhere}
 use Rattle.text_places.specs.Places.{firstFrom, firstWhere, starts}
 use Rattle.text_places.proofs.PlaceLaws.{first-inside}
 use Rattle.text_places.proofs.Holds.{first-is}
-use Rattle.table_pool.specs.Names.{slash, slashIf, nameBytes, classPiece}
+use Rattle.table_pool.specs.inner.Named.{slashIf, nameBytes, classPiece}
+use Rattle.table_pool.specs.Names.{slash}
 use Rattle.ground.specs.Look.{Look, lookOr}
 use Rattle.descriptor.specs.Pieces.{turn}
 use Rattle.descriptor.proofs.Turning.{turn-end, piece-step, plain-step, stays-step}

@@ -13,7 +13,8 @@ use borrow.Author.Needs.{needs}
 use Rattle.ground.proofs.Cases.{le-or-lt}
 use Rattle.text_places.specs.Places.{same}
 use Rattle.text_places.proofs.PlaceLaws.{same-equal}
-use Rattle.table_pool.specs.Names.{classDescriptor, classPiece}
+use Rattle.table_pool.specs.inner.Named.{classPiece}
+use Rattle.table_pool.specs.Names.{classDescriptor}
 use Rattle.table_rows.specs.declared.rows.Class.{Class}
 use Rattle.table_rows.specs.Rows.{unpackClass}
 use Rattle.tables.specs.declared.search.Found.the-variants.{Row, Unknown}

@@ -29,7 +29,7 @@ use Rattle.tables.specs.declared.search.Found.{Found}
 use Rattle.tables.specs.declared.search.Found.the-variants.{Row, Unknown}
 use Rattle.tables.specs.Search.{lastDisplay}
 use Rattle.tables.proofs.Searching.{display-found, display-unknown}
-use Rattle.table_pool.specs.Names.{nameBytes, classPiece}
+use Rattle.table_pool.specs.inner.Named.{nameBytes, classPiece}
 use Rattle.load_raw_types.specs.inner.Marks.{Indexed}
 use Rattle.load_raw_types.specs.inner.Stretches.{insidePiece, outsidePiece, Stretched}
 use Rattle.load_raw_types.proofs.Pieces.{piece-whole, piece-first, plain-first, plain-all}

@@ -1,3 +1,2 @@
 -- No rule stands here: raw descriptors of display types are a rule of descriptors.
-pub mod Examples
 pub mod inner

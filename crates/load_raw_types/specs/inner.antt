@@ -1,3 +1,4 @@
 -- Words of inner contracts: no rule cites them.
 pub mod Marks
 pub mod Stretches
+pub mod Examples

@@ -9,7 +9,7 @@ ghost use mathlib.Core.Path.{_≡_};
 ghost use Prim.Native.Nat.{_+_, _≤_};
 ghost use lib.ListN.{length, take, drop};
 ghost use Rattle.text_places.specs.Places.{same};
-ghost use Rattle.table_pool.specs.Names.{classPiece};
+ghost use Rattle.table_pool.specs.inner.Named.{classPiece};
 ghost use Rattle.load_raw_types.specs.inner.Marks.{Indexed};
 ghost use Rattle.tables.specs.Search.{lastDisplay};
 

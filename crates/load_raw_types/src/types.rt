@@ -24,7 +24,7 @@ ghost use Rattle.descriptor.specs.Types.{baseOf, baseBytes};
 ghost use Rattle.table_pool.specs.inner.Wrote.{WroteBy};
 ghost use Rattle.tables.specs.Back.{readBack};
 ghost use Rattle.descriptor.specs.Raw.{rawTypeOf};
-ghost use Rattle.table_pool.specs.Names.{classPiece};
+ghost use Rattle.table_pool.specs.inner.Named.{classPiece};
 ghost use Rattle.load_raw_types.specs.inner.Marks.{Indexed};
 ghost use Rattle.load_raw_types.specs.inner.Stretches.{InsideBy, OutsideBy};
 

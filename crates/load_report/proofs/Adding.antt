@@ -9,7 +9,7 @@ use Rattle.table_pool.specs.declared.write.Wrote.{Wrote}
 use Rattle.table_pool.specs.declared.write.Wrote.the-variants.{Done, NoRoom}
 use Rattle.table_pool.specs.inner.Wrote.{Written, WroteBy}
 use Rattle.table_pool.proofs.Writes.{wrote-told, wrote-none, wrote-then, none-then, wrote-as}
-use Rattle.load_report.specs.Adding.{Adds}
+use Rattle.load_report.specs.inner.Adding.{Adds}
 
 module _ {before : Wrote} (out b : List ℕ) where
   pub adds-done : {at : ℕ} → before ≡ Done at → (r : Wrote) (out₁ : List ℕ) → WroteBy r out at b out₁ → Adds before r out b out₁

@@ -11,7 +11,7 @@ ghost use Rattle.load_rule.specs.declared.Load.the-variants.{Loaded, NotUtf8};
 ghost use Rattle.table_pool.specs.inner.Wrote.{Written, WroteBy};
 ghost use Rattle.load_report.specs.Digits.{decimal};
 ghost use Rattle.load_report.specs.Report.{refusedLine, lineItems, rowItems, reportOf};
-ghost use Rattle.load_report.specs.Adding.{Adds};
+ghost use Rattle.load_report.specs.inner.Adding.{Adds};
 
 // A text behind what was written before.
 fn add_text(out: &mut [u8], before: Wrote, text: &[u8]) -> Wrote

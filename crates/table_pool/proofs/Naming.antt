@@ -11,7 +11,8 @@ use borrow.Author.Tests.{eq-eqb, ne-eqb}
 use borrow.Author.Needs.{needs}
 use Rattle.table_pool.specs.declared.write.Wrote.{Wrote}
 use Rattle.table_pool.specs.declared.write.Wrote.the-variants.{Done, NoRoom}
-use Rattle.table_pool.specs.Names.{slash, slashed, slashIf, nameBytes, classPiece}
+use Rattle.table_pool.specs.inner.Named.{slashIf, nameBytes, classPiece}
+use Rattle.table_pool.specs.Names.{slash, slashed}
 use Rattle.table_pool.specs.inner.Wrote.{Written, WroteBy}
 use Rattle.table_pool.proofs.Writes.{Pasting, text-starts, text-done, byte-more, wrote-told, wrote-none, wrote-then, none-then}
 

@@ -1,5 +1,4 @@
 -- Document 01 "Descriptors": "A class name becomes `L`, the name with dots as slashes, `;`."
-use mathlib.Core.Bool.{Bool, true, false}
 use mathlib.Core.List.{List, [], _∷_, _++_, map}
 use Prim.Native.Nat.{ℕ}
 use lib.Dec.{eqb}
@@ -13,14 +12,3 @@ slashed s = map slash s
 
 abbrev pub classDescriptor : List ℕ → List ℕ
 classDescriptor name = 0x4C ∷ (slashed name ++ (0x3B ∷ []))
-
--- A class piece by the name in it: dots as slashes, as in the descriptor of a class name, or as they are, as in a type that is kept.
-abbrev pub slashIf : Bool → ℕ → ℕ
-slashIf true x = slash x
-slashIf false x = x
-
-abbrev pub nameBytes : Bool → List ℕ → List ℕ
-nameBytes dots s = map (slashIf dots) s
-
-abbrev pub classPiece : Bool → List ℕ → List ℕ
-classPiece dots s = 0x4C ∷ (nameBytes dots s ++ (0x3B ∷ []))

@@ -3,7 +3,8 @@ use crate::write::Wrote;
 use crate::write::put_bytes;
 ghost use mathlib.Core.Path.{_≡_};
 ghost use mathlib.Core.List.{[], _∷_, _++_};
-ghost use Rattle.table_pool.specs.Names.{slash, slashIf, nameBytes, classPiece, classDescriptor};
+ghost use Rattle.table_pool.specs.inner.Named.{slashIf, nameBytes, classPiece};
+ghost use Rattle.table_pool.specs.Names.{slash, classDescriptor};
 ghost use Rattle.table_pool.specs.inner.Wrote.{WroteBy};
 
 // A dot as a slash, any other byte as it is.

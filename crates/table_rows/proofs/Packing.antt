@@ -9,7 +9,8 @@ use Rattle.table_rows.specs.declared.rows.Class.{Class}
 use Rattle.table_rows.specs.declared.rows.Ranges.{Ranges}
 use Rattle.table_rows.specs.declared.rows.Ranges.the-variants.{None, Display, Both}
 use Rattle.table_rows.specs.declared.rows.Member.{Member}
-use Rattle.table_rows.specs.Rows.{text, packClass, unpackClass, rangeNumbers, headNumbers, packMember, partsRow, unpackRanges, unpackMember}
+use Rattle.table_rows.specs.inner.Parts.{partsRow}
+use Rattle.table_rows.specs.Rows.{text, packClass, unpackClass, rangeNumbers, headNumbers, packMember, unpackRanges, unpackMember}
 
 module _ (m : Member) {r : List ℕ} (e : r ≡ partsRow m) where
   pub pack-none : m .ranges ≡ None → r ≡ packMember m

@@ -21,9 +21,6 @@ unpackClass row = record { raw = text (getD row 0 0) (getD row 1 0); display = t
 
 -- "A member row is fifteen numbers ..: kind (0 field, 1 method), class row, place and length of raw name, raw descriptor, display name,
 -- display owner (0, 0 for a field), range flag (0 none, 1 display only, 2 both), raw range, display range; absent ranges are zeros."
-abbrev pub textNumbers : Text → List ℕ
-textNumbers t = t .place ∷ t .length ∷ []
-
 abbrev pub rangeNumbers : Ranges → List ℕ
 rangeNumbers None = 0 ∷ 0 ∷ 0 ∷ 0 ∷ 0 ∷ []
 rangeNumbers (Display a e) = 1 ∷ 0 ∷ 0 ∷ a ∷ e ∷ []
@@ -36,10 +33,6 @@ headNumbers m =
 
 abbrev pub packMember : Member → List ℕ
 packMember m = headNumbers m ++ rangeNumbers (m .ranges)
-
--- a member row whose ranges are not put in yet
-abbrev pub partsRow : Member → List ℕ
-partsRow m = headNumbers m ++ rangeNumbers None
 
 -- The other way: a row's parts.
 abbrev pub unpackRanges : List ℕ → Ranges

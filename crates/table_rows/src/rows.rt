@@ -2,7 +2,8 @@
 ghost use mathlib.Core.Path.{_≡_};
 ghost use Prim.Native.Nat.{_≤_, _-_};
 ghost use lib.ListN.{length};
-ghost use Rattle.table_rows.specs.Rows.{text, packClass, unpackClass, partsRow, packMember, unpackRanges, unpackMember, flagOf, mostPool};
+ghost use Rattle.table_rows.specs.inner.Parts.{partsRow};
+ghost use Rattle.table_rows.specs.Rows.{text, packClass, unpackClass, packMember, unpackRanges, unpackMember, flagOf, mostPool};
 
 // A longer slice that is lent counts as that.
 pub const MOST_CLASSES: usize = 4096;

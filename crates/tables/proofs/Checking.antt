@@ -96,10 +96,6 @@ module _ (pool : List ℕ) (used : Used) where
     pub text-fine : FineText pool used t → textFine pool used t ≡ true
     text-fine k = rw (le-leb (t .place + t .length) (used .pool) (k .inside), k .valid)
 
-    -- it has the length that its row says
-    pub text-whole : used .pool ≤ length pool → FineText pool used t → length (textIn pool t) ≡ t .length
-    text-whole h k = length-take-le (t .length) (drop (t .place) pool) (omega (arith, length-drop (t .place) pool, k .inside))
-
   -- A class row.
   pub record FineClass (row : List ℕ) : Type 0 where
     pub raw : FineText pool used (unpackClass row .raw)

@@ -10,7 +10,7 @@ use Rattle.descriptor.specs.Pieces.{turn}
 use Rattle.table_pool.specs.inner.Wrote.{Written}
 use Rattle.load_raw_types.specs.declared.types.Stretch.{Stretch}
 use Rattle.load_raw_types.specs.declared.types.Stretch.the-variants.{More, Last, NoRoom}
-use Rattle.table_pool.specs.Names.{nameBytes, classPiece}
+use Rattle.table_pool.specs.inner.Named.{nameBytes, classPiece}
 
 -- the text from the place `start` on, turned, where an `L` stands before it, and where a `;` does
 abbrev pub insidePiece : (List ℕ → Look) → Bool → List ℕ → ℕ → List ℕ

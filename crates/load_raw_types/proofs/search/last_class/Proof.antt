@@ -1,6 +1,6 @@
 -- `load_raw_types::search::last_class` meets its contract, by the laws of Searching and an invariant that says: no row from the number on is the one, and the row before has its mark.
 use Rattle.load_raw_types.proofs.Searching.{searching, Behind}
-use Rattle.table_pool.specs.Names.{classPiece}
+use Rattle.table_pool.specs.inner.Named.{classPiece}
 use Rattle.load_raw_types.proofs.search.last_class.Statement.{statement}
 use Rattle.load_raw_types.proofs.search.last_class.Tie as tie
 

@@ -3,7 +3,7 @@ use Rattle.table_pool.proofs.Naming.{naming}
 use Prim.Native.Nat.{_-_}
 use lib.ListN.{length}
 use Rattle.table_pool.proofs.Writes.{Pasting}
-use Rattle.table_pool.specs.Names.{nameBytes}
+use Rattle.table_pool.specs.inner.Named.{nameBytes}
 use Rattle.table_pool.proofs.names.put_name.Statement.{statement}
 use Rattle.table_pool.proofs.names.put_name.Tie as tie
 
