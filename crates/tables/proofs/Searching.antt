@@ -1,7 +1,7 @@
 -- The last row with a descriptor, and what it says of the classes read back from the pool. Assumes nothing.
 use mathlib.Core.Path.{_≡_, refl, sym, _∙_, ap}
 use mathlib.Core.Bool.{Bool, true, false}
-use mathlib.Core.List.{List, [], _∷_, map}
+use mathlib.Core.List.{List, [], _∷_, _++_, map}
 use Prim.Native.Nat.{ℕ, zero, suc, _+_, _-_, _≤_, _<_}
 use native.Mathlib.Omega.{arith}
 use lib.ListN.{length, getD, drop}
@@ -19,6 +19,12 @@ use Rattle.tables.specs.declared.search.Side.{Side}
 use Rattle.table_rows.specs.Rows.{unpackClass}
 use Rattle.tables.specs.Back.{textIn, pairOf, readBack}
 use Rattle.tables.specs.Search.{orRow, lastRowFrom, textOn, hasName, lastRaw, lastDisplay}
+
+-- the last row of which `p` holds answers
+pub last-answers : (p : List ℕ → Bool) (at : ℕ) (rows : List (List ℕ)) (row : List ℕ) → p row ≡ true → lastRowFrom p at (rows ++ (row ∷ [])) ≡ Row (at + length rows)
+unfolding lastRowFrom
+last-answers p at [] row e = let z : at + 0 ≡ at = omega arith in rw (e, z)
+last-answers p at (r ∷ rows) row e = let z : suc at + length rows ≡ at + suc (length rows) = omega arith in rw (last-answers p (suc at) rows row e, z)
 
 -- Backwards: there is none from here on.
 pub record Scanning (p : List ℕ → Bool) (rows : List (List ℕ)) («end» : ℕ) : Type 0 where
