@@ -22,7 +22,7 @@ use Rattle.json_string.proofs.Hex.{hex4-most}
 use Rattle.json_string.specs.declared.string.Piece.{Piece}
 use Rattle.json_string.specs.inner.Pieces.{Stood, Coded, Closed, PieceMeans, shortByte}
 
-pub ruleset short-bytes = (cases, needs)
+pub ruleset by-byte = (cases, needs)
 
 -- an answer about what is the same
 piece-as : (s : List ℕ) (base : ℕ) (r : Piece) {p q : Reader.Piece} → q ≡ p → PieceMeans s base r p → PieceMeans s base r q

@@ -1,11 +1,17 @@
 -- Strings, char by char: the rest decides, after the bytes that were passed. Assumes nothing.
 use mathlib.Core.Path.{_≡_, refl, sym, _∙_, ap}
+use mathlib.Core.Bool.{Bool, true, false}
 use mathlib.Core.List.{List, [], _++_}
-use Prim.Native.Nat.{ℕ, suc, _-_, _≤_, _<_}
+use Prim.Native.Nat.{ℕ, suc, _+_, _-_, _≤_, _<_}
 use native.Mathlib.Omega.{arith}
-use lib.ListN.{length, drop, drop-of-length-le}
+use lib.Dec.{eqb, leb}
+use lib.ListN.{length, getD, drop, drop-of-length-le}
 use lib.Seq.{drop-drop}
+use mir.Val.{Fits}
+use mir.Syntax.{w8}
 use borrow.Author.Needs.{needs}
+use borrow.Author.Tests.{eqb-false, leb-true}
+use Rattle.ground.specs.Choice.{pick}
 use Rattle.json_grammar.specs.Reader as Reader
 use Rattle.json_grammar.specs.Reader.{bad, andThen, pieceOf, charsFrom}
 use Rattle.json_grammar.specs.Encode.{utf8}
@@ -14,7 +20,8 @@ use Rattle.json_grammar.proofs.StringsAll.{chars-none, chars-stands, chars-clos
 use Rattle.json_string.specs.declared.string.Piece.{Piece}
 use Rattle.json_string.specs.declared.string.Piece.the-variants.{Byte, Code, Closes, Wrong}
 use Rattle.json_string.specs.inner.Means.{Reached}
-use Rattle.json_string.specs.inner.Pieces.{Stood, Coded, Closed, PieceMeans}
+use Rattle.json_string.specs.inner.Pieces.{Stood, Coded, Closed, PieceMeans, isPlain}
+use Rattle.json_string.proofs.PieceLaws.{piece-plain}
 
 -- the answer is a code point
 pub coded-told : {s : List ℕ} {at : ℕ} {t : Piece} {p : Reader.Piece} {c n : ℕ} → t ≡ Code c n → PieceMeans s at t p → Coded s at n c p
@@ -91,4 +98,20 @@ module _ {s : List ℕ} {start at : ℕ} (k : Stringing s start at) where
     unfolding andThen
     string-wrong e = k .decides ∙ rw (chars-wrong (drop at s) (rw e at m))
 
-pub ruleset stringing = (string-starts, string-cut, byte-on, code-on, byte-falls, code-falls, string-closed, string-wrong, needs)
+-- A byte that is a char by itself.
+plain-facts : (b : ℕ) → isPlain b ≡ true → (b ≡ 0x22 → ⊥) × (b ≡ 0x5C → ⊥) × (0x20 ≤ b)
+plain-facts b = go (eqb b 0x22) (eqb b 0x5C) refl refl
+  where
+    go : (x y : Bool) → eqb b 0x22 ≡ x → eqb b 0x5C ≡ y → pick x false (pick y false (leb 0x20 b)) ≡ true → (b ≡ 0x22 → ⊥) × (b ≡ 0x5C → ⊥) × (0x20 ≤ b)
+    go true y f g e = absurd (let z : _≡_ {A = ℕ} 0 1 = cc in omega arith)
+    go false true f g e = absurd (let z : _≡_ {A = ℕ} 0 1 = cc in omega arith)
+    go false false f g e = (eqb-false b 0x22 f, eqb-false b 0x5C g, leb-true 0x20 b e)
+
+module _ {s : List ℕ} {start at : ℕ} (k : Stringing s start at) (h : at < length s) {b : Bool} (g : b ≡ isPlain (getD s at 0)) (e : b ≡ true) where
+  pub plain-on : ((i : ℕ) → Fits w8 (getD s i 0)) → Stringing s start (at + 1)
+  plain-on w = let f = plain-facts (getD s at 0) (sym g ∙ e) in stood-on k (piece-plain s at h (f .0) (f .1) w (f .2))
+
+  pub plain-falls : length s - (at + 1) < length s - at
+  plain-falls = omega arith
+
+pub ruleset stringing = (plain-on, plain-falls, string-starts, string-cut, byte-on, code-on, byte-falls, code-falls, string-closed, string-wrong, needs)

@@ -5,7 +5,7 @@ ghost use Prim.Native.Nat.{_+_, _≤_, _<_};
 ghost use lib.ListN.{length, drop};
 ghost use Rattle.json_grammar.specs.Reader.{hexdig, hexValue, hex4, second, unicode, escape, pieceOf, charsFrom};
 ghost use Rattle.json_string.specs.inner.Means.{Means};
-ghost use Rattle.json_string.specs.inner.Pieces.{PieceMeans, shortByte};
+ghost use Rattle.json_string.specs.inner.Pieces.{PieceMeans, shortByte, isPlain};
 
 // What stands at a place inside a string, and the place after it.
 pub enum Piece {
@@ -198,12 +198,30 @@ pub fn piece_at(s: &[u8], at: usize) -> Piece
     Piece::Wrong
 }
 
+// Whether a byte alone tells that it is a char: it ends no string, starts no escape and is no control character.
+fn is_plain(b: u8) -> bool
+    ensures { λ r. ⌜ r ≡ isPlain b ⌝ }
+{
+    if b == b'"' {
+        return false;
+    }
+    if b == b'\\' {
+        return false;
+    }
+    0x20 <= b
+}
+
 // The place after a string whose first char stands at `start`.
 pub fn string_end(s: &[u8], start: usize) -> After
     ensures { λ r. ⌜ Means (now (s .entry)) r (charsFrom 0 (drop start (now (s .entry)))) ⌝ }
 {
     let mut at = start;
     while at < s.len() {
+        // most chars: no more is asked
+        if is_plain(s[at]) {
+            at += 1;
+            continue;
+        }
         match piece_at(s, at) {
             Piece::Byte(_, next) => {
                 at = next;

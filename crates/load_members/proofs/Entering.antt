@@ -123,7 +123,23 @@ module _ (u : Under) (l : List ℕ) where
   under-member (kinds.Method m r) e = ap (λ n. under n (u .own)) (sym (add-zero (u .count)))
   under-member (kinds.Refused n) e = ap (λ n. under n (u .own)) (sym (add-zero (u .count)))
 
--- A member line is no class line.
+-- A class line is one, and no other line is.
+pub class-counts : (k : Line) {d : Span} → roleOf k ≡ Class d → classLine k ≡ 1
+class-counts kinds.Blank e = absurd (let z : _≡_ {A = ℕ} 0 1 = cc in omega arith)
+class-counts (kinds.Comment b) e = absurd (let z : _≡_ {A = ℕ} 0 1 = cc in omega arith)
+class-counts (kinds.Class d r) e = refl
+class-counts (kinds.Field d n r) e = absurd (let z : _≡_ {A = ℕ} 0 1 = cc in omega arith)
+class-counts (kinds.Method m r) e = absurd (let z : _≡_ {A = ℕ} 0 1 = cc in omega arith)
+class-counts (kinds.Refused n) e = absurd (let z : _≡_ {A = ℕ} 0 1 = cc in omega arith)
+
+pub neither-counts : (k : Line) → roleOf k ≡ Neither → classLine k ≡ 0
+neither-counts kinds.Blank e = refl
+neither-counts (kinds.Comment b) e = refl
+neither-counts (kinds.Class d r) e = absurd (let z : _≡_ {A = ℕ} 0 1 = cc in omega arith)
+neither-counts (kinds.Field d n r) e = refl
+neither-counts (kinds.Method m r) e = refl
+neither-counts (kinds.Refused n) e = refl
+
 pub member-counts : (k : Line) {p : MemberLine} → roleOf k ≡ Member p → classLine k ≡ 0
 member-counts kinds.Blank e = refl
 member-counts (kinds.Comment b) e = refl

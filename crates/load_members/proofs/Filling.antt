@@ -28,12 +28,12 @@ use Rattle.load_rule.specs.declared.Scan.{Scan}
 use Rattle.load_rule.specs.declared.Scan.the-variants as scan
 use Rattle.load_rule.specs.Comments.{residualIn}
 use Rattle.load_rule.specs.Loading.{mostText}
-use Rattle.load_rule.specs.Fates.{noFates, classLine, faultsFrom, scanOf}
+use Rattle.load_rule.specs.Fates.{noFates, plus, one, classLine, faultsFrom, scanOf}
 use Rattle.load_rule.specs.Members.{Entry, Under, under, underAfter, entryIn, entriesFrom, entryText, entryPool, entryRow, entryRows}
 use Rattle.load_rule.proofs.Tally.{fate-class}
 use Rattle.load_rule.proofs.Appended.{join-more, join-append, rows-length, rows-more}
 use Rattle.load_scan.specs.inner.Bounds.{Within}
-use Rattle.load_scan.proofs.Stepping.{step-told, step-ended, step-faulty}
+use Rattle.load_scan.proofs.Stepping.{step-fits, step-bounds, step-told, step-ended, step-faulty}
 use Rattle.load_scan.proofs.Scanning.{Scanning, scan-end, scanned-more}
 use Rattle.load_texts.specs.declared.texts.MemberLine.{MemberLine}
 use Rattle.load_members.specs.declared.role.Role.{Role}
@@ -51,7 +51,7 @@ use Rattle.load_members.specs.inner.Roles.{roleOf}
 use Rattle.load_texts.specs.inner.Places.{EnteredTexts, memberPlaced}
 use Rattle.load_members.specs.inner.Filled.{Holding, Over, members, WrittenAll, CutShort}
 use Rattle.load_texts.proofs.Typing.{written-nothing}
-use Rattle.load_members.proofs.Entering.{entryOf, entry-member, entry-class, entry-neither, under-class, under-neither, under-member, member-counts, member-classed, member-lies, class-lies, entry-text, entry-row}
+use Rattle.load_members.proofs.Entering.{entryOf, entry-member, entry-class, entry-neither, under-class, under-neither, under-member, neither-counts, class-counts, member-counts, member-classed, member-lies, class-lies, entry-text, entry-row}
 use Rattle.load_rule.specs.Laid.{rowsFrom}
 
 -- the rule starts with nothing counted
@@ -62,22 +62,25 @@ from-nothing ls = ap (λ f. faultsFrom f 1 0 ls) (simp zero-add)
 pub record Filling (s : List ℕ) (rows : List (List ℕ)) (index : List ℕ) (used : ℕ) (m₀ : List (List ℕ)) (p₀ : List ℕ)
     (at : ℕ) (t : Slot) (member : Bool) (f : Fates) (m : List (List ℕ)) (p : List ℕ) : Type 0 where
   pub short : length s ≤ mostText
+  pub most : length p₀ ≤ mostPool
   pub scanning : Scanning s 0 noFates false at f member
   pub done : List Entry
   pub split : members (lines s) (readBack rows p₀) ≡ done ++ entriesFrom (readBack rows p₀) (under (f .class) (partOf s (span (t .own) (t .«own_end»)))) (lines (drop at s))
   pub held : Holding done used (t .place) m₀ p₀ m p
   pub counts : t .row ≡ length done
+  pub classes : t .classes ≡ f .class
   pub indexed : Indexed rows p index (t .place)
   pub same : readBack rows p ≡ readBack rows p₀
   pub lies : Lies (span (t .own) (t .«own_end»)) (length s)
   pub pool-size : length p ≡ length p₀
   pub rows-size : length m ≡ length m₀
 
-pub filling-starts : (s : List ℕ) (rows : List (List ℕ)) (index : List ℕ) (used : ℕ) (m₀ : List (List ℕ)) (p₀ : List ℕ) → length s ≤ mostText → Indexed rows p₀ index used →
-    {f : Fates} → f ≡ noFates → {t : Slot} → t ≡ slotAt 0 used 0 0 → Filling s rows index used m₀ p₀ 0 t false f m₀ p₀
+pub filling-starts : (s : List ℕ) (rows : List (List ℕ)) (index : List ℕ) (used : ℕ) (m₀ : List (List ℕ)) (p₀ : List ℕ) → length s ≤ mostText → length p₀ ≤ mostPool → Indexed rows p₀ index used →
+    {f : Fates} → f ≡ noFates → {t : Slot} → t ≡ slotAt 0 used 0 0 0 → Filling s rows index used m₀ p₀ 0 t false f m₀ p₀
 unfolding join rowsFrom
-filling-starts s rows index used m₀ p₀ h x g e = rw (g, e) (record {
+filling-starts s rows index used m₀ p₀ h most x g e = rw (g, e) (record {
   short = h;
+  most = most;
   scanning = record {
     inside = omega arith;
     within = record { lines = omega arith; blank = omega arith; applied = omega arith; idle = omega arith; class = omega arith; field = omega arith; method = omega arith; short = omega arith };
@@ -87,6 +90,7 @@ filling-starts s rows index used m₀ p₀ h x g e = rw (g, e) (record {
   split = refl;
   held = record { room = omega arith; rows = sym (put-nothing m₀ 0); texts = written-nothing p₀ used (x .room) };
   counts = refl;
+  classes = refl;
   indexed = x;
   same = refl;
   lies = record { order = omega arith; within = omega arith };
@@ -107,11 +111,11 @@ module _ {s : List ℕ} {rows : List (List ℕ)} {index : List ℕ} {used : ℕ}
   pub filling-ends : length s ≤ at → WrittenAll f (lines s) (readBack rows p₀) used (t .place) m₀ p₀ m p
   filling-ends h = ended (end-taken s at h)
 
-  pub filling-none : (r : Step) → StepBy r s at f member → r ≡ steps.End → WrittenAll f (lines s) (readBack rows p₀) used (t .place) m₀ p₀ m p
-  filling-none r w q = ended (step-ended s at f member r w q)
+  pub filling-none : (r : Step) → StepBy r s at (f .class) member → r ≡ steps.End → WrittenAll f (lines s) (readBack rows p₀) used (t .place) m₀ p₀ m p
+  filling-none r w q = ended (step-ended s at (f .class) member r w q)
 
-  pub filling-fault : (r : Step) → StepBy r s at f member → {number line : ℕ} → r ≡ steps.Faulty number line → scanOf (lines s) ≡ scan.Faulty number line
-  filling-fault r w q = sym (from-nothing (lines s)) ∙ sym (k .scanning .decides) ∙ step-faulty s at f member r w q
+  pub filling-fault : (r : Step) → StepBy r s at (f .class) member → {number : ℕ} → r ≡ steps.Faulty number → scanOf (lines s) ≡ scan.Faulty number (f .lines + 1)
+  filling-fault r w q = sym (from-nothing (lines s)) ∙ sym (k .scanning .decides) ∙ step-faulty s at (f .class) member r w q f refl
 
   pub filling-text : length s ≤ mostText
   filling-text = k .short
@@ -122,9 +126,9 @@ module _ {s : List ℕ} {rows : List (List ℕ)} {index : List ℕ} {used : ℕ}
   pub filling-counted : Within f at
   filling-counted = k .scanning .within
 
-  module _ (r : Step) (x : StepBy r s at f member) {y : LineStep} (q : r ≡ steps.Line y) where
-    st : StepLine s at f member y
-    st = step-told s at f member r x q
+  module _ (r : Step) (x : StepBy r s at (f .class) member) {y : LineStep} (q : r ≡ steps.Line y) where
+    st : StepLine s at (f .class) member y
+    st = step-told s at (f .class) member r x q
 
     taken : Taken s at (y .start) (y .«end») (y .next)
     taken = st .taken
@@ -135,51 +139,8 @@ module _ {s : List ℕ} {rows : List (List ℕ)} {index : List ℕ} {used : ℕ}
     pub filling-falls : at < length s → length s - y .next < length s - at
     filling-falls h = let u = taken .past in let i = taken .inside in omega arith
 
-    next-scan : Scanning s 0 noFates false (y .next) (y .sum) (y .«has_member»)
-    next-scan = scanned-more (k .scanning) st
-
-    pub filling-within : Within (y .sum) (y .next)
-    filling-within = next-scan .within
-
-    next-class : y .sum .class ≡ f .class + classLine (lineOf (bytesOf s y))
-    next-class =
-        ap (λ y. y .class) (st .sum)
-        ∙ ap (λ y. f .class + y) (fate-class member (bytesOf s y) (lineOf (bytesOf s y)))
-
-    here : Under
-    here = under (f .class) (partOf s (span (t .own) (t .«own_end»)))
-
-    -- the members that are left: that of this line, and those after it
-    step : members (lines s) (readBack rows p₀) ≡ k .done ++ (entryIn (readBack rows p₀) here (residualIn (lines (drop (y .next) s))) (bytesOf s y) (lineOf (bytesOf s y))
-        ++ entriesFrom (readBack rows p₀) (underAfter here (bytesOf s y) (lineOf (bytesOf s y))) (lines (drop (y .next) s)))
-    unfolding entriesFrom here
-    step = k .split ∙ ap (λ ls. k .done ++ entriesFrom (readBack rows p₀) (under (f .class) (partOf s (span (t .own) (t .«own_end»)))) ls) (taken .split)
-
-    short-scan : {sc : Scan} → sc ≡ scanOn (y .sum) (y .«has_member») (lines (drop (y .next) s)) → sc ≡ scanOf (lines s)
-    short-scan y = y ∙ next-scan .decides ∙ from-nothing (lines s)
-
     role-told : {x : Role} → roleOf (y .kind) ≡ x → roleOf (lineOf (bytesOf s y)) ≡ x
     role-told h = sym (ap roleOf (st .is)) ∙ h
-
-    pub filling-neither : roleOf (y .kind) ≡ Neither → Filling s rows index used m₀ p₀ (y .next) t (y .«has_member») (y .sum) m p
-    unfolding here
-    filling-neither h = record {
-      short = k .short;
-      scanning = next-scan;
-      done = k .done;
-      split =
-          step ∙ ap (λ es. k .done ++ (es ++ entriesFrom (readBack rows p₀) (underAfter here (bytesOf s y) (lineOf (bytesOf s y))) (lines (drop (y .next) s))))
-          (entry-neither (readBack rows p₀) here (residualIn (lines (drop (y .next) s))) (bytesOf s y) (lineOf (bytesOf s y)) (role-told h))
-          ∙ ap (λ w. k .done ++ entriesFrom (readBack rows p₀) w (lines (drop (y .next) s)))
-          (under-neither here (bytesOf s y) (lineOf (bytesOf s y)) (role-told h) ∙ ap (λ c. under c (partOf s (span (t .own) (t .«own_end»)))) (sym next-class));
-      held = k .held;
-      counts = k .counts;
-      indexed = k .indexed;
-      same = k .same;
-      lies = k .lies;
-      pool-size = k .pool-size;
-      rows-size = k .rows-size;
-    }
 
     module _ {d : Span} (h : roleOf (y .kind) ≡ Class d) where
       inside : Lies d (length (bytesOf s y))
@@ -188,169 +149,224 @@ module _ {s : List ℕ} {rows : List (List ℕ)} {index : List ℕ} {used : ℕ}
       in-line : d .«end» ≤ y .«end» - y .start
       in-line = let w = inside .within in let l = length-take (y .«end» - y .start) (drop (y .start) s) in omega arith
 
-      pub filling-class : Filling s rows index used m₀ p₀ (y .next) (underClass y d t) (y .«has_member») (y .sum) m p
-      unfolding here
-      filling-class = record {
-        short = k .short;
-        scanning = next-scan;
-        done = k .done;
-        split =
-            step ∙ ap (λ es. k .done ++ (es ++ entriesFrom (readBack rows p₀) (underAfter here (bytesOf s y) (lineOf (bytesOf s y))) (lines (drop (y .next) s))))
-            (entry-class (readBack rows p₀) here (residualIn (lines (drop (y .next) s))) (bytesOf s y) (lineOf (bytesOf s y)) (role-told h))
-            ∙ ap (λ w. k .done ++ entriesFrom (readBack rows p₀) w (lines (drop (y .next) s)))
-            (under-class here (bytesOf s y) (lineOf (bytesOf s y)) (role-told h) ∙ ap (λ c. under c (partOf (bytesOf s y) d)) (sym next-class)
-            ∙ ap (under (y .sum .class)) (part-part s (y .start) (y .«end») (d .start) (d .«end») in-line));
-        held = k .held;
-        counts = k .counts;
-        indexed = k .indexed;
-        same = k .same;
-        lies = record { order = let o = inside .order in omega arith; within = let w = in-line in let f = taken .ends in let o₂ = taken .order in omega arith };
-        pool-size = k .pool-size;
-        rows-size = k .rows-size;
-      }
-
     module _ {parts : MemberLine} (h : roleOf (y .kind) ≡ Member parts) where
-      no-class : y .sum .class ≡ f .class
-      no-class = next-class ∙ ap (λ c. f .class + c) (member-counts (lineOf (bytesOf s y)) (role-told h)) ∙ add-zero (f .class)
-
-      member-ready : MemberReady s y parts
+      member-ready : MemberReady s y t parts
       member-ready = record {
         lies = member-lies (bytesOf s y) (role-told h);
-        classed = rw no-class (member-classed (f .class) (lineOf (bytesOf s y)) (role-told h) (st .clean));
+        classed = rw (k .classes) (member-classed (f .class) (lineOf (bytesOf s y)) (role-told h) (st .clean));
       }
 
-      texts : MemberTexts
-      texts = textsIn s (readBack rows p₀) y t parts
-
-      entry : Entry
-      entry = entryOf (f .class - 1) texts (parts .body)
-
-      rest : List Entry
-      rest = entriesFrom (readBack rows p₀) (under (y .sum .class) (partOf s (span (t .own) (t .«own_end»)))) (lines (drop (y .next) s))
-
-      -- this line's member, and those after it
-      member-step : members (lines s) (readBack rows p₀) ≡ k .done ++ (entry ∷ rest)
-      unfolding here entry rest texts
-      member-step =
-          step ∙ ap (λ es. k .done ++ (es ++ entriesFrom (readBack rows p₀) (underAfter here (bytesOf s y) (lineOf (bytesOf s y))) (lines (drop (y .next) s))))
-          (entry-member (readBack rows p₀) here (residualIn (lines (drop (y .next) s))) (bytesOf s y) (lineOf (bytesOf s y)) (role-told h))
-          ∙ ap (λ w. k .done ++ (entryOf (f .class - 1) (textsIn s (readBack rows p₀) y t parts) (parts .body) ∷ entriesFrom (readBack rows p₀) w (lines (drop (y .next) s))))
-          (under-member here (bytesOf s y) (lineOf (bytesOf s y)) (role-told h) ∙ ap (λ c. under c (partOf s (span (t .own) (t .«own_end»)))) (sym next-class))
-
-      past : t .place ≡ used + length (entryPool (k .done))
-      past = k .held .texts .past
-
-      text-is : entryText entry ≡ allTexts texts
-      unfolding entry texts
-      text-is = entry-text (f .class - 1) (readBack rows p₀) (residualIn (lines (drop (y .next) s))) (partOf s (span (t .own) (t .«own_end»))) (bytesOf s y) parts
-
-      few : length m ≤ t .row → Over (members (lines s) (readBack rows p₀)) used m₀ p₀
-      few l =
-          let c = k .counts in
-          let size = k .rows-size in
-          let all = ap length member-step ∙ length-append (k .done) (entry ∷ rest) in
-          inl (omega arith)
-
-      short : length p < t .place + length (allTexts (textsIn s (readBack rows p) y t parts)) → Over (members (lines s) (readBack rows p₀)) used m₀ p₀
-      unfolding join texts
-      short l =
-          let over : length p < t .place + length (allTexts texts) = rw (k .same) at l in
-          let size = k .pool-size in
-          let before = past in
-          let u = ap length text-is in
-          let all = ap (λ es. length (entryPool es)) member-step ∙ ap length (join-append entryText (k .done) (entry ∷ rest))
-          ∙ length-append (entryPool (k .done)) (entryText entry ++ entryPool rest) in
-          let v = length-append (entryText entry) (entryPool rest) in
-          inr (omega arith)
-
-      module _ {t₁ : Slot} {m₁ : List (List ℕ)} {p₁ : List ℕ} (w : WrittenMember t₁ s rows y parts t m p m₁ p₁) where
-        it : EnteredTexts (w .places) p (t .place) texts p₁
-        unfolding texts
-        it = rw (k .same) at (w .texts)
-
-        row-is : packMember (memberPlaced (y .sum .class - 1) (t .place) (w .places) (parts .body)) ≡ entryRow (used + length (entryPool (k .done))) entry
-        unfolding entry
-        row-is =
-            ap (λ c. packMember (memberPlaced (c - 1) (t .place) (w .places) (parts .body))) no-class
-            ∙ entry-row (f .class - 1) (t .place) (w .places) texts (parts .body) (it .placed) ∙ ap (λ x. entryRow x entry) past
-
-        filling-member : Filling s rows index used m₀ p₀ (y .next) t₁ (y .«has_member») (y .sum) m₁ p₁
-        unfolding rest
-        filling-member =
-            let size = k .rows-size in
-            let c = k .counts in
-            let l = w .room in
-            let rows-count : t .row ≡ 0 + length (entryRows used (k .done)) = c ∙ sym (rows-length entryRow entryText used (k .done)) ∙ sym (zero-add (length (entryRows used (k .done)))) in
-            let fits : 0 + length (entryRows used (k .done)) < length m₀ = omega arith in
-            let row : List ℕ = packMember (memberPlaced (y .sum .class - 1) (t .place) (w .places) (parts .body)) in
-            let texts-are : entryPool (k .done) ++ allTexts texts ≡ entryPool (k .done ++ (entry ∷ [])) =
-            ap (λ x. entryPool (k .done) ++ x) (sym text-is) ∙ sym (join-more entryText (k .done) entry) in
-            rw (w .row, w .next) (record {
-              short = k .short;
-              scanning = next-scan;
-              done = k .done ++ (entry ∷ []);
-              split = member-step ∙ sym (append-assoc (k .done) (entry ∷ []) rest);
-              held = record {
-                room = rw (length-append (k .done) (entry ∷ [])) (omega arith);
-                rows =
-                    ap (λ x. set x (t .row) row) (k .held .rows) ∙ ap (λ x. set (put m₀ 0 (entryRows used (k .done))) x row) rows-count
-                    ∙ put-set m₀ 0 (entryRows used (k .done)) row fits
-                    ∙ ap (λ x. put m₀ 0 (entryRows used (k .done) ++ (x ∷ []))) row-is ∙ ap (put m₀ 0) (sym (rows-more entryRow entryText used (k .done) entry));
-                texts = wrote-as (Done (w .places .«end»)) p₀ used p₁ texts-are (wrote-then (Done (w .places .«end»)) (allTexts texts) p₁ (k .held .texts) (it .written));
-              };
-              counts = ap (λ x. x + 1) c ∙ sym (length-append (k .done) (entry ∷ []));
-              indexed = indexed-put (k .indexed) (it .written);
-              same = read-back-put (k .indexed) (it .written) ∙ k .same;
-              lies = k .lies;
-              pool-size = written-length (it .written) ∙ k .pool-size;
-              rows-size = length-set m (t .row) row ∙ k .rows-size;
-            })
-
     -- A line is entered by its role.
-    role-ready : (ro : Role) → roleOf (y .kind) ≡ ro → RoleReady ro s y
+    role-ready : (ro : Role) → roleOf (y .kind) ≡ ro → RoleReady ro s y t
     role-ready Neither h = tt
     role-ready (Class d) h = inside h
     role-ready (Member parts) h = member-ready h
 
-    pub filling-ready : length p₀ ≤ mostPool → Ready s rows index y t p
-    filling-ready most = record {
+    pub filling-ready : Ready s rows index y t p
+    filling-ready = record {
       short = k .short;
       order = taken .order;
       inside = taken .ends;
       rest = taken .inside;
       own-order = k .lies .order;
       own-inside = k .lies .within;
-      pool = let size = k .pool-size in omega arith;
+      pool = let size = k .pool-size in let most = k .most in omega arith;
       indexed = k .indexed;
+      few = let c = k .classes in let w = k .scanning .within in let l = w .lines in let n = w .class in let i = k .scanning .inside in let h = k .short in omega arith;
       role = role-ready (roleOf (y .kind)) refl;
     }
 
-    module _ (o : NextSlot) (m₁ : List (List ℕ)) (p₁ : List ℕ) (w : EnterBy (roleOf (y .kind)) o s rows y t m p m₁ p₁) where
-      pub filling-entered : {t₁ : Slot} → o ≡ At t₁ → Filling s rows index used m₀ p₀ (y .next) t₁ (y .«has_member») (y .sum) m₁ p₁
-      filling-entered {t₁} e = go (roleOf (y .kind)) refl w
-        where
-          kept : {u : Slot} → Filling s rows index used m₀ p₀ (y .next) u (y .«has_member») (y .sum) m p → Kept o u m p m₁ p₁ → Filling s rows index used m₀ p₀ (y .next) t₁ (y .«has_member») (y .sum) m₁ p₁
-          kept {u} v z = let a = z .answer in let is : t₁ ≡ u = cc in rw (is, z .rows, z .pool) v
+    module _ {g : Fates} (sum : g ≡ plus f (one (y .fate))) where
+      next-scan : Scanning s 0 noFates false (y .next) g (y .«has_member»)
+      next-scan = scanned-more (k .scanning) st sum
 
-          go : (ro : Role) → roleOf (y .kind) ≡ ro → EnterBy ro o s rows y t m p m₁ p₁ → Filling s rows index used m₀ p₀ (y .next) t₁ (y .«has_member») (y .sum) m₁ p₁
-          go Neither h z = kept (filling-neither h) z
-          go (Class d) h z = kept (filling-class h) z
-          go (Member parts) h z = filling-member h (rw e at z)
+      pub filling-within : Within g (y .next)
+      filling-within = next-scan .within
 
-      pub filling-over : o ≡ NoRoom → {sc : Scan} → sc ≡ scanOn (y .sum) (y .«has_member») (lines (drop (y .next) s)) → CutShort sc (lines s) (readBack rows p₀) used m₀ p₀
-      filling-over e i = record { scanned = short-scan i; over = go (roleOf (y .kind)) refl w }
-        where
-          none : {u : Slot} → o ≡ At u → Over (members (lines s) (readBack rows p₀)) used m₀ p₀
-          none f = absurd (let z : _≡_ {A = ℕ} 0 1 = cc in omega arith)
+      next-class : g .class ≡ f .class + classLine (lineOf (bytesOf s y))
+      next-class =
+          ap (λ y. y .class) (sum ∙ ap (λ z. plus f (one z)) (st .fate))
+          ∙ ap (λ y. f .class + y) (fate-class member (bytesOf s y) (lineOf (bytesOf s y)))
 
-          go : (ro : Role) → roleOf (y .kind) ≡ ro → EnterBy ro o s rows y t m p m₁ p₁ → Over (members (lines s) (readBack rows p₀)) used m₀ p₀
-          go Neither h z = none (z .answer)
-          go (Class d) h z = none (z .answer)
-          go (Member parts) h z =
-              let c : (length m ≤ t .row) ⊎ (length p < t .place + length (allTexts (textsIn s (readBack rows p) y t parts))) = rw e at z in
-              ⊎-elim (few h) (short h) c
+      here : Under
+      here = under (f .class) (partOf s (span (t .own) (t .«own_end»)))
+
+      -- the members that are left: that of this line, and those after it
+      step : members (lines s) (readBack rows p₀) ≡ k .done ++ (entryIn (readBack rows p₀) here (residualIn (lines (drop (y .next) s))) (bytesOf s y) (lineOf (bytesOf s y))
+          ++ entriesFrom (readBack rows p₀) (underAfter here (bytesOf s y) (lineOf (bytesOf s y))) (lines (drop (y .next) s)))
+      unfolding entriesFrom here
+      step = k .split ∙ ap (λ ls. k .done ++ entriesFrom (readBack rows p₀) (under (f .class) (partOf s (span (t .own) (t .«own_end»)))) ls) (taken .split)
+
+      short-scan : {sc : Scan} → sc ≡ scanOn g (y .«has_member») (lines (drop (y .next) s)) → sc ≡ scanOf (lines s)
+      short-scan y = y ∙ next-scan .decides ∙ from-nothing (lines s)
+
+      pub filling-neither : roleOf (y .kind) ≡ Neither → Filling s rows index used m₀ p₀ (y .next) t (y .«has_member») g m p
+      unfolding here
+      filling-neither h = record {
+        short = k .short;
+        most = k .most;
+        scanning = next-scan;
+        done = k .done;
+        split =
+            step ∙ ap (λ es. k .done ++ (es ++ entriesFrom (readBack rows p₀) (underAfter here (bytesOf s y) (lineOf (bytesOf s y))) (lines (drop (y .next) s))))
+            (entry-neither (readBack rows p₀) here (residualIn (lines (drop (y .next) s))) (bytesOf s y) (lineOf (bytesOf s y)) (role-told h))
+            ∙ ap (λ w. k .done ++ entriesFrom (readBack rows p₀) w (lines (drop (y .next) s)))
+            (under-neither here (bytesOf s y) (lineOf (bytesOf s y)) (role-told h) ∙ ap (λ c. under c (partOf s (span (t .own) (t .«own_end»)))) (sym next-class));
+        held = k .held;
+        counts = k .counts;
+        classes = k .classes ∙ sym (next-class ∙ ap (λ c. f .class + c) (neither-counts (lineOf (bytesOf s y)) (role-told h)) ∙ add-zero (f .class));
+        indexed = k .indexed;
+        same = k .same;
+        lies = k .lies;
+        pool-size = k .pool-size;
+        rows-size = k .rows-size;
+      }
+
+      module _ {d : Span} (h : roleOf (y .kind) ≡ Class d) where
+        pub filling-class : Filling s rows index used m₀ p₀ (y .next) (underClass y d t) (y .«has_member») g m p
+        unfolding here
+        filling-class = record {
+          short = k .short;
+          most = k .most;
+          scanning = next-scan;
+          done = k .done;
+          split =
+              step ∙ ap (λ es. k .done ++ (es ++ entriesFrom (readBack rows p₀) (underAfter here (bytesOf s y) (lineOf (bytesOf s y))) (lines (drop (y .next) s))))
+              (entry-class (readBack rows p₀) here (residualIn (lines (drop (y .next) s))) (bytesOf s y) (lineOf (bytesOf s y)) (role-told h))
+              ∙ ap (λ w. k .done ++ entriesFrom (readBack rows p₀) w (lines (drop (y .next) s)))
+              (under-class here (bytesOf s y) (lineOf (bytesOf s y)) (role-told h) ∙ ap (λ c. under c (partOf (bytesOf s y) d)) (sym next-class)
+              ∙ ap (under (g .class)) (part-part s (y .start) (y .«end») (d .start) (d .«end») (in-line h)));
+          held = k .held;
+          counts = k .counts;
+          classes = ap (λ c. c + 1) (k .classes) ∙ sym (next-class ∙ ap (λ c. f .class + c) (class-counts (lineOf (bytesOf s y)) (role-told h)));
+          indexed = k .indexed;
+          same = k .same;
+          lies = record { order = let o = inside h .order in omega arith; within = let w = in-line h in let f = taken .ends in let o₂ = taken .order in omega arith };
+          pool-size = k .pool-size;
+          rows-size = k .rows-size;
+        }
+
+      module _ {parts : MemberLine} (h : roleOf (y .kind) ≡ Member parts) where
+        no-class : g .class ≡ f .class
+        no-class = next-class ∙ ap (λ c. f .class + c) (member-counts (lineOf (bytesOf s y)) (role-told h)) ∙ add-zero (f .class)
+
+        texts : MemberTexts
+        texts = textsIn s (readBack rows p₀) y t parts
+
+        entry : Entry
+        entry = entryOf (f .class - 1) texts (parts .body)
+
+        rest : List Entry
+        rest = entriesFrom (readBack rows p₀) (under (g .class) (partOf s (span (t .own) (t .«own_end»)))) (lines (drop (y .next) s))
+
+        -- this line's member, and those after it
+        member-step : members (lines s) (readBack rows p₀) ≡ k .done ++ (entry ∷ rest)
+        unfolding here entry rest texts
+        member-step =
+            step ∙ ap (λ es. k .done ++ (es ++ entriesFrom (readBack rows p₀) (underAfter here (bytesOf s y) (lineOf (bytesOf s y))) (lines (drop (y .next) s))))
+            (entry-member (readBack rows p₀) here (residualIn (lines (drop (y .next) s))) (bytesOf s y) (lineOf (bytesOf s y)) (role-told h))
+            ∙ ap (λ w. k .done ++ (entryOf (f .class - 1) (textsIn s (readBack rows p₀) y t parts) (parts .body) ∷ entriesFrom (readBack rows p₀) w (lines (drop (y .next) s))))
+            (under-member here (bytesOf s y) (lineOf (bytesOf s y)) (role-told h) ∙ ap (λ c. under c (partOf s (span (t .own) (t .«own_end»)))) (sym next-class))
+
+        past : t .place ≡ used + length (entryPool (k .done))
+        past = k .held .texts .past
+
+        text-is : entryText entry ≡ allTexts texts
+        unfolding entry texts
+        text-is = entry-text (f .class - 1) (readBack rows p₀) (residualIn (lines (drop (y .next) s))) (partOf s (span (t .own) (t .«own_end»))) (bytesOf s y) parts
+
+        few : length m ≤ t .row → Over (members (lines s) (readBack rows p₀)) used m₀ p₀
+        few l =
+            let c = k .counts in
+            let size = k .rows-size in
+            let all = ap length member-step ∙ length-append (k .done) (entry ∷ rest) in
+            inl (omega arith)
+
+        short : length p < t .place + length (allTexts (textsIn s (readBack rows p) y t parts)) → Over (members (lines s) (readBack rows p₀)) used m₀ p₀
+        unfolding join texts
+        short l =
+            let over : length p < t .place + length (allTexts texts) = rw (k .same) at l in
+            let size = k .pool-size in
+            let before = past in
+            let u = ap length text-is in
+            let all = ap (λ es. length (entryPool es)) member-step ∙ ap length (join-append entryText (k .done) (entry ∷ rest))
+            ∙ length-append (entryPool (k .done)) (entryText entry ++ entryPool rest) in
+            let v = length-append (entryText entry) (entryPool rest) in
+            inr (omega arith)
+
+        module _ {t₁ : Slot} {m₁ : List (List ℕ)} {p₁ : List ℕ} (w : WrittenMember t₁ s rows y parts t m p m₁ p₁) where
+          it : EnteredTexts (w .places) p (t .place) texts p₁
+          unfolding texts
+          it = rw (k .same) at (w .texts)
+
+          row-is : packMember (memberPlaced (t .classes - 1) (t .place) (w .places) (parts .body)) ≡ entryRow (used + length (entryPool (k .done))) entry
+          unfolding entry
+          row-is =
+              ap (λ c. packMember (memberPlaced (c - 1) (t .place) (w .places) (parts .body))) (k .classes)
+              ∙ entry-row (f .class - 1) (t .place) (w .places) texts (parts .body) (it .placed) ∙ ap (λ x. entryRow x entry) past
+
+          filling-member : Filling s rows index used m₀ p₀ (y .next) t₁ (y .«has_member») g m₁ p₁
+          unfolding rest
+          filling-member =
+              let size = k .rows-size in
+              let c = k .counts in
+              let l = w .room in
+              let rows-count : t .row ≡ 0 + length (entryRows used (k .done)) = c ∙ sym (rows-length entryRow entryText used (k .done)) ∙ sym (zero-add (length (entryRows used (k .done)))) in
+              let fits : 0 + length (entryRows used (k .done)) < length m₀ = omega arith in
+              let row : List ℕ = packMember (memberPlaced (t .classes - 1) (t .place) (w .places) (parts .body)) in
+              let texts-are : entryPool (k .done) ++ allTexts texts ≡ entryPool (k .done ++ (entry ∷ [])) =
+              ap (λ x. entryPool (k .done) ++ x) (sym text-is) ∙ sym (join-more entryText (k .done) entry) in
+              rw (w .row, w .next) (record {
+                short = k .short;
+                most = k .most;
+                scanning = next-scan;
+                done = k .done ++ (entry ∷ []);
+                split = member-step ∙ sym (append-assoc (k .done) (entry ∷ []) rest);
+                held = record {
+                  room = rw (length-append (k .done) (entry ∷ [])) (omega arith);
+                  rows =
+                      ap (λ x. set x (t .row) row) (k .held .rows) ∙ ap (λ x. set (put m₀ 0 (entryRows used (k .done))) x row) rows-count
+                      ∙ put-set m₀ 0 (entryRows used (k .done)) row fits
+                      ∙ ap (λ x. put m₀ 0 (entryRows used (k .done) ++ (x ∷ []))) row-is ∙ ap (put m₀ 0) (sym (rows-more entryRow entryText used (k .done) entry));
+                  texts = wrote-as (Done (w .places .«end»)) p₀ used p₁ texts-are (wrote-then (Done (w .places .«end»)) (allTexts texts) p₁ (k .held .texts) (it .written));
+                };
+                counts = ap (λ x. x + 1) c ∙ sym (length-append (k .done) (entry ∷ []));
+                classes = k .classes ∙ sym no-class;
+                indexed = indexed-put (k .indexed) (it .written);
+                same = read-back-put (k .indexed) (it .written) ∙ k .same;
+                lies = k .lies;
+                pool-size = written-length (it .written) ∙ k .pool-size;
+                rows-size = length-set m (t .row) row ∙ k .rows-size;
+              })
+
+      module _ (o : NextSlot) (m₁ : List (List ℕ)) (p₁ : List ℕ) (w : EnterBy (roleOf (y .kind)) o s rows y t m p m₁ p₁) where
+        pub filling-entered : {t₁ : Slot} → o ≡ At t₁ → Filling s rows index used m₀ p₀ (y .next) t₁ (y .«has_member») g m₁ p₁
+        filling-entered {t₁} e = go (roleOf (y .kind)) refl w
+          where
+            kept : {u : Slot} → Filling s rows index used m₀ p₀ (y .next) u (y .«has_member») g m p → Kept o u m p m₁ p₁ → Filling s rows index used m₀ p₀ (y .next) t₁ (y .«has_member») g m₁ p₁
+            kept {u} v z = let a = z .answer in let is : t₁ ≡ u = cc in rw (is, z .rows, z .pool) v
+
+            go : (ro : Role) → roleOf (y .kind) ≡ ro → EnterBy ro o s rows y t m p m₁ p₁ → Filling s rows index used m₀ p₀ (y .next) t₁ (y .«has_member») g m₁ p₁
+            go Neither h z = kept (filling-neither h) z
+            go (Class d) h z = kept (filling-class h) z
+            go (Member parts) h z = filling-member h (rw e at z)
+
+        pub filling-over : o ≡ NoRoom → {sc : Scan} → sc ≡ scanOn g (y .«has_member») (lines (drop (y .next) s)) → CutShort sc (lines s) (readBack rows p₀) used m₀ p₀
+        filling-over e i = record { scanned = short-scan i; over = go (roleOf (y .kind)) refl w }
+          where
+            none : {u : Slot} → o ≡ At u → Over (members (lines s) (readBack rows p₀)) used m₀ p₀
+            none f = absurd (let z : _≡_ {A = ℕ} 0 1 = cc in omega arith)
+
+            go : (ro : Role) → roleOf (y .kind) ≡ ro → EnterBy ro o s rows y t m p m₁ p₁ → Over (members (lines s) (readBack rows p₀)) used m₀ p₀
+            go Neither h z = none (z .answer)
+            go (Class d) h z = none (z .answer)
+            go (Member parts) h z =
+                let c : (length m ≤ t .row) ⊎ (length p < t .place + length (allTexts (textsIn s (readBack rows p) y t parts))) = rw e at z in
+                ⊎-elim (few h) (short h) c
 
 pub ruleset filling = (
+  step-fits,
+  step-bounds,
   filling-starts,
   filling-ends,
   filling-none,

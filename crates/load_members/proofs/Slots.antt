@@ -6,7 +6,7 @@ use Prim.Native.Nat.{ℕ, _+_, _-_, _≤_, _<_}
 use native.Mathlib.Omega.{arith}
 use lib.ListN.{length, take, drop, set, length-take}
 use mir.Val.{Fits}
-use mir.Syntax.{w64}
+use mir.Syntax.{w32, w64}
 use borrow.Author.Needs.{needs}
 use Rattle.ground.specs.Put.{between}
 use Rattle.ground.proofs.Parts.{take-rest}
@@ -34,7 +34,7 @@ use Rattle.load_members.specs.inner.Roles.{roleOf}
 use Rattle.load_members.specs.inner.Enters.{slotAt, MemberReady, RoleReady, Ready, textsIn, WrittenMember, WrittenMemberBy, underClass, EnterBy}
 
 -- A member.
-pub member-parts : {s : List ℕ} {x : LineStep} {parts : MemberLine} → MemberReady s x parts → MemberIn parts (length (between s (x .start) (x .«end»)))
+pub member-parts : {s : List ℕ} {x : LineStep} {t : Slot} {parts : MemberLine} → MemberReady s x t parts → MemberIn parts (length (between s (x .start) (x .«end»)))
 member-parts k = k .lies
 
 module _ {s : List ℕ} {rows : List (List ℕ)} {index : List ℕ} {x : LineStep} {t : Slot} {p : List ℕ} (k : Ready s rows index x t p) where
@@ -69,24 +69,27 @@ module _ {s : List ℕ} {rows : List (List ℕ)} {index : List ℕ} {x : LineSte
             let end-is = it .written .past in
             record { raw = omega arith; descriptor = omega arith; name = omega arith; owner = omega arith; inside = omega arith }
 
-        pub member-at : t .row < length m → {row : List ℕ} → row ≡ packMember (memberPlaced (x .sum .class - 1) (t .place) places (parts .body)) →
-            WrittenMember (slotAt (t .row + 1) (places .«end») (t .own) (t .«own_end»)) s rows x parts t m p (set m (t .row) row) p₁
+        pub member-at : t .row < length m → {row : List ℕ} → row ≡ packMember (memberPlaced (t .classes - 1) (t .place) places (parts .body)) →
+            WrittenMember (slotAt (t .row + 1) (places .«end») (t .classes) (t .own) (t .«own_end»)) s rows x parts t m p (set m (t .row) row) p₁
         member-at h f = record { places = places; texts = it; room = h; row = rw f refl; next = refl }
 
 pub ruleset member-slots = (member-parts, member-indexed, member-few, member-short, member-rising, member-at, needs)
 
 -- A line by its role.
-role-class : (ro : Role) (s : List ℕ) (x : LineStep) {d : Span} → RoleReady ro s x → ro ≡ Class d → Lies d (length (bytesOf s x))
-role-class ro s x k e = rw e at k
+role-class : (ro : Role) (s : List ℕ) (x : LineStep) (t : Slot) {d : Span} → RoleReady ro s x t → ro ≡ Class d → Lies d (length (bytesOf s x))
+role-class ro s x t k e = rw e at k
 
-role-member : (ro : Role) (s : List ℕ) (x : LineStep) {parts : MemberLine} → RoleReady ro s x → ro ≡ Member parts → MemberReady s x parts
-role-member ro s x k e = rw e at k
+role-member : (ro : Role) (s : List ℕ) (x : LineStep) (t : Slot) {parts : MemberLine} → RoleReady ro s x t → ro ≡ Member parts → MemberReady s x t parts
+role-member ro s x t k e = rw e at k
 
 module _ {s : List ℕ} {rows : List (List ℕ)} {index : List ℕ} {x : LineStep} {t : Slot} {p : List ℕ} (k : Ready s rows index x t p)
     {ro : Role} (g : ro ≡ roleOf (x .kind)) where
+  pub line-classes : Fits w32 (t .classes + 1)
+  line-classes = let f = k .few in omega arith
+
   module _ {d : Span} (e : ro ≡ Class d) where
     named : Lies d (length (bytesOf s x))
-    named = role-class (roleOf (x .kind)) s x (k .role) (sym g ∙ e)
+    named = role-class (roleOf (x .kind)) s x t (k .role) (sym g ∙ e)
 
     within : d .«end» ≤ x .«end» - x .start
     within = let w = named .within in let l = length-take (x .«end» - x .start) (drop (x .start) s) in omega arith
@@ -97,8 +100,8 @@ module _ {s : List ℕ} {rows : List (List ℕ)} {index : List ℕ} {x : LineSte
     pub line-own-end : Fits w64 (x .start + d .«end»)
     line-own-end = let a = k .short in let b = k .order in let c = k .inside in let w = within in omega arith
 
-  pub line-member : {parts : MemberLine} → ro ≡ Member parts → MemberReady s x parts
-  line-member e = role-member (roleOf (x .kind)) s x (k .role) (sym g ∙ e)
+  pub line-member : {parts : MemberLine} → ro ≡ Member parts → MemberReady s x t parts
+  line-member e = role-member (roleOf (x .kind)) s x t (k .role) (sym g ∙ e)
 
 module _ (s : List ℕ) (rows : List (List ℕ)) (x : LineStep) (t : Slot) (m : List (List ℕ)) (p : List ℕ) {ro : Role} (g : ro ≡ roleOf (x .kind)) where
   pub line-neither : ro ≡ Neither → EnterBy (roleOf (x .kind)) (At t) s rows x t m p m p
@@ -111,4 +114,4 @@ module _ (s : List ℕ) (rows : List (List ℕ)) (x : LineStep) (t : Slot) (m : 
       EnterBy (roleOf (x .kind)) r s rows x t m p m₁ p₁
   line-entered e r m₁ p₁ w = rw (← g, e) w
 
-pub ruleset line-slots = (line-own, line-own-end, line-member, line-neither, line-class, line-entered, needs)
+pub ruleset line-slots = (line-classes, line-own, line-own-end, line-member, line-neither, line-class, line-entered, needs)

@@ -12,11 +12,12 @@ ghost use mathlib.Core.Path.{_≡_};
 ghost use Rattle.load_members.specs.inner.Roles.{roleOf};
 ghost use Rattle.load_members.specs.inner.Enters.{slotAt, Ready, MemberReady, WrittenMemberBy, EnterBy};
 
-// Where the next member goes: its row, and the place of its texts. The display name of its class line stands in the text from `own` to
-// `own_end`.
+// Where the next member goes: its row, and the place of its texts. `classes` class lines stand before it; the display name of the last
+// one stands in the text from `own` to `own_end`.
 pub struct Slot {
     pub row: usize,
     pub place: usize,
+    pub classes: u32,
     pub own: usize,
     pub own_end: usize,
 }
@@ -29,11 +30,12 @@ pub enum NextSlot {
 
 // Where the first member goes, if the pool is used up to the place `used`.
 pub fn first_slot(used: usize) -> Slot
-    ensures { λ r. ⌜ r ≡ slotAt 0 used 0 0 ⌝ }
+    ensures { λ r. ⌜ r ≡ slotAt 0 used 0 0 0 ⌝ }
 {
     Slot {
         row: 0,
         place: used,
+        classes: 0,
         own: 0,
         own_end: 0,
     }
@@ -50,7 +52,7 @@ fn enter_member(
     classes: &[ClassRow],
     index: &[u16],
 ) -> NextSlot
-    requires { ⌜ Ready (now text) (now classes) (now index) line slot (now pool) × MemberReady (now text) line parts ⌝ }
+    requires { ⌜ Ready (now text) (now classes) (now index) line slot (now pool) × MemberReady (now text) line slot parts ⌝ }
     ensures { λ r.
         ⌜ WrittenMemberBy r (now (text .entry)) (now (classes .entry)) line parts slot (now (members .entry)) (now (pool .entry))
         (now (members .exit)) (now (pool .exit)) ⌝ }
@@ -73,7 +75,7 @@ fn enter_member(
         return NextSlot::NoRoom;
     };
     let body = parts.body;
-    members[row] = member_row(line.sum.class - 1, place, places, body);
+    members[row] = member_row(slot.classes - 1, place, places, body);
     let mut following = slot;
     following.row += 1;
     following.place = places.end;
@@ -100,6 +102,7 @@ pub fn enter_line(
         Role::Neither => NextSlot::At(slot),
         Role::Class(display) => {
             let mut named = slot;
+            named.classes += 1;
             named.own = line.start + display.start;
             named.own_end = line.start + display.end;
             NextSlot::At(named)

@@ -5,6 +5,7 @@ use crate::enter::first_slot;
 use load_rule::Fates;
 use load_rule::Scan;
 use load_scan::Step;
+use load_scan::counted;
 use load_scan::next_step;
 use load_scan::no_fates;
 use load_scan::scan_from;
@@ -47,17 +48,19 @@ pub fn write_members(
     let mut member = false;
     let mut slot = first_slot(used);
     while at < text.len() {
-        match next_step(text, at, fates, member) {
+        match next_step(text, at, fates.class, member) {
             Step::End => {
                 let end = slot.place;
                 return Filled::Written { fates, end };
             }
-            Step::Faulty { number, line } => {
+            Step::Faulty(number) => {
+                let line = fates.lines + 1;
                 return Filled::Faulty { number, line };
             }
             Step::Line(line) => {
                 at = line.next;
-                fates = line.sum;
+                let fate = line.fate;
+                fates = counted(fates, fate);
                 member = line.has_member;
                 let next = enter_line(members, pool, text, line, slot, classes, index);
                 let NextSlot::At(after) = next else {

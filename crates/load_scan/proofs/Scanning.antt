@@ -21,7 +21,7 @@ use Rattle.load_scan.specs.declared.step.Step.{Step}
 use Rattle.load_scan.specs.declared.step.Step.the-variants as steps
 use Rattle.load_scan.specs.inner.Bounds.{Within}
 use Rattle.load_scan.specs.inner.Steps.{scanOn, bytesOf, StepLine, StepBy}
-use Rattle.load_scan.proofs.Stepping.{step-told, step-ended, step-faulty}
+use Rattle.load_scan.proofs.Stepping.{step-fits, step-bounds, step-told, step-ended, step-faulty}
 
 -- Bounds of one line's fate.
 within-one : {b a i c f m s : ℕ} → b + a + i + c + f + m ≤ 1 → s ≤ m →
@@ -80,16 +80,18 @@ pub scanning-starts : (s : List ℕ) («from» : ℕ) (before : Fates) (has : Bo
 scanning-starts s p before has h w = record { inside = h; within = w; decides = refl }
 
 -- one line more
-pub scanned-more : {s : List ℕ} {«from» : ℕ} {before : Fates} {has : Bool} {at : ℕ} {f : Fates} {member : Bool} {x : LineStep} →
-    Scanning s «from» before has at f member → StepLine s at f member x → Scanning s «from» before has (x .next) (x .sum) (x .«has_member»)
-scanned-more {s} {«from»} {before} {has} {at} {f} {member} {x} k t =
+pub scanned-more : {s : List ℕ} {«from» : ℕ} {before : Fates} {has : Bool} {at : ℕ} {f : Fates} {member : Bool} {x : LineStep} {g : Fates} →
+    Scanning s «from» before has at f member → StepLine s at (f .class) member x → g ≡ plus f (one (x .fate)) →
+    Scanning s «from» before has (x .next) g (x .«has_member»)
+scanned-more {s} {«from»} {before} {has} {at} {f} {member} {x} {g} k t e =
     let l : List ℕ = bytesOf s x in
     let o = t .taken .past in
+    let sum : g ≡ plus f (one (fateOf member l (lineOf l))) = e ∙ ap (λ y. plus f (one y)) (t .fate) in
     record {
       inside = t .taken .inside;
-      within = rw (t .sum) (plus-within f (one (fateOf member l (lineOf l))) at (x .next) (k .within) (one-within (fateOf member l (lineOf l))) (omega arith));
+      within = rw sum (plus-within f (one (fateOf member l (lineOf l))) at (x .next) (k .within) (one-within (fateOf member l (lineOf l))) (omega arith));
       decides =
-          rw (t .sum, t .after) (sym (scan-line f member l (lines (drop (x .next) s)) (t .clean))) ∙ sym (ap (scanOn f member) (t .taken .split)) ∙ k .decides;
+          rw (sum, t .after) (sym (scan-line f member l (lines (drop (x .next) s)) (t .clean))) ∙ sym (ap (scanOn f member) (t .taken .split)) ∙ k .decides;
     }
 
 module _ {s : List ℕ} {«from» : ℕ} {before : Fates} {has : Bool} {at : ℕ} {f : Fates} {member : Bool} (k : Scanning s «from» before has at f member) where
@@ -105,23 +107,23 @@ module _ {s : List ℕ} {«from» : ℕ} {before : Fates} {has : Bool} {at : ℕ
   pub scanning-within : Within f at
   scanning-within = k .within
 
-  module _ (r : Step) (w : StepBy r s at f member) where
+  module _ (r : Step) (w : StepBy r s at (f .class) member) where
     pub scanning-none : r ≡ steps.End → Sound f ≡ scanOn before has (lines (drop «from» s))
-    scanning-none q = ended (step-ended s at f member r w q)
+    scanning-none q = ended (step-ended s at (f .class) member r w q)
 
-    pub scanning-fault : {number line : ℕ} → r ≡ steps.Faulty number line → Faulty number line ≡ scanOn before has (lines (drop «from» s))
-    scanning-fault q = sym (step-faulty s at f member r w q) ∙ k .decides
+    pub scanning-fault : {number : ℕ} → r ≡ steps.Faulty number → Faulty number (f .lines + 1) ≡ scanOn before has (lines (drop «from» s))
+    scanning-fault q = sym (step-faulty s at (f .class) member r w q f refl) ∙ k .decides
 
     module _ {x : LineStep} (q : r ≡ steps.Line x) where
-      pub scanning-more : Scanning s «from» before has (x .next) (x .sum) (x .«has_member»)
-      scanning-more = scanned-more k (step-told s at f member r w q)
+      pub scanning-more : {g : Fates} → g ≡ plus f (one (x .fate)) → Scanning s «from» before has (x .next) g (x .«has_member»)
+      scanning-more e = scanned-more k (step-told s at (f .class) member r w q) e
 
       pub scanning-falls : at < length s → length s - x .next < length s - at
       scanning-falls h =
-          let t = step-told s at f member r w q .taken in
+          let t = step-told s at (f .class) member r w q .taken in
           let u = t .past in
           let i = t .inside in
           omega arith
 
 pub ruleset scanning =
-    (scanning-starts, scanning-ends, scanning-inside, scanning-within, scanning-none, scanning-fault, scanning-more, scanning-falls, needs)
+    (step-fits, step-bounds, scanning-starts, scanning-ends, scanning-inside, scanning-within, scanning-none, scanning-fault, scanning-more, scanning-falls, needs)

@@ -20,13 +20,13 @@ use Rattle.line.specs.Kinds.{lineOf}
 use Rattle.load_rule.specs.declared.Fate.{Fate}
 use Rattle.load_rule.specs.declared.Fates.{Fates}
 use Rattle.load_rule.specs.declared.Scan.the-variants as scan
-use Rattle.load_rule.specs.Fates.{plus, one, fateOf, memberAfter, faultOf, fatesFrom, faultsFrom}
+use Rattle.load_rule.specs.Fates.{fateOf, memberAfter, faultOf, fatesFrom, faultsFrom}
 use Rattle.load_rule.specs.Loading.{mostText}
 use Rattle.load_scan.specs.declared.step.LineStep.{LineStep}
 use Rattle.load_scan.specs.declared.step.Step.{Step}
 use Rattle.load_scan.specs.declared.step.Step.the-variants as steps
 use Rattle.load_scan.specs.inner.Bounds.{Within}
-use Rattle.load_scan.specs.inner.Steps.{scanOn, StepLine, StepBy}
+use Rattle.load_scan.specs.inner.Steps.{scanOn, StepLine, StepFault, StepBy}
 
 pub within-more : (f : Fates) (a n : ℕ) → Within f a → a ≤ n → Within f n
 within-more f a n v h = record {
@@ -45,13 +45,15 @@ pub scan-fault : (f : Fates) (member : Bool) (l : List ℕ) (ls : List (List ℕ
 unfolding fatesFrom faultsFrom
 scan-fault f member l ls n = rw (ne-eqb (faultOf (f .class) (lineOf l)) 0 n)
 
-module _ (s : List ℕ) (at : ℕ) (f : Fates) (member : Bool) where
+-- One line more can be counted.
+module _ (s : List ℕ) {at : ℕ} {f : Fates} where
   pub step-fits : length s ≤ mostText → at ≤ length s → Within f at → Fits w32 (f .lines + 1)
   step-fits h i w = let l = w .lines in omega arith
 
   pub step-bounds : length s ≤ mostText → at ≤ length s → Within f at → Within f mostText
   step-bounds h i w = within-more f at mostText w (omega arith)
 
+module _ (s : List ℕ) (at classes : ℕ) (member : Bool) where
   module _ {t : NextLine} (b : t ≡ nextLine s at) where
     pub step-end : t ≡ NoLine → lines (drop at s) ≡ []
     step-end q = none-taken s at b q
@@ -61,36 +63,36 @@ module _ (s : List ℕ) (at : ℕ) (f : Fates) (member : Bool) where
         pub step-kind : lineOf (between s a e) ≡ kind
         step-kind = sym r
 
-        module _ {number : ℕ} (x : number ≡ faultOf (f .class) kind) where
-          told : number ≡ faultOf (f .class) (lineOf (between s a e))
-          told = x ∙ ap (faultOf (f .class)) r
+        module _ {number : ℕ} (x : number ≡ faultOf classes kind) where
+          told : number ≡ faultOf classes (lineOf (between s a e))
+          told = x ∙ ap (faultOf classes) r
 
-          pub step-fault : (number ≡ 0 → ⊥) → scanOn f member (lines (drop at s)) ≡ scan.Faulty number (f .lines + 1)
-          step-fault z =
-              let no : faultOf (f .class) (lineOf (between s a e)) ≡ 0 → ⊥ = λ y. z (told ∙ y) in
+          pub step-fault : (number ≡ 0 → ⊥) → StepFault s at classes member number
+          step-fault z f g =
+              let same : number ≡ faultOf (f .class) (lineOf (between s a e)) = told ∙ ap (λ y. faultOf y (lineOf (between s a e))) (sym g) in
+              let no : faultOf (f .class) (lineOf (between s a e)) ≡ 0 → ⊥ = λ y. z (same ∙ y) in
               ap (scanOn f member) (line-taken s at b q .split) ∙ scan-fault f member (between s a e) (lines (drop n s)) no
-              ∙ ap (λ y. scan.Faulty y (f .lines + 1)) (sym told)
+              ∙ ap (λ y. scan.Faulty y (f .lines + 1)) (sym same)
 
-          pub step-line : number ≡ 0 → {k : Fate} → k ≡ fateOf member (between s a e) kind → {g : Fates} → g ≡ plus f (one k) →
-              {has : Bool} → has ≡ memberAfter member kind →
-              StepLine s at f member (record { start = a; «end» = e; next = n; sum = g; «has_member» = has; kind = kind })
-          step-line z y u v = record {
+          pub step-line : number ≡ 0 → {k : Fate} → k ≡ fateOf member (between s a e) kind → {has : Bool} → has ≡ memberAfter member kind →
+              StepLine s at classes member (record { start = a; «end» = e; next = n; kind = kind; fate = k; «has_member» = has })
+          step-line z y v = record {
             taken = line-taken s at b q;
             is = r;
             clean = sym told ∙ z;
-            sum = u ∙ ap (λ x. plus f (one x)) (y ∙ ap (fateOf member (between s a e)) r);
+            fate = y ∙ ap (fateOf member (between s a e)) r;
             after = v ∙ ap (memberAfter member) r;
           }
 
-pub ruleset stepping = (step-fits, step-bounds, step-end, line-order, line-ends, step-kind, step-fault, step-line, needs)
+pub ruleset stepping = (step-end, line-order, line-ends, step-kind, step-fault, step-line, needs)
 
 -- What it said.
-module _ (s : List ℕ) (at : ℕ) (f : Fates) (member : Bool) where
-  pub step-told : (r : Step) → StepBy r s at f member → {x : LineStep} → r ≡ steps.Line x → StepLine s at f member x
+module _ (s : List ℕ) (at classes : ℕ) (member : Bool) where
+  pub step-told : (r : Step) → StepBy r s at classes member → {x : LineStep} → r ≡ steps.Line x → StepLine s at classes member x
   step-told r w q = rw q at w
 
-  pub step-ended : (r : Step) → StepBy r s at f member → r ≡ steps.End → lines (drop at s) ≡ []
+  pub step-ended : (r : Step) → StepBy r s at classes member → r ≡ steps.End → lines (drop at s) ≡ []
   step-ended r w q = rw q at w
 
-  pub step-faulty : (r : Step) → StepBy r s at f member → {number line : ℕ} → r ≡ steps.Faulty number line → scanOn f member (lines (drop at s)) ≡ scan.Faulty number line
+  pub step-faulty : (r : Step) → StepBy r s at classes member → {number : ℕ} → r ≡ steps.Faulty number → StepFault s at classes member number
   step-faulty r w q = rw q at w

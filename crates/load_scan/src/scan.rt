@@ -1,4 +1,5 @@
 // All lines from a place on.
+use crate::fates::counted;
 use crate::step::Step;
 use crate::step::next_step;
 use load_rule::Fates;
@@ -20,16 +21,20 @@ pub fn scan_from(text: &[u8], from: usize, before: Fates, has_member: bool) -> S
     let mut fates = before;
     let mut member = has_member;
     while at < text.len() {
-        match next_step(text, at, fates, member) {
+        match next_step(text, at, fates.class, member) {
             Step::End => {
                 return Scan::Sound(fates);
             }
-            Step::Faulty { number, line } => {
-                return Scan::Faulty { number, line };
+            Step::Faulty(number) => {
+                return Scan::Faulty {
+                    number,
+                    line: fates.lines + 1,
+                };
             }
             Step::Line(line) => {
                 at = line.next;
-                fates = line.sum;
+                let fate = line.fate;
+                fates = counted(fates, fate);
                 member = line.has_member;
             }
         }

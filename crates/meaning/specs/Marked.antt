@@ -1,5 +1,5 @@
--- Document 01, "Marked examples": those marked P that speak of loading, ten of twelve, as rows of one table; the two of line translation come with
--- looking up. Each row asks one of the written rules and states its answer.
+-- Document 01, "Marked examples": those marked P that speak of loading, ten of twelve, as rows of one table; the two of line translation
+-- come with looking up. Each row asks one of the written rules and states its answer.
 use mathlib.Core.Path.{_≡_}
 use mathlib.Core.Bool.{true, false}
 use mathlib.Core.List.{List, [], _∷_}

@@ -26,18 +26,18 @@ use Rattle.load_members.specs.declared.enter.NextSlot.the-variants.{At, 
 use Rattle.load_scan.specs.inner.Steps.{bytesOf}
 use Rattle.load_members.specs.inner.Roles.{roleOf}
 
-abbrev pub slotAt : ℕ → ℕ → ℕ → ℕ → Slot
-slotAt row place own own-end = record { row = row; place = place; own = own; «own_end» = own-end }
+abbrev pub slotAt : ℕ → ℕ → ℕ → ℕ → ℕ → Slot
+slotAt row place classes own own-end = record { row = row; place = place; classes = classes; own = own; «own_end» = own-end }
 
 -- a member line has its parts in it, and stands under a class line
-pub record MemberReady (s : List ℕ) (x : LineStep) (parts : MemberLine) : Type 0 where
+pub record MemberReady (s : List ℕ) (x : LineStep) (t : Slot) (parts : MemberLine) : Type 0 where
   pub lies : MemberIn parts (length (bytesOf s x))
-  pub classed : 1 ≤ x .sum .class
+  pub classed : 1 ≤ t .classes
 
-abbrev pub RoleReady : Role → List ℕ → LineStep → Type 0
-RoleReady Neither s x = Unit {0}
-RoleReady (Class display) s x = Lies display (length (bytesOf s x))
-RoleReady (Member parts) s x = MemberReady s x parts
+abbrev pub RoleReady : Role → List ℕ → LineStep → Slot → Type 0
+RoleReady Neither s x t = Unit {0}
+RoleReady (Class display) s x t = Lies display (length (bytesOf s x))
+RoleReady (Member parts) s x t = MemberReady s x t parts
 
 -- the line `x` of the text `s` can be entered at `t`
 pub record Ready (s : List ℕ) (rows : List (List ℕ)) (index : List ℕ) (x : LineStep) (t : Slot) (p : List ℕ) : Type 0 where
@@ -49,7 +49,8 @@ pub record Ready (s : List ℕ) (rows : List (List ℕ)) (index : List ℕ) (x :
   pub own-inside : t .«own_end» ≤ length s
   pub pool : length p ≤ mostPool
   pub indexed : Indexed rows p index (t .place)
-  pub role : RoleReady (roleOf (x .kind)) s x
+  pub few : t .classes ≤ mostText
+  pub role : RoleReady (roleOf (x .kind)) s x t
 
 -- the texts of the member of a line
 abbrev pub textsIn : List ℕ → List Pair → LineStep → Slot → MemberLine → MemberTexts
@@ -61,8 +62,8 @@ pub record WrittenMember (t₁ : Slot) (s : List ℕ) (rows : List (List ℕ)) (
   pub places : Places
   pub texts : EnteredTexts places p (t .place) (textsIn s (readBack rows p) x t parts) p₁
   pub room : t .row < length m
-  pub row : m₁ ≡ set m (t .row) (packMember (memberPlaced (x .sum .class - 1) (t .place) places (parts .body)))
-  pub next : t₁ ≡ slotAt (t .row + 1) (places .«end») (t .own) (t .«own_end»)
+  pub row : m₁ ≡ set m (t .row) (packMember (memberPlaced (t .classes - 1) (t .place) places (parts .body)))
+  pub next : t₁ ≡ slotAt (t .row + 1) (places .«end») (t .classes) (t .own) (t .«own_end»)
 
 abbrev pub WrittenMemberBy : NextSlot → List ℕ → List (List ℕ) → LineStep → MemberLine → Slot →
     List (List ℕ) → List ℕ → List (List ℕ) → List ℕ → Type 0
@@ -78,7 +79,7 @@ pub record Kept (r : NextSlot) (t : Slot) (m : List (List ℕ)) (p : List ℕ) (
 
 -- the slot after a class line, by its display name
 abbrev pub underClass : LineStep → Span → Slot → Slot
-underClass x display t = slotAt (t .row) (t .place) (x .start + display .start) (x .start + display .«end»)
+underClass x display t = slotAt (t .row) (t .place) (t .classes + 1) (x .start + display .start) (x .start + display .«end»)
 
 abbrev pub EnterBy : Role → NextSlot → List ℕ → List (List ℕ) → LineStep → Slot → List (List ℕ) → List ℕ → List (List ℕ) → List ℕ → Type 0
 EnterBy Neither r s rows x t m p m₁ p₁ = Kept r t m p m₁ p₁

@@ -10,7 +10,7 @@ use Rattle.line.specs.Kinds.{lineOf}
 use Rattle.load_rule.specs.declared.Fates.{Fates}
 use Rattle.load_rule.specs.declared.Scan.{Scan}
 use Rattle.load_rule.specs.declared.Scan.the-variants as scan
-use Rattle.load_rule.specs.Fates.{plus, one, fateOf, memberAfter, faultOf, fatesFrom, faultsFrom}
+use Rattle.load_rule.specs.Fates.{plus, fateOf, memberAfter, faultOf, fatesFrom, faultsFrom}
 use Rattle.load_scan.specs.declared.step.LineStep.{LineStep}
 use Rattle.load_scan.specs.declared.step.Step.{Step}
 use Rattle.load_scan.specs.declared.step.Step.the-variants as steps
@@ -23,15 +23,20 @@ scanOn f member ls = faultsFrom (plus f (fatesFrom member ls)) (f .lines + 1) (f
 abbrev pub bytesOf : List ℕ → LineStep → List ℕ
 bytesOf s x = between s (x .start) (x .«end»)
 
--- `x` is the line at the place `at`, and has no fault
-pub record StepLine (s : List ℕ) (at : ℕ) (f : Fates) (member : Bool) (x : LineStep) : Type 0 where
+-- `x` is the line at the place `at`, after `classes` class lines, and has no fault
+pub record StepLine (s : List ℕ) (at classes : ℕ) (member : Bool) (x : LineStep) : Type 0 where
   pub taken : Taken s at (x .start) (x .«end») (x .next)
   pub is : x .kind ≡ lineOf (bytesOf s x)
-  pub clean : faultOf (f .class) (lineOf (bytesOf s x)) ≡ 0
-  pub sum : x .sum ≡ plus f (one (fateOf member (bytesOf s x) (lineOf (bytesOf s x))))
+  pub clean : faultOf classes (lineOf (bytesOf s x)) ≡ 0
+  pub fate : x .fate ≡ fateOf member (bytesOf s x) (lineOf (bytesOf s x))
   pub after : x .«has_member» ≡ memberAfter member (lineOf (bytesOf s x))
 
-abbrev pub StepBy : Step → List ℕ → ℕ → Fates → Bool → Type 0
-StepBy steps.End s at f member = lines (drop at s) ≡ []
-StepBy (steps.Faulty number line) s at f member = scanOn f member (lines (drop at s)) ≡ scan.Faulty number line
-StepBy (steps.Line x) s at f member = StepLine s at f member x
+-- the line at the place `at` is faulty, whatever became of the lines before it
+abbrev pub StepFault : List ℕ → ℕ → ℕ → Bool → ℕ → Type 0
+StepFault s at classes member number =
+    (f : Fates) → f .class ≡ classes → scanOn f member (lines (drop at s)) ≡ scan.Faulty number (f .lines + 1)
+
+abbrev pub StepBy : Step → List ℕ → ℕ → ℕ → Bool → Type 0
+StepBy steps.End s at classes member = lines (drop at s) ≡ []
+StepBy (steps.Faulty number) s at classes member = StepFault s at classes member number
+StepBy (steps.Line x) s at classes member = StepLine s at classes member x

@@ -14,11 +14,14 @@ abbrev μ-loop : tie.MeasureT-loop
 loop-holds : tie.Need-loop-holds Inv-loop μ-loop
 loop-holds c = search stringing
 
-piece-at-requires : tie.Need-piece-at-requires Inv-loop μ-loop
-piece-at-requires c κs = search stringing
+shared-slice-read-is-plain : tie.Need-shared-slice-read-is-plain Inv-loop μ-loop
+shared-slice-read-is-plain c = search stringing
 
-enum-known-next : tie.Need-enum-known-next Inv-loop μ-loop
-enum-known-next c = search stringing
+is-plain-requires : tie.Need-is-plain-requires Inv-loop μ-loop
+is-plain-requires c κs = search stringing
+
+add-at : tie.Need-add-at Inv-loop μ-loop
+add-at c = search stringing
 
 loop-less : tie.Need-loop-less Inv-loop μ-loop
 loop-less c = search stringing
@@ -26,14 +29,26 @@ loop-less c = search stringing
 loop-again : tie.Need-loop-again Inv-loop μ-loop
 loop-again c = search stringing
 
-enum-known-next-2 : tie.Need-enum-known-next-2 Inv-loop μ-loop
-enum-known-next-2 c = search stringing
+piece-at-requires : tie.Need-piece-at-requires Inv-loop μ-loop
+piece-at-requires c κs = search stringing
+
+enum-known-next : tie.Need-enum-known-next Inv-loop μ-loop
+enum-known-next c = search stringing
 
 loop-less-2 : tie.Need-loop-less-2 Inv-loop μ-loop
 loop-less-2 c = search stringing
 
 loop-again-2 : tie.Need-loop-again-2 Inv-loop μ-loop
 loop-again-2 c = search stringing
+
+enum-known-next-2 : tie.Need-enum-known-next-2 Inv-loop μ-loop
+enum-known-next-2 c = search stringing
+
+loop-less-3 : tie.Need-loop-less-3 Inv-loop μ-loop
+loop-less-3 c = search stringing
+
+loop-again-3 : tie.Need-loop-again-3 Inv-loop μ-loop
+loop-again-3 c = search stringing
 
 enum-known-next-3 : tie.Need-enum-known-next-3 Inv-loop μ-loop
 enum-known-next-3 c = search stringing
@@ -57,13 +72,18 @@ string-end-spec =
     Inv-loop
     μ-loop
     loop-holds
-    piece-at-requires
-    enum-known-next
+    shared-slice-read-is-plain
+    is-plain-requires
+    add-at
     loop-less
     loop-again
-    enum-known-next-2
+    piece-at-requires
+    enum-known-next
     loop-less-2
     loop-again-2
+    enum-known-next-2
+    loop-less-3
+    loop-again-3
     enum-known-next-3
     returns
     enum-told

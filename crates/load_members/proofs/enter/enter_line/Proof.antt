@@ -18,6 +18,9 @@ add-named c = search line-slots
 add-named-2 : tie.Need-add-named-2
 add-named-2 c = search line-slots
 
+add-named-3 : tie.Need-add-named-3
+add-named-3 c = search line-slots
+
 enum-known-parts : tie.Need-enum-known-parts
 enum-known-parts c = search line-slots
 
@@ -48,6 +51,7 @@ enter-line-spec =
     enum-known-display
     add-named
     add-named-2
+    add-named-3
     enum-known-parts
     enter-member-requires
     returns

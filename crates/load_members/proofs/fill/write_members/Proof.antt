@@ -40,6 +40,9 @@ returns c = search filling
 enum-known-number : tie.Need-enum-known-number Inv-loop μ-loop
 enum-known-number c = search filling
 
+add-line : tie.Need-add-line Inv-loop μ-loop
+add-line c = search filling
+
 same-length-3 : tie.Need-same-length-3 Inv-loop μ-loop
 same-length-3 c = search filling
 
@@ -51,6 +54,9 @@ returns-2 c = search filling
 
 enum-known-line : tie.Need-enum-known-line Inv-loop μ-loop
 enum-known-line c = search filling
+
+counted-requires : tie.Need-counted-requires Inv-loop μ-loop
+counted-requires c κs = search filling
 
 enter-line-requires : tie.Need-enter-line-requires Inv-loop μ-loop
 enter-line-requires c κs = search filling
@@ -103,10 +109,12 @@ write-members-spec =
     same-length-2
     returns
     enum-known-number
+    add-line
     same-length-3
     same-length-4
     returns-2
     enum-known-line
+    counted-requires
     enter-line-requires
     enum-known-next
     enum-told-2

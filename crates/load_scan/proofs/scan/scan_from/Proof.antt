@@ -26,11 +26,17 @@ returns c = search scanning
 enum-known-number : tie.Need-enum-known-number Inv-loop μ-loop
 enum-known-number c = search scanning
 
+add-t14 : tie.Need-add-t14 Inv-loop μ-loop
+add-t14 c = search scanning
+
 returns-2 : tie.Need-returns-2 Inv-loop μ-loop
 returns-2 c = search scanning
 
 enum-known-line : tie.Need-enum-known-line Inv-loop μ-loop
 enum-known-line c = search scanning
+
+counted-requires : tie.Need-counted-requires Inv-loop μ-loop
+counted-requires c κs = search scanning
 
 loop-less : tie.Need-loop-less Inv-loop μ-loop
 loop-less c = search scanning
@@ -52,8 +58,10 @@ scan-from-spec =
     enum-told
     returns
     enum-known-number
+    add-t14
     returns-2
     enum-known-line
+    counted-requires
     loop-less
     loop-again
     returns-3)

@@ -30,17 +30,11 @@ read-line-requires c κs = search stepping
 fault-requires : tie.Need-fault-requires
 fault-requires c κs = search stepping
 
-add-t16 : tie.Need-add-t16
-add-t16 c = search stepping
-
 returns-2 : tie.Need-returns-2
 returns-2 c = search stepping
 
 fate-of-requires : tie.Need-fate-of-requires
 fate-of-requires c κs = search stepping
-
-counted-requires : tie.Need-counted-requires
-counted-requires c κs = search stepping
 
 member-after-requires : tie.Need-member-after-requires
 member-after-requires c κs = search stepping
@@ -61,9 +55,7 @@ next-step-spec =
     part-line-end
     read-line-requires
     fault-requires
-    add-t16
     returns-2
     fate-of-requires
-    counted-requires
     member-after-requires
     returns-3)
