@@ -1,4 +1,4 @@
-/* The proved loader of mapping files, as C calls it. Link with libcapi.a. */
+/* The proved reader of mapping files, as C calls it. Link with libcapi.a. */
 #ifndef CLUMARIEF_H
 #define CLUMARIEF_H
 
@@ -71,6 +71,44 @@ void clumarief_parse_str(const uint8_t *text, size_t text_length,
                          clumarief_member *members, size_t member_rows,
                          uint8_t *pool, size_t pool_length,
                          clumarief_load *answer);
+
+/* How much of the tables is used: class rows, member rows, pool bytes; after a load its numbers 7, 8 + 9 and 11. */
+typedef uint32_t clumarief_used[3];
+
+/* What a look-up answers: number (0, or 14 where the tables are malformed), 1 found or 0 unknown, place and length in the
+ * pool (zeros where nothing is found).
+ *
+ * Tables are malformed where a count is above what is lent (or above the most there may be), a text reaches past the used
+ * pool, a class row, kind or range flag is out of range, or a text that a used row names is not UTF-8. */
+typedef uint32_t clumarief_class_name[4];
+
+/* The display descriptor of the class with a raw descriptor, as `Lx;`: that of the last class row that has it. Any tables
+ * may be lent: nothing is read past them, and nothing is written but the answer. */
+void clumarief_display_class_name(const clumarief_class *classes, size_t class_rows,
+                                  const clumarief_member *members, size_t member_rows,
+                                  const uint8_t *pool, size_t pool_length,
+                                  const clumarief_used *used,
+                                  const uint8_t *raw, size_t raw_length,
+                                  clumarief_class_name *answer);
+
+/* The other way: the raw descriptor, by the display descriptor. */
+void clumarief_raw_class_name(const clumarief_class *classes, size_t class_rows,
+                              const clumarief_member *members, size_t member_rows,
+                              const uint8_t *pool, size_t pool_length,
+                              const clumarief_used *used,
+                              const uint8_t *display, size_t display_length,
+                              clumarief_class_name *answer);
+
+/* What a raw descriptor shows as: 1, place and length of its display descriptor in the pool; or three zeros, and then it is
+ * the caller's own descriptor, since the class is unknown or the tables are malformed. */
+typedef uint32_t clumarief_mapped[3];
+
+void clumarief_mapped_class_name(const clumarief_class *classes, size_t class_rows,
+                                 const clumarief_member *members, size_t member_rows,
+                                 const uint8_t *pool, size_t pool_length,
+                                 const clumarief_used *used,
+                                 const uint8_t *raw, size_t raw_length,
+                                 clumarief_mapped *answer);
 
 #ifdef __cplusplus
 }

@@ -13,13 +13,14 @@ const LISTS: &str = "faults/lists";
 
 /// The plain program, and the files that stand below it as modules.
 const PLAIN: &str = "src/plain.rs";
-const MODULES: [&str; 4] = ["characters", "descriptors", "json", "lines"];
-const DOORS: [&str; 5] = [
+const MODULES: [&str; 5] = ["characters", "descriptors", "json", "lines", "names"];
+const DOORS: [&str; 6] = [
     "slices",
     "text_doors",
     "comment_doors",
     "line_doors",
     "load_doors",
+    "name_doors",
 ];
 
 struct Fault {

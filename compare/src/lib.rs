@@ -35,6 +35,7 @@ pub mod mapped;
 #[cfg(not(original))]
 #[path = "left_out.rs"]
 pub mod mapped;
+pub mod names;
 pub mod numbers;
 #[cfg(original)]
 pub mod original;

@@ -3,7 +3,7 @@
 
 use clumarief_compare::report::{Disagreement, Held, Report, Settings};
 use clumarief_compare::{
-    arguments, bytes, comments, lines, loading, mapped, numbers, ranges, trims, utf8, white,
+    arguments, bytes, comments, lines, loading, mapped, names, numbers, ranges, trims, utf8, white,
 };
 use std::env;
 use std::process::ExitCode;
@@ -23,6 +23,7 @@ const PARTS: &[(&str, Part)] = &[
     #[cfg(original)]
     ("descriptors", clumarief_compare::descriptors::run),
     ("loading", loading::run),
+    ("names", names::run),
 ];
 
 const USAGE: &str = include_str!("../usage.txt");

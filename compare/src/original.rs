@@ -89,6 +89,21 @@ pub mod doors {
     /// A mapping of the original, which only keeps it.
     pub struct Kept(super::Mapping);
 
+    impl Kept {
+        /// What the class is shown as, what it is turned back to, and what is mapped.
+        pub fn names(&self, name: &str) -> (Option<Vec<u8>>, Option<Vec<u8>>, Vec<u8>) {
+            let display = self.0.display_class_name(name);
+            let raw = self.0.raw_class_name(name);
+            let mapped = self.0.mapped_class_name(name.into());
+            let bytes = |text: &str| text.as_bytes().to_vec();
+            (
+                display.map(|text| bytes(&text)),
+                raw.map(|text| bytes(&text)),
+                bytes(&mapped.display_name),
+            )
+        }
+    }
+
     /// The original's own entry point.
     pub fn parse(text: &[u8]) -> Option<Kept> {
         super::Mapping::parse(text).ok().map(Kept)

@@ -7,9 +7,11 @@ mod characters;
 mod descriptors;
 mod json;
 mod lines;
+mod names;
 
 use descriptors::{class_descriptor, parts, raw_signature, type_descriptor};
 use lines::{Line, Method, Range, arguments, line_of};
+pub use names::Lookup;
 use std::collections::HashMap;
 
 pub type ClassRow = [u32; 4];

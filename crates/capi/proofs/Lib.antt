@@ -1,2 +1,3 @@
 -- Laws.
 pub mod Numbering
+pub mod Naming

@@ -1,5 +1,9 @@
 // The C functions that a service calls. Each takes any bytes and any slices, and writes its answer as numbers.
 mod loading;
+mod names;
 
 pub use loading::clumarief_parse;
 pub use loading::clumarief_parse_str;
+pub use names::clumarief_display_class_name;
+pub use names::clumarief_mapped_class_name;
+pub use names::clumarief_raw_class_name;

@@ -199,16 +199,16 @@ pub fn piece_at(s: &[u8], at: usize) -> Piece
 }
 
 // Whether a byte alone tells that it is a char: it ends no string, starts no escape and is no control character.
-fn is_plain(b: u8) -> bool
-    ensures { λ r. ⌜ r ≡ isPlain b ⌝ }
+fn is_plain(octet: u8) -> bool
+    ensures { λ r. ⌜ r ≡ isPlain octet ⌝ }
 {
-    if b == b'"' {
+    if octet == b'"' {
         return false;
     }
-    if b == b'\\' {
+    if octet == b'\\' {
         return false;
     }
-    0x20 <= b
+    0x20 <= octet
 }
 
 // The place after a string whose first char stands at `start`.

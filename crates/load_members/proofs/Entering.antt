@@ -34,6 +34,7 @@ use Rattle.load_texts.specs.declared.texts.MemberLine.{MemberLine}
 use Rattle.load_texts.specs.declared.texts.Places.{Places}
 use Rattle.load_members.specs.declared.role.Role.the-variants.{Class, Member, Neither}
 use Rattle.load_texts.specs.inner.Texts.{BodyIn, MemberIn, descriptorText, ownerText, MemberTexts, textsOf, allTexts}
+use Rattle.load_scan.specs.inner.Steps.{isEntered}
 use Rattle.load_members.specs.inner.Roles.{roleOf}
 use Rattle.load_texts.specs.inner.Places.{Placed, memberPlaced}
 
@@ -122,6 +123,15 @@ module _ (u : Under) (l : List ℕ) where
   under-member (kinds.Field d n r) e = ap (λ n. under n (u .own)) (sym (add-zero (u .count)))
   under-member (kinds.Method m r) e = ap (λ n. under n (u .own)) (sym (add-zero (u .count)))
   under-member (kinds.Refused n) e = ap (λ n. under n (u .own)) (sym (add-zero (u .count)))
+
+-- What is passed over is neither a class line nor a member line.
+pub not-entered : (k : Line) → isEntered k ≡ false → roleOf k ≡ Neither
+not-entered kinds.Blank e = refl
+not-entered (kinds.Comment b) e = refl
+not-entered (kinds.Class d r) e = absurd (let z : _≡_ {A = ℕ} 0 1 = cc in omega arith)
+not-entered (kinds.Field d n r) e = absurd (let z : _≡_ {A = ℕ} 0 1 = cc in omega arith)
+not-entered (kinds.Method m r) e = absurd (let z : _≡_ {A = ℕ} 0 1 = cc in omega arith)
+not-entered (kinds.Refused n) e = refl
 
 -- A class line is one, and no other line is.
 pub class-counts : (k : Line) {d : Span} → roleOf k ≡ Class d → classLine k ≡ 1

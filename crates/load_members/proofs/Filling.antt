@@ -23,6 +23,7 @@ use Rattle.table_rows.specs.Rows.{packMember, mostPool}
 use Rattle.tables.specs.Back.{readBack}
 use Rattle.load_raw_types.specs.inner.Marks.{Indexed}
 use Rattle.load_raw_types.proofs.Indexing.{read-back-put, indexed-put}
+use Rattle.load_rule.specs.declared.Fate.{Fate}
 use Rattle.load_rule.specs.declared.Fates.{Fates}
 use Rattle.load_rule.specs.declared.Scan.{Scan}
 use Rattle.load_rule.specs.declared.Scan.the-variants as scan
@@ -33,7 +34,7 @@ use Rattle.load_rule.specs.Members.{Entry, Under, under, underAfter, entryIn, e
 use Rattle.load_rule.proofs.Tally.{fate-class}
 use Rattle.load_rule.proofs.Appended.{join-more, join-append, rows-length, rows-more}
 use Rattle.load_scan.specs.inner.Bounds.{Within}
-use Rattle.load_scan.proofs.Stepping.{step-fits, step-bounds, step-told, step-ended, step-faulty}
+use Rattle.load_scan.proofs.Stepping.{step-fits, step-bounds, step-told, passed-told, step-ended, step-faulty}
 use Rattle.load_scan.proofs.Scanning.{Scanning, scan-end, scanned-more}
 use Rattle.load_texts.specs.declared.texts.MemberLine.{MemberLine}
 use Rattle.load_members.specs.declared.role.Role.{Role}
@@ -44,14 +45,14 @@ use Rattle.load_scan.specs.declared.step.Step.the-variants as steps
 use Rattle.load_members.specs.declared.enter.Slot.{Slot}
 use Rattle.load_members.specs.declared.enter.NextSlot.{NextSlot}
 use Rattle.load_members.specs.declared.enter.NextSlot.the-variants.{At, NoRoom}
-use Rattle.load_scan.specs.inner.Steps.{scanOn, bytesOf, StepLine, StepBy}
+use Rattle.load_scan.specs.inner.Steps.{scanOn, bytesOf, StepLine, StepPassed, StepBy}
 use Rattle.load_members.specs.inner.Enters.{slotAt, MemberReady, RoleReady, Ready, textsIn, WrittenMember, Kept, underClass, EnterBy}
 use Rattle.load_texts.specs.inner.Texts.{MemberTexts, allTexts}
 use Rattle.load_members.specs.inner.Roles.{roleOf}
 use Rattle.load_texts.specs.inner.Places.{EnteredTexts, memberPlaced}
 use Rattle.load_members.specs.inner.Filled.{Holding, Over, members, WrittenAll, CutShort}
 use Rattle.load_texts.proofs.Typing.{written-nothing}
-use Rattle.load_members.proofs.Entering.{entryOf, entry-member, entry-class, entry-neither, under-class, under-neither, under-member, neither-counts, class-counts, member-counts, member-classed, member-lies, class-lies, entry-text, entry-row}
+use Rattle.load_members.proofs.Entering.{entryOf, entry-member, entry-class, entry-neither, under-class, under-neither, under-member, not-entered, neither-counts, class-counts, member-counts, member-classed, member-lies, class-lies, entry-text, entry-row}
 use Rattle.load_rule.specs.Laid.{rowsFrom}
 
 -- the rule starts with nothing counted
@@ -74,6 +75,10 @@ pub record Filling (s : List ℕ) (rows : List (List ℕ)) (index : List ℕ) (u
   pub lies : Lies (span (t .own) (t .«own_end»)) (length s)
   pub pool-size : length p ≡ length p₀
   pub rows-size : length m ≡ length m₀
+
+same-filling : {s : List ℕ} {rows : List (List ℕ)} {index : List ℕ} {used : ℕ} {m₀ : List (List ℕ)} {p₀ : List ℕ} {x y : ℕ} {t : Slot} {a b : Bool} {f : Fates} {m : List (List ℕ)} {p : List ℕ} →
+    x ≡ y → a ≡ b → Filling s rows index used m₀ p₀ y t a f m p → Filling s rows index used m₀ p₀ x t b f m p
+same-filling e g k = rw (e, ← g) k
 
 pub filling-starts : (s : List ℕ) (rows : List (List ℕ)) (index : List ℕ) (used : ℕ) (m₀ : List (List ℕ)) (p₀ : List ℕ) → length s ≤ mostText → length p₀ ≤ mostPool → Indexed rows p₀ index used →
     {f : Fates} → f ≡ noFates → {t : Slot} → t ≡ slotAt 0 used 0 0 0 → Filling s rows index used m₀ p₀ 0 t false f m₀ p₀
@@ -126,18 +131,16 @@ module _ {s : List ℕ} {rows : List (List ℕ)} {index : List ℕ} {used : ℕ}
   pub filling-counted : Within f at
   filling-counted = k .scanning .within
 
-  module _ (r : Step) (x : StepBy r s at (f .class) member) {y : LineStep} (q : r ≡ steps.Line y) where
-    st : StepLine s at (f .class) member y
-    st = step-told s at (f .class) member r x q
-
+  -- A line that was read.
+  module _ {y : LineStep} (st : StepLine s at (f .class) member y) where
     taken : Taken s at (y .start) (y .«end») (y .next)
     taken = st .taken
 
-    pub filling-rest : y .next ≤ length s
-    filling-rest = taken .inside
+    line-rest : y .next ≤ length s
+    line-rest = taken .inside
 
-    pub filling-falls : at < length s → length s - y .next < length s - at
-    filling-falls h = let u = taken .past in let i = taken .inside in omega arith
+    line-falls : at < length s → length s - y .next < length s - at
+    line-falls h = let u = taken .past in let i = taken .inside in omega arith
 
     role-told : {x : Role} → roleOf (y .kind) ≡ x → roleOf (lineOf (bytesOf s y)) ≡ x
     role-told h = sym (ap roleOf (st .is)) ∙ h
@@ -162,8 +165,8 @@ module _ {s : List ℕ} {rows : List (List ℕ)} {index : List ℕ} {used : ℕ}
     role-ready (Class d) h = inside h
     role-ready (Member parts) h = member-ready h
 
-    pub filling-ready : Ready s rows index y t p
-    filling-ready = record {
+    line-ready : Ready s rows index y t p
+    line-ready = record {
       short = k .short;
       order = taken .order;
       inside = taken .ends;
@@ -180,8 +183,8 @@ module _ {s : List ℕ} {rows : List (List ℕ)} {index : List ℕ} {used : ℕ}
       next-scan : Scanning s 0 noFates false (y .next) g (y .«has_member»)
       next-scan = scanned-more (k .scanning) st sum
 
-      pub filling-within : Within g (y .next)
-      filling-within = next-scan .within
+      line-within : Within g (y .next)
+      line-within = next-scan .within
 
       next-class : g .class ≡ f .class + classLine (lineOf (bytesOf s y))
       next-class =
@@ -200,9 +203,9 @@ module _ {s : List ℕ} {rows : List (List ℕ)} {index : List ℕ} {used : ℕ}
       short-scan : {sc : Scan} → sc ≡ scanOn g (y .«has_member») (lines (drop (y .next) s)) → sc ≡ scanOf (lines s)
       short-scan y = y ∙ next-scan .decides ∙ from-nothing (lines s)
 
-      pub filling-neither : roleOf (y .kind) ≡ Neither → Filling s rows index used m₀ p₀ (y .next) t (y .«has_member») g m p
+      line-neither : roleOf (y .kind) ≡ Neither → Filling s rows index used m₀ p₀ (y .next) t (y .«has_member») g m p
       unfolding here
-      filling-neither h = record {
+      line-neither h = record {
         short = k .short;
         most = k .most;
         scanning = next-scan;
@@ -223,9 +226,9 @@ module _ {s : List ℕ} {rows : List (List ℕ)} {index : List ℕ} {used : ℕ}
       }
 
       module _ {d : Span} (h : roleOf (y .kind) ≡ Class d) where
-        pub filling-class : Filling s rows index used m₀ p₀ (y .next) (underClass y d t) (y .«has_member») g m p
+        line-class : Filling s rows index used m₀ p₀ (y .next) (underClass y d t) (y .«has_member») g m p
         unfolding here
-        filling-class = record {
+        line-class = record {
           short = k .short;
           most = k .most;
           scanning = next-scan;
@@ -305,9 +308,9 @@ module _ {s : List ℕ} {rows : List (List ℕ)} {index : List ℕ} {used : ℕ}
               ap (λ c. packMember (memberPlaced (c - 1) (t .place) (w .places) (parts .body))) (k .classes)
               ∙ entry-row (f .class - 1) (t .place) (w .places) texts (parts .body) (it .placed) ∙ ap (λ x. entryRow x entry) past
 
-          filling-member : Filling s rows index used m₀ p₀ (y .next) t₁ (y .«has_member») g m₁ p₁
+          line-member : Filling s rows index used m₀ p₀ (y .next) t₁ (y .«has_member») g m₁ p₁
           unfolding rest
-          filling-member =
+          line-member =
               let size = k .rows-size in
               let c = k .counts in
               let l = w .room in
@@ -340,19 +343,19 @@ module _ {s : List ℕ} {rows : List (List ℕ)} {index : List ℕ} {used : ℕ}
               })
 
       module _ (o : NextSlot) (m₁ : List (List ℕ)) (p₁ : List ℕ) (w : EnterBy (roleOf (y .kind)) o s rows y t m p m₁ p₁) where
-        pub filling-entered : {t₁ : Slot} → o ≡ At t₁ → Filling s rows index used m₀ p₀ (y .next) t₁ (y .«has_member») g m₁ p₁
-        filling-entered {t₁} e = go (roleOf (y .kind)) refl w
+        line-entered : {t₁ : Slot} → o ≡ At t₁ → Filling s rows index used m₀ p₀ (y .next) t₁ (y .«has_member») g m₁ p₁
+        line-entered {t₁} e = go (roleOf (y .kind)) refl w
           where
             kept : {u : Slot} → Filling s rows index used m₀ p₀ (y .next) u (y .«has_member») g m p → Kept o u m p m₁ p₁ → Filling s rows index used m₀ p₀ (y .next) t₁ (y .«has_member») g m₁ p₁
             kept {u} v z = let a = z .answer in let is : t₁ ≡ u = cc in rw (is, z .rows, z .pool) v
 
             go : (ro : Role) → roleOf (y .kind) ≡ ro → EnterBy ro o s rows y t m p m₁ p₁ → Filling s rows index used m₀ p₀ (y .next) t₁ (y .«has_member») g m₁ p₁
-            go Neither h z = kept (filling-neither h) z
-            go (Class d) h z = kept (filling-class h) z
-            go (Member parts) h z = filling-member h (rw e at z)
+            go Neither h z = kept (line-neither h) z
+            go (Class d) h z = kept (line-class h) z
+            go (Member parts) h z = line-member h (rw e at z)
 
-        pub filling-over : o ≡ NoRoom → {sc : Scan} → sc ≡ scanOn g (y .«has_member») (lines (drop (y .next) s)) → CutShort sc (lines s) (readBack rows p₀) used m₀ p₀
-        filling-over e i = record { scanned = short-scan i; over = go (roleOf (y .kind)) refl w }
+        line-over : o ≡ NoRoom → {sc : Scan} → sc ≡ scanOn g (y .«has_member») (lines (drop (y .next) s)) → CutShort sc (lines s) (readBack rows p₀) used m₀ p₀
+        line-over e i = record { scanned = short-scan i; over = go (roleOf (y .kind)) refl w }
           where
             none : {u : Slot} → o ≡ At u → Over (members (lines s) (readBack rows p₀)) used m₀ p₀
             none f = absurd (let z : _≡_ {A = ℕ} 0 1 = cc in omega arith)
@@ -363,6 +366,43 @@ module _ {s : List ℕ} {rows : List (List ℕ)} {index : List ℕ} {used : ℕ}
             go (Member parts) h z =
                 let c : (length m ≤ t .row) ⊎ (length p < t .place + length (allTexts (textsIn s (readBack rows p) y t parts))) = rw e at z in
                 ⊎-elim (few h) (short h) c
+
+  module _ (r : Step) (x : StepBy r s at (f .class) member) {y : LineStep} (q : r ≡ steps.Line y) where
+    st : StepLine s at (f .class) member y
+    st = step-told s at (f .class) member r x q
+
+    pub filling-rest : y .next ≤ length s
+    filling-rest = line-rest st
+
+    pub filling-falls : at < length s → length s - y .next < length s - at
+    filling-falls h = line-falls st h
+
+    pub filling-ready : Ready s rows index y t p
+    filling-ready = line-ready st
+
+    module _ {g : Fates} (sum : g ≡ plus f (one (y .fate))) where
+      pub filling-within : Within g (y .next)
+      filling-within = line-within st sum
+
+      module _ (o : NextSlot) (m₁ : List (List ℕ)) (p₁ : List ℕ) (w : EnterBy (roleOf (y .kind)) o s rows y t m p m₁ p₁) where
+        pub filling-entered : {t₁ : Slot} → o ≡ At t₁ → Filling s rows index used m₀ p₀ (y .next) t₁ (y .«has_member») g m₁ p₁
+        filling-entered e = line-entered st sum o m₁ p₁ w e
+
+        pub filling-over : o ≡ NoRoom → {sc : Scan} → sc ≡ scanOn g (y .«has_member») (lines (drop (y .next) s)) → CutShort sc (lines s) (readBack rows p₀) used m₀ p₀
+        filling-over e i = line-over st sum o m₁ p₁ w e i
+
+  -- A line of which nothing is entered.
+  module _ (r : Step) (x : StepBy r s at (f .class) member) {n : ℕ} {v : Fate} (q : r ≡ steps.Passed n v) where
+    passed : StepPassed s at (f .class) member n v
+    passed = passed-told s at (f .class) member r x q
+
+    pub filling-passed : {g : Fates} → g ≡ plus f (one v) → Filling s rows index used m₀ p₀ n t member g m p
+    filling-passed e =
+        let z = passed in
+        same-filling (z .starts) (z .stays) (line-neither (z .told) (e ∙ ap (λ y. plus f (one y)) (z .is)) (not-entered (z .line .kind) (z .passed)))
+
+    pub filling-passes : at < length s → length s - n < length s - at
+    filling-passes h = let z = passed in let o = z .starts in let l = line-falls (z .told) h in omega arith
 
 pub ruleset filling = (
   step-fits,
@@ -376,6 +416,8 @@ pub ruleset filling = (
   filling-counted,
   filling-rest,
   filling-falls,
+  filling-passed,
+  filling-passes,
   filling-within,
   filling-ready,
   filling-entered,

@@ -57,6 +57,10 @@ pub fn write_members(
                 let line = fates.lines + 1;
                 return Filled::Faulty { number, line };
             }
+            Step::Passed { next, fate } => {
+                at = next;
+                fates = counted(fates, fate);
+            }
             Step::Line(line) => {
                 at = line.next;
                 let fate = line.fate;

@@ -167,10 +167,10 @@ module _ (s : List ℕ) (ls : List (List ℕ)) (n : Lent) {f : Fates} {names : �
   member-total : f .field + f .method ≡ length (entriesOf ls)
   member-total = ap (λ x. x .field + x .method) (fates-sum ls (fitted .passed .sound) .is) ∙ member-count false (classesOf ls) (under 0 []) ls
 
-  class-rows-total : length (classRowsOf ls) ≡ f .class
+  pub class-rows-total : length (classRowsOf ls) ≡ f .class
   class-rows-total = rows-length classRow classText 0 (classesOf ls) ∙ sym class-total
 
-  member-rows-total : length (memberRowsOf ls) ≡ f .field + f .method
+  pub member-rows-total : length (memberRowsOf ls) ≡ f .field + f .method
   member-rows-total = rows-length entryRow entryText (length (classPool (classesOf ls))) (entriesOf ls) ∙ sym member-total
 
   under-classes : Below (f .class) (entriesOf ls)
@@ -180,7 +180,7 @@ module _ (s : List ℕ) (ls : List (List ℕ)) (n : Lent) {f : Fates} {names : �
       below-as (omega arith) (entries-below (classesOf ls) (under 0 []) ls c)
 
   module _ (rest : List ℕ) where
-    whole : Holds (poolOf ls ++ rest) (usedOf f names) 0 (poolOf ls)
+    pub whole : Holds (poolOf ls ++ rest) (usedOf f names) 0 (poolOf ls)
     whole = holds-all (poolOf ls) rest (usedOf f names) (fitted .named)
 
     classes-fine : Pairs (classesOf ls) → allOf (classFine (poolOf ls ++ rest) (usedOf f names)) (classRowsOf ls) ≡ true

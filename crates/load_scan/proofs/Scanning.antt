@@ -21,7 +21,7 @@ use Rattle.load_scan.specs.declared.step.Step.{Step}
 use Rattle.load_scan.specs.declared.step.Step.the-variants as steps
 use Rattle.load_scan.specs.inner.Bounds.{Within}
 use Rattle.load_scan.specs.inner.Steps.{scanOn, bytesOf, StepLine, StepBy}
-use Rattle.load_scan.proofs.Stepping.{step-fits, step-bounds, step-told, step-ended, step-faulty}
+use Rattle.load_scan.proofs.Stepping.{step-fits, step-bounds, step-told, passed-told, step-ended, step-faulty}
 
 -- Bounds of one line's fate.
 within-one : {b a i c f m s : ℕ} → b + a + i + c + f + m ≤ 1 → s ≤ m →
@@ -94,6 +94,10 @@ scanned-more {s} {«from»} {before} {has} {at} {f} {member} {x} {g} k t e =
           rw (sum, t .after) (sym (scan-line f member l (lines (drop (x .next) s)) (t .clean))) ∙ sym (ap (scanOn f member) (t .taken .split)) ∙ k .decides;
     }
 
+same-scanning : {s : List ℕ} {«from» : ℕ} {before : Fates} {has : Bool} {f : Fates} {p q : ℕ} {a b : Bool} → p ≡ q → a ≡ b →
+    Scanning s «from» before has q f a → Scanning s «from» before has p f b
+same-scanning e g k = rw (e, ← g) k
+
 module _ {s : List ℕ} {«from» : ℕ} {before : Fates} {has : Bool} {at : ℕ} {f : Fates} {member : Bool} (k : Scanning s «from» before has at f member) where
   ended : lines (drop at s) ≡ [] → Sound f ≡ scanOn before has (lines (drop «from» s))
   ended e = sym (ap (scanOn f member) e ∙ scan-end f member) ∙ k .decides
@@ -114,6 +118,20 @@ module _ {s : List ℕ} {«from» : ℕ} {before : Fates} {has : Bool} {at : ℕ
     pub scanning-fault : {number : ℕ} → r ≡ steps.Faulty number → Faulty number (f .lines + 1) ≡ scanOn before has (lines (drop «from» s))
     scanning-fault q = sym (step-faulty s at (f .class) member r w q f refl) ∙ k .decides
 
+    module _ {n : ℕ} {p : Fate} (q : r ≡ steps.Passed n p) where
+      pub scanning-passed : {g : Fates} → g ≡ plus f (one p) → Scanning s «from» before has n g member
+      scanning-passed e =
+          let t = passed-told s at (f .class) member r w q in
+          same-scanning (t .starts) (t .stays) (scanned-more k (t .told) (e ∙ ap (λ x. plus f (one x)) (t .is)))
+
+      pub scanning-passes : at < length s → length s - n < length s - at
+      scanning-passes h =
+          let t = passed-told s at (f .class) member r w q in
+          let o = t .starts in
+          let u = t .told .taken .past in
+          let i = t .told .taken .inside in
+          omega arith
+
     module _ {x : LineStep} (q : r ≡ steps.Line x) where
       pub scanning-more : {g : Fates} → g ≡ plus f (one (x .fate)) → Scanning s «from» before has (x .next) g (x .«has_member»)
       scanning-more e = scanned-more k (step-told s at (f .class) member r w q) e
@@ -126,4 +144,4 @@ module _ {s : List ℕ} {«from» : ℕ} {before : Fates} {has : Bool} {at : ℕ
           omega arith
 
 pub ruleset scanning =
-    (step-fits, step-bounds, scanning-starts, scanning-ends, scanning-inside, scanning-within, scanning-none, scanning-fault, scanning-more, scanning-falls, needs)
+    (step-fits, step-bounds, scanning-starts, scanning-ends, scanning-inside, scanning-within, scanning-none, scanning-fault, scanning-passed, scanning-passes, scanning-more, scanning-falls, needs)

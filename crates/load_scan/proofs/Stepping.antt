@@ -1,13 +1,13 @@
 -- One line. Assumes nothing.
-use mathlib.Core.Path.{_≡_, sym, _∙_, ap}
-use mathlib.Core.Bool.{Bool}
+use mathlib.Core.Path.{_≡_, refl, sym, _∙_, ap}
+use mathlib.Core.Bool.{Bool, true, false, not}
 use mathlib.Core.List.{List, [], _∷_}
 use Prim.Native.Nat.{ℕ, _+_, _-_, _≤_}
 use native.Mathlib.Omega.{arith}
 use lib.ListN.{length, take, drop}
 use mir.Val.{Fits}
 use mir.Syntax.{w32}
-use borrow.Author.Tests.{ne-eqb}
+use borrow.Author.Tests.{ne-eqb, not-true}
 use borrow.Author.Needs.{needs}
 use Rattle.ground.specs.Put.{between}
 use Rattle.text_places.specs.declared.lines.NextLine.{NextLine}
@@ -16,6 +16,7 @@ use Rattle.text_places.specs.Lines.{lines}
 use Rattle.text_places.specs.inner.NextLine.{nextLine}
 use Rattle.text_places.proofs.Taking.{line-taken, none-taken, line-order, line-ends}
 use Rattle.line.specs.declared.line.Line as line
+use Rattle.line.specs.declared.line.Line.the-variants as kinds
 use Rattle.line.specs.Kinds.{lineOf}
 use Rattle.load_rule.specs.declared.Fate.{Fate}
 use Rattle.load_rule.specs.declared.Fates.{Fates}
@@ -26,7 +27,7 @@ use Rattle.load_scan.specs.declared.step.LineStep.{LineStep}
 use Rattle.load_scan.specs.declared.step.Step.{Step}
 use Rattle.load_scan.specs.declared.step.Step.the-variants as steps
 use Rattle.load_scan.specs.inner.Bounds.{Within}
-use Rattle.load_scan.specs.inner.Steps.{scanOn, StepLine, StepFault, StepBy}
+use Rattle.load_scan.specs.inner.Steps.{isEntered, scanOn, StepLine, StepPassed, StepFault, StepBy}
 
 pub within-more : (f : Fates) (a n : ℕ) → Within f a → a ≤ n → Within f n
 within-more f a n v h = record {
@@ -44,6 +45,15 @@ pub scan-fault : (f : Fates) (member : Bool) (l : List ℕ) (ls : List (List ℕ
     scanOn f member (l ∷ ls) ≡ scan.Faulty (faultOf (f .class) (lineOf l)) (f .lines + 1)
 unfolding fatesFrom faultsFrom
 scan-fault f member l ls n = rw (ne-eqb (faultOf (f .class) (lineOf l)) 0 n)
+
+-- A blank line or a comment leaves the last member as it is.
+passed-stays : (member : Bool) (k : line.Line) → isEntered k ≡ false → memberAfter member k ≡ member
+passed-stays member kinds.Blank e = refl
+passed-stays member (kinds.Comment b) e = refl
+passed-stays member (kinds.Class d r) e = absurd (let z : _≡_ {A = ℕ} 0 1 = cc in omega arith)
+passed-stays member (kinds.Field d n r) e = absurd (let z : _≡_ {A = ℕ} 0 1 = cc in omega arith)
+passed-stays member (kinds.Method m r) e = absurd (let z : _≡_ {A = ℕ} 0 1 = cc in omega arith)
+passed-stays member (kinds.Refused r) e = refl
 
 -- One line more can be counted.
 module _ (s : List ℕ) {at : ℕ} {f : Fates} where
@@ -84,12 +94,28 @@ module _ (s : List ℕ) (at classes : ℕ) (member : Bool) where
             after = v ∙ ap (memberAfter member) r;
           }
 
-pub ruleset stepping = (step-end, line-order, line-ends, step-kind, step-fault, step-line, needs)
+          module _ (z : number ≡ 0) {k : Fate} (y : k ≡ fateOf member (between s a e) kind) {c : Bool} (w : c ≡ isEntered kind) where
+            pub step-passed : not c ≡ true → StepPassed s at classes member n k
+            step-passed h =
+                let no : isEntered kind ≡ false = sym w ∙ not-true c h in
+                record {
+                  line = record { start = a; «end» = e; next = n; kind = kind; fate = k; «has_member» = memberAfter member kind };
+                  told = step-line z y refl;
+                  passed = no;
+                  stays = passed-stays member kind no;
+                  starts = refl;
+                  is = refl;
+                }
+
+pub ruleset stepping = (step-end, line-order, line-ends, step-kind, step-fault, step-line, step-passed, needs)
 
 -- What it said.
 module _ (s : List ℕ) (at classes : ℕ) (member : Bool) where
   pub step-told : (r : Step) → StepBy r s at classes member → {x : LineStep} → r ≡ steps.Line x → StepLine s at classes member x
   step-told r w q = rw q at w
+
+  pub passed-told : (r : Step) → StepBy r s at classes member → {n : ℕ} {k : Fate} → r ≡ steps.Passed n k → StepPassed s at classes member n k
+  passed-told r w q = rw q at w
 
   pub step-ended : (r : Step) → StepBy r s at classes member → r ≡ steps.End → lines (drop at s) ≡ []
   step-ended r w q = rw q at w

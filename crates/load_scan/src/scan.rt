@@ -31,6 +31,10 @@ pub fn scan_from(text: &[u8], from: usize, before: Fates, has_member: bool) -> S
                     line: fates.lines + 1,
                 };
             }
+            Step::Passed { next, fate } => {
+                at = next;
+                fates = counted(fates, fate);
+            }
             Step::Line(line) => {
                 at = line.next;
                 let fate = line.fate;

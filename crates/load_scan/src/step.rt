@@ -7,7 +7,8 @@ use line::read_line;
 use load_rule::Fate;
 use text_places::NextLine;
 use text_places::next_line;
-ghost use Rattle.load_scan.specs.inner.Steps.{StepBy};
+ghost use mathlib.Core.Path.{_≡_};
+ghost use Rattle.load_scan.specs.inner.Steps.{isEntered, StepBy};
 
 // Where a line stands and where the next one starts; what it is; what becomes of it; whether the current class has a last member after
 // it. Steps are copied once a line: the small fields stand last, so that the large one is copied word by word.
@@ -23,7 +24,27 @@ pub struct LineStep {
 pub enum Step {
     End,
     Faulty(u32),
+    // A blank line or a comment, of which nothing is entered: where the next line starts, and what becomes of it.
+    Passed { next: usize, fate: Fate },
     Line(LineStep),
+}
+
+// Whether a line is a class line or a member line.
+fn is_entered(kind: Line) -> bool
+    ensures { λ r. ⌜ r ≡ isEntered kind ⌝ }
+{
+    match kind {
+        Line::Blank => false,
+        Line::Comment(_) => false,
+        Line::Class { display: _, raw: _ } => true,
+        Line::Field {
+            declared: _,
+            name: _,
+            raw: _,
+        } => true,
+        Line::Method { method: _, raw: _ } => true,
+        Line::Refused(_) => false,
+    }
 }
 
 // The line at the place `at`, where `classes` is how many class lines stand before it.
@@ -39,12 +60,16 @@ pub fn next_step(text: &[u8], at: usize, classes: u32, member: bool) -> Step
     if number != 0 {
         return Step::Faulty(number);
     }
+    let fate = fate_of(line, kind, member);
+    if !is_entered(kind) {
+        return Step::Passed { next, fate };
+    }
     Step::Line(LineStep {
         start,
         end,
         next,
         kind,
-        fate: fate_of(line, kind, member),
+        fate,
         has_member: member_after(member, kind),
     })
 }

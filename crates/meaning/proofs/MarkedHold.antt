@@ -17,4 +17,4 @@ use Rattle.meaning.specs.Marked.{AllHold, marked}
 
 pub marked-hold : AllHold marked
 unfolding ascii rawLines crEnd firstFrom lastFrom checkFrom fatesFrom faultsFrom classesOf digitsFrom plain numberOf same partsFrom join shown baseEnd bracketCount runOf trimEnd allWhite piecesFrom sequenceOf afterLead leadOf tails isWhite inRanges whiteRanges
-marked-hold = ((λ n. refl), ((λ n. refl), ((λ n. refl), (refl, (refl, (refl, (refl, (refl, (refl, (refl, tt))))))))))
+marked-hold = ((λ n. refl), ((λ n. refl), ((λ n. refl), (refl, (refl, (refl, (refl, (refl, (refl, (refl, (refl, (refl, tt))))))))))))

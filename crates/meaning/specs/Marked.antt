@@ -1,5 +1,4 @@
--- Document 01, "Marked examples": those marked P that speak of loading, ten of twelve, as rows of one table; the two of line translation
--- come with looking up. Each row asks one of the written rules and states its answer.
+-- Document 01, "Marked examples": all twelve marked P, as rows of one table. Each row asks one of the written rules and states its answer.
 use mathlib.Core.Path.{_≡_}
 use mathlib.Core.Bool.{true, false}
 use mathlib.Core.List.{List, [], _∷_}
@@ -14,7 +13,11 @@ use Rattle.number.specs.Numbers.{numberOf}
 use Rattle.number.specs.Ranges.{trailingRange}
 use Rattle.descriptor.specs.Types.{typeDescriptor}
 use Rattle.table_rows.specs.Classes.{Pair, shown}
+use Rattle.table_rows.specs.declared.rows.Ranges.{Ranges}
+use Rattle.table_rows.specs.declared.rows.Ranges.the-variants.{Both}
 use Rattle.descriptor.specs.Pieces.{turn}
+use Rattle.name_lines.specs.declared.lines.LineName.the-variants.{Line}
+use Rattle.name_lines.specs.LineNames.{rawLine, displayLine, lineName}
 use Rattle.load_rule.specs.Loading.{Lent, answerOf, linesParse, loadNumbers}
 
 -- "a.Main -> x:", the class of document 01's example
@@ -29,6 +32,8 @@ pub data Row : Type 0 where
   shows : List ℕ → List ℕ → Row
   -- a type's descriptor
   typed : List ℕ → List ℕ → Row
+  -- a line of a method with these ranges, and its display line
+  translates : Ranges → ℕ → ℕ → Row
   -- a text that is refused, whatever is lent: number and line
   refused : List ℕ → ℕ → ℕ → Row
 
@@ -38,6 +43,7 @@ Holds (number s answer) = numberOf s ≡ answer
 Holds (rangeAfter s answer) = trailingRange s ≡ answer
 Holds (shows d answer) = turn (shown main) d ≡ answer
 Holds (typed s answer) = typeDescriptor s ≡ answer
+Holds (translates g n answer) = lineName g (rawLine n) ≡ Line (displayLine answer)
 Holds (refused s answer line) = (n : Lent) → take 2 (loadNumbers (answerOf s (linesParse s) n)) ≡ answer ∷ line ∷ []
 
 abbrev pub AllHold : List Row → Type 0
@@ -56,6 +62,9 @@ marked =
     -- "P `+7` is 7; P 4294967296 does not read"
     number (ascii "+7") (Value 7) ∷
     number (ascii "4294967296") Unread ∷
+    -- "P raw (1,9), display (10,12): 9 gives 12. P display (10,5): 9 gives 10."
+    translates (Both 1 9 10 12) 9 12 ∷
+    translates (Both 1 9 10 5) 9 10 ∷
     -- "P `[Lx;` shows `[La/Main;`; P `Lx` stays; P `int []` is `[Lint ;`"
     shows (ascii "[Lx;") (ascii "[La/Main;") ∷
     shows (ascii "Lx") (ascii "Lx") ∷

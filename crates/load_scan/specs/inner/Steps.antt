@@ -1,12 +1,15 @@
 -- What reading one line says.
 use mathlib.Core.Path.{_≡_}
-use mathlib.Core.Bool.{Bool}
+use mathlib.Core.Bool.{Bool, true, false}
 use mathlib.Core.List.{List, []}
 use Prim.Native.Nat.{ℕ, _+_}
 use lib.ListN.{drop}
 use Rattle.ground.specs.Put.{between}
 use Rattle.text_places.specs.Lines.{lines, Taken}
+use Rattle.line.specs.declared.line.Line.{Line}
+use Rattle.line.specs.declared.line.Line.the-variants as kinds
 use Rattle.line.specs.Kinds.{lineOf}
+use Rattle.load_rule.specs.declared.Fate.{Fate}
 use Rattle.load_rule.specs.declared.Fates.{Fates}
 use Rattle.load_rule.specs.declared.Scan.{Scan}
 use Rattle.load_rule.specs.declared.Scan.the-variants as scan
@@ -31,6 +34,24 @@ pub record StepLine (s : List ℕ) (at classes : ℕ) (member : Bool) (x : LineS
   pub fate : x .fate ≡ fateOf member (bytesOf s x) (lineOf (bytesOf s x))
   pub after : x .«has_member» ≡ memberAfter member (lineOf (bytesOf s x))
 
+-- a class line or a member line
+abbrev pub isEntered : Line → Bool
+isEntered kinds.Blank = false
+isEntered (kinds.Comment brace) = false
+isEntered (kinds.Class display raw) = true
+isEntered (kinds.Field declared name raw) = true
+isEntered (kinds.Method m raw) = true
+isEntered (kinds.Refused r) = false
+
+-- the line at the place `at` is neither, has no fault, and has that fate
+pub record StepPassed (s : List ℕ) (at classes : ℕ) (member : Bool) (next : ℕ) (fate : Fate) : Type 0 where
+  pub line : LineStep
+  pub told : StepLine s at classes member line
+  pub passed : isEntered (line .kind) ≡ false
+  pub stays : line .«has_member» ≡ member
+  pub starts : next ≡ line .next
+  pub is : fate ≡ line .fate
+
 -- the line at the place `at` is faulty, whatever became of the lines before it
 abbrev pub StepFault : List ℕ → ℕ → ℕ → Bool → ℕ → Type 0
 StepFault s at classes member number =
@@ -39,4 +60,5 @@ StepFault s at classes member number =
 abbrev pub StepBy : Step → List ℕ → ℕ → ℕ → Bool → Type 0
 StepBy steps.End s at classes member = lines (drop at s) ≡ []
 StepBy (steps.Faulty number) s at classes member = StepFault s at classes member number
+StepBy (steps.Passed next fate) s at classes member = StepPassed s at classes member next fate
 StepBy (steps.Line x) s at classes member = StepLine s at classes member x

@@ -52,17 +52,29 @@ same-length-4 c = search filling
 returns-2 : tie.Need-returns-2 Inv-loop μ-loop
 returns-2 c = search filling
 
-enum-known-line : tie.Need-enum-known-line Inv-loop μ-loop
-enum-known-line c = search filling
+enum-known-next : tie.Need-enum-known-next Inv-loop μ-loop
+enum-known-next c = search filling
 
 counted-requires : tie.Need-counted-requires Inv-loop μ-loop
 counted-requires c κs = search filling
 
+loop-less : tie.Need-loop-less Inv-loop μ-loop
+loop-less c = search filling
+
+loop-again : tie.Need-loop-again Inv-loop μ-loop
+loop-again c = search filling
+
+enum-known-line : tie.Need-enum-known-line Inv-loop μ-loop
+enum-known-line c = search filling
+
+counted-requires-2 : tie.Need-counted-requires-2 Inv-loop μ-loop
+counted-requires-2 c κs = search filling
+
 enter-line-requires : tie.Need-enter-line-requires Inv-loop μ-loop
 enter-line-requires c κs = search filling
 
-enum-known-next : tie.Need-enum-known-next Inv-loop μ-loop
-enum-known-next c = search filling
+enum-known-next-2 : tie.Need-enum-known-next-2 Inv-loop μ-loop
+enum-known-next-2 c = search filling
 
 enum-told-2 : tie.Need-enum-told-2 Inv-loop μ-loop
 enum-told-2 c = search filling
@@ -79,11 +91,11 @@ same-length-6 c = search filling
 returns-3 : tie.Need-returns-3 Inv-loop μ-loop
 returns-3 c = search filling
 
-loop-less : tie.Need-loop-less Inv-loop μ-loop
-loop-less c = search filling
+loop-less-2 : tie.Need-loop-less-2 Inv-loop μ-loop
+loop-less-2 c = search filling
 
-loop-again : tie.Need-loop-again Inv-loop μ-loop
-loop-again c = search filling
+loop-again-2 : tie.Need-loop-again-2 Inv-loop μ-loop
+loop-again-2 c = search filling
 
 same-length-7 : tie.Need-same-length-7 Inv-loop μ-loop
 same-length-7 c = search filling
@@ -113,17 +125,21 @@ write-members-spec =
     same-length-3
     same-length-4
     returns-2
-    enum-known-line
-    counted-requires
-    enter-line-requires
     enum-known-next
+    counted-requires
+    loop-less
+    loop-again
+    enum-known-line
+    counted-requires-2
+    enter-line-requires
+    enum-known-next-2
     enum-told-2
     scan-from-requires
     same-length-5
     same-length-6
     returns-3
-    loop-less
-    loop-again
+    loop-less-2
+    loop-again-2
     same-length-7
     same-length-8
     returns-4)

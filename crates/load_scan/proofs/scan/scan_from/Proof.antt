@@ -26,14 +26,14 @@ returns c = search scanning
 enum-known-number : tie.Need-enum-known-number Inv-loop μ-loop
 enum-known-number c = search scanning
 
-add-t14 : tie.Need-add-t14 Inv-loop μ-loop
-add-t14 c = search scanning
+add-t16 : tie.Need-add-t16 Inv-loop μ-loop
+add-t16 c = search scanning
 
 returns-2 : tie.Need-returns-2 Inv-loop μ-loop
 returns-2 c = search scanning
 
-enum-known-line : tie.Need-enum-known-line Inv-loop μ-loop
-enum-known-line c = search scanning
+enum-known-next : tie.Need-enum-known-next Inv-loop μ-loop
+enum-known-next c = search scanning
 
 counted-requires : tie.Need-counted-requires Inv-loop μ-loop
 counted-requires c κs = search scanning
@@ -43,6 +43,18 @@ loop-less c = search scanning
 
 loop-again : tie.Need-loop-again Inv-loop μ-loop
 loop-again c = search scanning
+
+enum-known-line : tie.Need-enum-known-line Inv-loop μ-loop
+enum-known-line c = search scanning
+
+counted-requires-2 : tie.Need-counted-requires-2 Inv-loop μ-loop
+counted-requires-2 c κs = search scanning
+
+loop-less-2 : tie.Need-loop-less-2 Inv-loop μ-loop
+loop-less-2 c = search scanning
+
+loop-again-2 : tie.Need-loop-again-2 Inv-loop μ-loop
+loop-again-2 c = search scanning
 
 returns-3 : tie.Need-returns-3 Inv-loop μ-loop
 returns-3 c = search scanning
@@ -58,10 +70,14 @@ scan-from-spec =
     enum-told
     returns
     enum-known-number
-    add-t14
+    add-t16
     returns-2
-    enum-known-line
+    enum-known-next
     counted-requires
     loop-less
     loop-again
+    enum-known-line
+    counted-requires-2
+    loop-less-2
+    loop-again-2
     returns-3)

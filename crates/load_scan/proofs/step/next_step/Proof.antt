@@ -36,11 +36,17 @@ returns-2 c = search stepping
 fate-of-requires : tie.Need-fate-of-requires
 fate-of-requires c κs = search stepping
 
-member-after-requires : tie.Need-member-after-requires
-member-after-requires c κs = search stepping
+is-entered-requires : tie.Need-is-entered-requires
+is-entered-requires c κs = search stepping
 
 returns-3 : tie.Need-returns-3
 returns-3 c = search stepping
+
+member-after-requires : tie.Need-member-after-requires
+member-after-requires c κs = search stepping
+
+returns-4 : tie.Need-returns-4
+returns-4 c = search stepping
 
 pub next-step-spec : {M : Type 1} → statement M
 next-step-spec =
@@ -57,5 +63,7 @@ next-step-spec =
     fault-requires
     returns-2
     fate-of-requires
+    is-entered-requires
+    returns-3
     member-after-requires
-    returns-3)
+    returns-4)

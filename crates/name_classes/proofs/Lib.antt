@@ -1,0 +1,3 @@
+-- Laws of looking up classes.
+pub mod Looking
+pub mod Told

@@ -1,0 +1,2 @@
+-- Laws of mappings.
+pub mod Loaded

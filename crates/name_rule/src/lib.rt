@@ -1,0 +1,1 @@
+// Looking up names and lines: its rule, in specs/. This crate has no function.
