@@ -43,8 +43,17 @@ pub unsafe extern "C" fn clumarief_display_class_name(
     length: usize,
     answer: &mut [u32; 4],
 ) {
-    let tables =
-        unsafe { lookup(classes, class_rows, members, member_rows, pool, pool_length, used) };
+    let tables = unsafe {
+        lookup(
+            classes,
+            class_rows,
+            members,
+            member_rows,
+            pool,
+            pool_length,
+            used,
+        )
+    };
     let name = unsafe { text(name, length) };
     *answer = numbers(tables, |tables| tables.display_class_name(name));
 }
@@ -62,8 +71,17 @@ pub unsafe extern "C" fn clumarief_raw_class_name(
     length: usize,
     answer: &mut [u32; 4],
 ) {
-    let tables =
-        unsafe { lookup(classes, class_rows, members, member_rows, pool, pool_length, used) };
+    let tables = unsafe {
+        lookup(
+            classes,
+            class_rows,
+            members,
+            member_rows,
+            pool,
+            pool_length,
+            used,
+        )
+    };
     let name = unsafe { text(name, length) };
     *answer = numbers(tables, |tables| tables.raw_class_name(name));
 }
@@ -81,8 +99,17 @@ pub unsafe extern "C" fn clumarief_mapped_class_name(
     length: usize,
     answer: &mut [u32; 3],
 ) {
-    let tables =
-        unsafe { lookup(classes, class_rows, members, member_rows, pool, pool_length, used) };
+    let tables = unsafe {
+        lookup(
+            classes,
+            class_rows,
+            members,
+            member_rows,
+            pool,
+            pool_length,
+            used,
+        )
+    };
     let name = unsafe { text(name, length) };
     let [_, found, place, length] = numbers(tables, |tables| tables.display_class_name(name));
     *answer = [found, place, length];

@@ -239,7 +239,9 @@ fn damage(random: &mut Random, asked: &mut Asked) {
             asked.used[at] = number(random, asked.used[at]);
         }
         1 => asked.pool.truncate(random.below(asked.pool.len() + 1)),
-        2 => asked.classes.truncate(random.below(asked.classes.len() + 1)),
+        2 => asked
+            .classes
+            .truncate(random.below(asked.classes.len() + 1)),
         3 => {
             let at = random.below(asked.pool.len());
             if let Some(byte) = asked.pool.get_mut(at) {

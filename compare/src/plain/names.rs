@@ -32,7 +32,10 @@ impl Lookup<'_> {
     /// "a class row, kind or flag out of range", and its four texts
     fn member_is_bad(&self, row: &MemberRow) -> bool {
         let numbers = row[0] > 1 || row[1] >= self.used[0] || row[10] > 2;
-        numbers || (2..10).step_by(2).any(|at| self.text_is_bad(row[at], row[at + 1]))
+        numbers
+            || (2..10)
+                .step_by(2)
+                .any(|at| self.text_is_bad(row[at], row[at + 1]))
     }
 
     /// "a count above the rows or pool lent", where a longer slice counts as the most there may be
@@ -47,8 +50,12 @@ impl Lookup<'_> {
     pub fn is_malformed(&self) -> bool {
         let [classes, members, _] = self.used.map(|count| count as usize);
         self.counts_are_bad()
-            || self.classes[..classes].iter().any(|row| self.class_is_bad(row))
-            || self.members[..members].iter().any(|row| self.member_is_bad(row))
+            || self.classes[..classes]
+                .iter()
+                .any(|row| self.class_is_bad(row))
+            || self.members[..members]
+                .iter()
+                .any(|row| self.member_is_bad(row))
     }
 
     /// "The last class row with a given raw (or display) descriptor answers": the other descriptor of that row.
