@@ -11,7 +11,7 @@ use Rattle.load_rule.specs.Members.{MemberKind, field, method, Entry}
 use Rattle.name_lines.specs.declared.lines.LineName.the-variants.{Line, Unknown}
 use Rattle.name_lines.specs.LineNames.{rawLine, displayLine}
 use Rattle.name_rule.specs.Mappings.{Mapping, mapping}
-use Rattle.name_rule.specs.MemberNames.{key, rawOfRow, lastNamed, lastLine, fieldName, methodName, lineOfMethod}
+use Rattle.name_rule.specs.MemberNames.{key, rawOfRow, lastNamed, lastTranslated, fieldName, methodName, lineOfMethod}
 
 abbrev member : ℕ → List ℕ → List ℕ → List ℕ → MemberKind → Entry
 member c r d n k = record { class = c; rawName = r; descriptor = d; name = n; kind = k }
@@ -43,5 +43,5 @@ names :
     × (lineOfMethod mapped (key (ascii "x") (ascii "m") (ascii "()V")) (rawLine 5) ≡ Line (displayLine 50))
     × (lineOfMethod mapped (key (ascii "x") (ascii "m") (ascii "()V")) (rawLine 10) ≡ Unknown)
     × (lineOfMethod mapped (key (ascii "y") (ascii "m") (ascii "()V")) (rawLine 1) ≡ Unknown)
-unfolding ascii same shown rawOfRow lastNamed lastLine
+unfolding ascii same shown rawOfRow lastNamed lastTranslated
 names = (refl, refl, refl, refl, refl, refl, refl, refl, refl, refl, refl)

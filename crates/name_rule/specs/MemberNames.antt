@@ -35,15 +35,17 @@ isText unknown p = false
 
 -- "Member rows of class lines with the same raw descriptor belong together and match by raw name and raw descriptor"
 abbrev pub matches : List Pair → Key → Entry → Bool
-matches cs k e = both (isText (rawOfRow cs (e .class)) (k .owner)) (both (same (e .rawName) (k .name)) (same (e .descriptor) (k .descriptor)))
+matches cs k e =
+    both (isText (rawOfRow cs (e .class)) (k .owner))
+    (both (same (e .rawName) (k .name)) (same (e .descriptor) (k .descriptor)))
 
-abbrev pub isField : MemberKind → Bool
-isField field = true
-isField (method o g) = false
+abbrev pub isFieldKind : MemberKind → Bool
+isFieldKind field = true
+isFieldKind (method o g) = false
 
-abbrev pub isMethod : MemberKind → Bool
-isMethod field = false
-isMethod (method o g) = true
+abbrev pub isMethodKind : MemberKind → Bool
+isMethodKind field = false
+isMethodKind (method o g) = true
 
 -- the display name of the last member of which `p` holds
 unfoldable pub lastNamed : (Entry → Bool) → List Entry → Look
@@ -52,7 +54,7 @@ lastNamed p (e ∷ es) = orLook (lastNamed p es) (pick (p e) (known (e .name)) u
 
 -- "the last matching field answers"
 abbrev pub fieldName : Mapping → Key → Look
-fieldName m k = lastNamed (λ e. both (isField (e .kind)) (matches (m .classes) k e)) (m .members)
+fieldName m k = lastNamed (λ e. both (isFieldKind (e .kind)) (matches (m .classes) k e)) (m .members)
 
 -- a method "whose display owner is the class's display (of the last class row with that raw)", which is the text `display`
 abbrev pub ownedBy : Look → MemberKind → Bool
@@ -62,10 +64,12 @@ ownedBy display (method o g) = isText display o
 abbrev pub ownerMatches : Mapping → Key → Entry → Bool
 ownerMatches m k e = both (ownedBy (shown (m .classes) (k .owner)) (e .kind)) (matches (m .classes) k e)
 
+abbrev pub methodMatches : Mapping → Key → Entry → Bool
+methodMatches m k e = both (isMethodKind (e .kind)) (matches (m .classes) k e)
+
 -- "A method's name comes from the last match whose display owner is the class's display .., else the last match."
 abbrev pub methodName : Mapping → Key → Look
-methodName m k =
-    orLook (lastNamed (ownerMatches m k) (m .members)) (lastNamed (λ e. both (isMethod (e .kind)) (matches (m .classes) k e)) (m .members))
+methodName m k = orLook (lastNamed (ownerMatches m k) (m .members)) (lastNamed (methodMatches m k) (m .members))
 
 -- "A line uses the last such owner match whose raw range holds it."
 abbrev pub orLine : LineName → LineName → LineName
@@ -76,9 +80,9 @@ abbrev pub lineOfKind : MemberKind → RawLine → LineName
 lineOfKind field n = Unknown
 lineOfKind (method o g) n = lineName g n
 
-unfoldable pub lastLine : (Entry → Bool) → RawLine → List Entry → LineName
-lastLine p n [] = Unknown
-lastLine p n (e ∷ es) = orLine (lastLine p n es) (pick (p e) (lineOfKind (e .kind) n) Unknown)
+unfoldable pub lastTranslated : (Entry → Bool) → RawLine → List Entry → LineName
+lastTranslated p n [] = Unknown
+lastTranslated p n (e ∷ es) = orLine (lastTranslated p n es) (pick (p e) (lineOfKind (e .kind) n) Unknown)
 
 abbrev pub lineOfMethod : Mapping → Key → RawLine → LineName
-lineOfMethod m k n = lastLine (ownerMatches m k) n (m .members)
+lineOfMethod m k n = lastTranslated (ownerMatches m k) n (m .members)
