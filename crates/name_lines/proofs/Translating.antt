@@ -13,7 +13,7 @@ use Rattle.table_rows.specs.declared.rows.Ranges.{Ranges}
 use Rattle.table_rows.specs.declared.rows.Ranges.the-variants.{None, Display, Both}
 use Rattle.name_lines.specs.declared.lines.RawLine.{RawLine}
 use Rattle.name_lines.specs.declared.lines.LineName.the-variants.{Line, Unknown}
-use Rattle.name_lines.specs.LineNames.{displayLine, lineName}
+use Rattle.name_lines.specs.LineNames.{displayLine, holdsLine, lineName}
 
 pub ruleset comparing = (cases, needs)
 
@@ -46,3 +46,8 @@ module _ (n : RawLine) {g : Ranges} where
         line-shown = ap (λ y. Line (displayLine (a + y))) is ∙ sym (rw (e, held))
 
 pub ruleset translating = (line-none, line-display, line-outside, line-from, line-fits, line-shown, needs)
+
+pub range-holds : (g : Ranges) (n : RawLine) {p q a e : ℕ} → g ≡ Both p q a e → {b : Bool} → b ≡ within p q (n .0) → b ≡ holdsLine g n
+range-holds g n f w = w ∙ sym (rw f)
+
+pub ruleset holding = (range-holds, needs)

@@ -4,4 +4,5 @@ mod lines;
 pub use lines::DisplayLine;
 pub use lines::LineName;
 pub use lines::RawLine;
+pub use lines::holds_line;
 pub use lines::translated;

@@ -3,7 +3,7 @@ use table_rows::Ranges;
 ghost use mathlib.Core.Path.{_≡_};
 ghost use Prim.Native.Nat.{_-_, min};
 ghost use Rattle.ground.specs.Choice.{within};
-ghost use Rattle.name_lines.specs.LineNames.{lineName};
+ghost use Rattle.name_lines.specs.LineNames.{holdsLine, lineName};
 
 pub struct RawLine(pub u32);
 
@@ -41,6 +41,22 @@ fn in_range(start: u32, end: u32, line: u32) -> bool
         return false;
     }
     line <= end
+}
+
+// Whether the raw range of a method holds a line.
+pub fn holds_line(ranges: Ranges, line: RawLine) -> bool
+    ensures { λ r. ⌜ r ≡ holdsLine ranges line ⌝ }
+{
+    match ranges {
+        Ranges::None => false,
+        Ranges::Display { start: _, end: _ } => false,
+        Ranges::Both {
+            raw_start,
+            raw_end,
+            start: _,
+            end: _,
+        } => in_range(raw_start, raw_end, line.0),
+    }
 }
 
 // The display line of a raw line, if the raw range of the method holds it.

@@ -1,2 +1,3 @@
 -- Laws of mappings.
 pub mod Loaded
+pub mod Rows

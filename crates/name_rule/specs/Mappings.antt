@@ -16,16 +16,20 @@ use Rattle.load_rule.specs.Members.{MemberKind, field, method, Entry}
 abbrev pub kindBack : List ℕ → Member → MemberKind
 kindBack pool m = pick (eqb (m .kind) 0) field (method (textIn pool (m .owner)) (m .ranges))
 
+-- a member, by the texts that its row names
+abbrev pub memberBack : List ℕ → Member → Entry
+memberBack pool m =
+    record {
+      class = m .class;
+      rawName = textIn pool (m .«raw_name»);
+      descriptor = textIn pool (m .descriptor);
+      name = textIn pool (m .name);
+      kind = kindBack pool m;
+    }
+
 -- the member of a row
 abbrev pub entryBack : List ℕ → List ℕ → Entry
-entryBack pool row =
-    record {
-      class = unpackMember row .class;
-      rawName = textIn pool (unpackMember row .«raw_name»);
-      descriptor = textIn pool (unpackMember row .descriptor);
-      name = textIn pool (unpackMember row .name);
-      kind = kindBack pool (unpackMember row);
-    }
+entryBack pool row = memberBack pool (unpackMember row)
 
 abbrev pub entriesBack : List (List ℕ) → List ℕ → List Entry
 entriesBack rows pool = map (entryBack pool) rows

@@ -53,23 +53,26 @@ lastNamed p [] = unknown
 lastNamed p (e ∷ es) = orLook (lastNamed p es) (pick (p e) (known (e .name)) unknown)
 
 -- "the last matching field answers"
+abbrev pub fieldMatches : List Pair → Key → Entry → Bool
+fieldMatches cs k e = both (isFieldKind (e .kind)) (matches cs k e)
+
 abbrev pub fieldName : Mapping → Key → Look
-fieldName m k = lastNamed (λ e. both (isFieldKind (e .kind)) (matches (m .classes) k e)) (m .members)
+fieldName m k = lastNamed (fieldMatches (m .classes) k) (m .members)
 
 -- a method "whose display owner is the class's display (of the last class row with that raw)", which is the text `display`
 abbrev pub ownedBy : Look → MemberKind → Bool
 ownedBy display field = false
 ownedBy display (method o g) = isText display o
 
-abbrev pub ownerMatches : Mapping → Key → Entry → Bool
-ownerMatches m k e = both (ownedBy (shown (m .classes) (k .owner)) (e .kind)) (matches (m .classes) k e)
+abbrev pub ownerMatches : List Pair → Key → Entry → Bool
+ownerMatches cs k e = both (ownedBy (shown cs (k .owner)) (e .kind)) (matches cs k e)
 
-abbrev pub methodMatches : Mapping → Key → Entry → Bool
-methodMatches m k e = both (isMethodKind (e .kind)) (matches (m .classes) k e)
+abbrev pub methodMatches : List Pair → Key → Entry → Bool
+methodMatches cs k e = both (isMethodKind (e .kind)) (matches cs k e)
 
 -- "A method's name comes from the last match whose display owner is the class's display .., else the last match."
 abbrev pub methodName : Mapping → Key → Look
-methodName m k = orLook (lastNamed (ownerMatches m k) (m .members)) (lastNamed (methodMatches m k) (m .members))
+methodName m k = orLook (lastNamed (ownerMatches (m .classes) k) (m .members)) (lastNamed (methodMatches (m .classes) k) (m .members))
 
 -- "A line uses the last such owner match whose raw range holds it."
 abbrev pub orLine : LineName → LineName → LineName
@@ -85,4 +88,4 @@ lastTranslated p n [] = Unknown
 lastTranslated p n (e ∷ es) = orLine (lastTranslated p n es) (pick (p e) (lineOfKind (e .kind) n) Unknown)
 
 abbrev pub lineOfMethod : Mapping → Key → RawLine → LineName
-lineOfMethod m k n = lastTranslated (ownerMatches m k) n (m .members)
+lineOfMethod m k n = lastTranslated (ownerMatches (m .classes) k) n (m .members)

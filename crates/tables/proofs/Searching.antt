@@ -89,34 +89,65 @@ side-told side pool name row e f g h q =
 
 pub ruleset scanning = (scanning-starts, scanning-ends, scanning-inside, scanning-found, scanning-more, side-told, needs)
 
--- Of the classes read back: the rows `rows`, counted from `at`, give the pairs `f row`, and an answer of the search says what the look-up is.
-abbrev Told : (List ℕ → Pair) → ℕ → List (List ℕ) → Found → Look → Type 0
-Told f at rows (Row i) l = (at ≤ i) × (i < at + length rows) × (l ≡ known (f (getD rows (i - at) []) .display))
-Told f at rows Unknown l = l ≡ unknown
+-- An answer that goes over the rows as the search does: where a row is found it is what that row says, and where none is found there is
+-- none.
+module _
+    {L : Type 0} (none : L) (orElse : L → L → L) (says : List ℕ → L) (p : List ℕ → Bool) (g : List (List ℕ) → L)
+    (empty : g [] ≡ none)
+    (step : (row : List ℕ) (rows : List (List ℕ)) → g (row ∷ rows) ≡ orElse (g rows) (pick (p row) (says row) none))
+    (else-none : (l : L) → orElse none l ≡ l)
+    (else-says : (row : List ℕ) (l : L) → p row ≡ true → orElse (says row) l ≡ says row) where
+  abbrev Told : ℕ → List (List ℕ) → Found → Type 0
+  Told at rows (Row i) = (at ≤ i) × (i < at + length rows) × (p (getD rows (i - at) []) ≡ true) × (g rows ≡ says (getD rows (i - at) []))
+  Told at rows Unknown = g rows ≡ none
 
-told : (f : List ℕ → Pair) (name : List ℕ) (at : ℕ) (rows : List (List ℕ)) → Told f at rows (lastRowFrom (λ row. same (f row .raw) name) at rows) (shown (map f rows) name)
-unfolding lastRowFrom shown
-told f name at [] = refl
-told f name at (row ∷ rows) =
-    later (lastRowFrom (λ r. same (f r .raw) name) (suc at) rows) (shown (map f rows) name) (same (f row .raw) name) (told f name (suc at) rows)
-  where
-    later : (o : Found) (l : Look) (b : Bool) → Told f (suc at) rows o l →
-        Told f at (row ∷ rows) (orRow o (pick b (Row at) Unknown)) (orLook l (pick b (known (f row .display)) unknown))
-    later (Row i) l b (g, h, e) =
-        let z : i - at ≡ suc (i - suc at) = omega arith in
-        (omega arith, omega arith, ap (λ x. orLook x (pick b (known (f row .display)) unknown)) e ∙ rw z)
-    later Unknown l true e = let z : at - at ≡ 0 = omega arith in (omega arith, omega arith, ap (λ x. orLook x (known (f row .display))) e ∙ rw z)
-    later Unknown l false e = ap (λ x. orLook x unknown) e
+  told : (at : ℕ) (rows : List (List ℕ)) → Told at rows (lastRowFrom p at rows)
+  unfolding lastRowFrom
+  told at [] = empty
+  told at (row ∷ rows) = later (lastRowFrom p (suc at) rows) (p row) refl (told (suc at) rows)
+    where
+      later : (o : Found) (b : Bool) → p row ≡ b → Told (suc at) rows o → Told at (row ∷ rows) (orRow o (pick b (Row at) Unknown))
+      later (Row i) b e (h, j, q, f) =
+          let z : i - at ≡ suc (i - suc at) = omega arith in
+          (omega arith, omega arith, rw z q, step row rows ∙ rw (f, z) (else-says (getD rows (i - suc at) []) _ q))
+      later Unknown true e f =
+          let z : at - at ≡ 0 = omega arith in
+          (omega arith, omega arith, rw z e, step row rows ∙ rw (f, e, z) (else-none (says row)))
+      later Unknown false e f = step row rows ∙ rw (f, e) (else-none none)
 
+  module _ (rows : List (List ℕ)) where
+    pub answer-row : {i : ℕ} → lastRowFrom p 0 rows ≡ Row i → (i < length rows) × (p (getD rows i []) ≡ true) × (g rows ≡ says (getD rows i []))
+    answer-row {i} e =
+        let t : Told 0 rows (Row i) = rw e at (told 0 rows) in
+        let z : i - 0 ≡ i = omega arith in
+        (omega (arith, t .1), rw z at (t .2), rw z at (t .3))
+
+    pub answer-none : lastRowFrom p 0 rows ≡ Unknown → g rows ≡ none
+    answer-none e = rw e at (told 0 rows)
+
+-- Of the classes read back: the pairs `f row` of the rows.
 module _ (f : List ℕ → Pair) (name : List ℕ) (rows : List (List ℕ)) where
-  told-row : {i : ℕ} → lastRowFrom (λ row. same (f row .raw) name) 0 rows ≡ Row i → (i < length rows) × (shown (map f rows) name ≡ known (f (getD rows i []) .display))
-  told-row {i} e =
-      let t : Told f 0 rows (Row i) (shown (map f rows) name) = rw e at (told f name 0 rows) in
-      let z : i - 0 ≡ i = omega arith in
-      (omega (arith, t .1), t .2 ∙ rw z)
+  abbrev has : List ℕ → Bool
+  has row = same (f row .raw) name
 
-  told-unknown : lastRowFrom (λ row. same (f row .raw) name) 0 rows ≡ Unknown → shown (map f rows) name ≡ unknown
-  told-unknown e = rw e at (told f name 0 rows)
+  abbrev shows : List ℕ → Look
+  shows row = known (f row .display)
+
+  shown-step : (row : List ℕ) (rest : List (List ℕ)) → shown (map f (row ∷ rest)) name ≡ orLook (shown (map f rest) name) (pick (has row) (shows row) unknown)
+  unfolding shown
+  shown-step row rest = refl
+
+  shown-empty : shown (map f []) name ≡ unknown
+  unfolding shown
+  shown-empty = refl
+
+  told-row : {i : ℕ} → lastRowFrom has 0 rows ≡ Row i → (i < length rows) × (shown (map f rows) name ≡ known (f (getD rows i []) .display))
+  told-row e =
+      let t = answer-row unknown orLook shows has (λ l. shown (map f l) name) shown-empty shown-step (λ l. refl) (λ row l q. refl) rows e in
+      (t .0, t .2)
+
+  told-unknown : lastRowFrom has 0 rows ≡ Unknown → shown (map f rows) name ≡ unknown
+  told-unknown e = answer-none unknown orLook shows has (λ l. shown (map f l) name) shown-empty shown-step (λ l. refl) (λ row l q. refl) rows e
 
 swapped-rows : (f : List ℕ → Pair) (rows : List (List ℕ)) → map swapped (map f rows) ≡ map (λ row. swapped (f row)) rows
 swapped-rows f [] = refl
