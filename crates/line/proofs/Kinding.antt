@@ -4,13 +4,14 @@ use mathlib.Core.Bool.{Bool, true, false}
 use mathlib.Core.List.{List, _∷_}
 use Prim.Native.Nat.{ℕ, suc, _+_, _-_, _^_, _≤_, _<_}
 use native.Mathlib.Omega.{arith}
-use lib.Dec.{eqb}
+use lib.Dec.{eqb, ltb}
 use lib.ListN.{length, getD, take, drop}
 use lib.Seq.{drop-cons}
 use mir.Val.{Fits}
 use mir.Syntax.{w64}
-use borrow.Author.Tests.{eq-eqb, ne-eqb}
+use borrow.Author.Tests.{eq-eqb, ne-eqb, lt-ltb, le-ltb}
 use borrow.Author.Needs.{needs}
+use Rattle.ground.specs.Choice.{pick}
 use Rattle.ground.specs.Put.{between}
 use Rattle.text_places.specs.declared.find.Place.{Place}
 use Rattle.text_places.specs.declared.find.Place.the-variants.{At, Nowhere}
@@ -33,7 +34,7 @@ use Rattle.line_parts.specs.Arrows.{arrowOf, classSides}
 use Rattle.line_parts.specs.Fields.{fieldOf}
 use Rattle.line_parts.specs.Methods.{shiftMethod, MethodIn, methodOf}
 use Rattle.line.specs.Kinds.{placeFrom, commentAt, classBy, classAt, methodBy, methodAt, fieldBy, fieldAt, bySide, memberBy, memberAt, lineIn, lineOf}
-use Rattle.text_white.proofs.TrimLaws.{trim-inside, trim-order}
+use Rattle.text_white.proofs.TrimLaws.{trim-inside, trim-order, starts-trimmed}
 use Rattle.line_parts.proofs.Lying.{arrow-lies, class-lies, field-lies, shift-lies, part-length}
 use Rattle.line_parts.proofs.Methods.{method-lies, shift-method-lies}
 
@@ -172,11 +173,17 @@ module _ (s : List ℕ) {p : Span} (e : p ≡ trimBoth s) where
     pub line-comment : getD s (p .start) 0 ≡ 0x23 → {z : Line} → z ≡ commentAt (p .start) (between s (p .start) (p .«end»)) → z ≡ lineOf s
     line-comment c u = u ∙ sym (in-it ∙ rw (ne-eqb (p .start) (p .«end») n, hash-head s p lies n, eq-eqb (getD s (p .start) 0) 0x23 c))
 
-    module _ (c : getD s (p .start) 0 ≡ 0x23 → ⊥) {b : Bool} (w : b ≡ startsWhite s) where
-      pub line-member : b ≡ true → {z : Line} → z ≡ memberAt (p .start) (between s (p .start) (p .«end»)) → z ≡ lineOf s
-      line-member t u = u ∙ sym (in-it ∙ rw (ne-eqb (p .start) (p .«end») n, hash-head s p lies n, ne-eqb (getD s (p .start) 0) 0x23 c, ← w, t))
+    module _ (c : getD s (p .start) 0 ≡ 0x23 → ⊥) where
+      told : (b : Bool) → startsWhite s ≡ b → {z : Line} → z ≡ pick b (memberAt (p .start) (between s (p .start) (p .«end»))) (classAt (p .start) (between s (p .start) (p .«end»))) → z ≡ lineOf s
+      told b w u = u ∙ sym (in-it ∙ rw (ne-eqb (p .start) (p .«end») n, hash-head s p lies n, ne-eqb (getD s (p .start) 0) 0x23 c, w))
 
-      pub line-class : b ≡ false → {z : Line} → z ≡ classAt (p .start) (between s (p .start) (p .«end»)) → z ≡ lineOf s
-      line-class t u = u ∙ sym (in-it ∙ rw (ne-eqb (p .start) (p .«end») n, hash-head s p lies n, ne-eqb (getD s (p .start) 0) 0x23 c, ← w, t))
+      white : startsWhite s ≡ ltb 0 (p .start)
+      white = starts-trimmed s ∙ ap (λ q. ltb 0 (q .start)) (sym e)
+
+      pub line-member : 0 < p .start → {z : Line} → z ≡ memberAt (p .start) (between s (p .start) (p .«end»)) → z ≡ lineOf s
+      line-member t u = told true (white ∙ lt-ltb 0 (p .start) t) u
+
+      pub line-class : p .start ≤ 0 → {z : Line} → z ≡ classAt (p .start) (between s (p .start) (p .«end»)) → z ≡ lineOf s
+      line-class t u = told false (white ∙ le-ltb 0 (p .start) t) u
 
 pub ruleset kinding = (line-blank, line-order, line-inside, line-first, line-room, line-comment, line-member, line-class, needs)

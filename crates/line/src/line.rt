@@ -12,7 +12,6 @@ use text_places::Place;
 use text_places::Span;
 use text_places::first_byte;
 use text_places::shifted;
-use text_white::starts_white;
 use text_white::trim_both;
 ghost use mathlib.Core.Path.{_≡_};
 ghost use Prim.Native.Nat.{_+_, _≤_};
@@ -140,7 +139,8 @@ pub fn read_line(s: &[u8]) -> Line
     if s[start] == b'#' {
         return comment_line(trimmed, start);
     }
-    if starts_white(s) {
+    // white space was trimmed from its start
+    if 0 < start {
         return member_line(trimmed, start);
     }
     class_line(trimmed, start)

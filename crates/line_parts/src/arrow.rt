@@ -28,8 +28,12 @@ pub fn split_arrow(s: &[u8]) -> Arrow
     if right.start == right.end {
         return Arrow::NoArrow;
     }
+    // made of its two numbers: a span that is copied into an answer right after it was made is waited for
     Arrow::Sides {
-        left,
+        left: Span {
+            start: left.start,
+            end: left.end,
+        },
         right: shifted(after, right),
     }
 }

@@ -146,11 +146,17 @@ module _ {rows : List (List ℕ)} {pool index : List ℕ} {at : ℕ} (x : Indexe
     pub raw-indexed : Indexed rows d index q
     raw-indexed = indexed-put x bracketed
 
-    pub raw-put : (v : Wrote) (d₁ : List ℕ) → WroteBy v d q (turn (back (readBack rows d)) (baseBytes (t .base) (between text (t .start) (t .«end»)))) d₁ →
-        WroteBy v pool at (rawTypeOf (readBack rows pool) text) d₁
-    raw-put v d₁ u =
-        let b : List ℕ = turn (back (readBack rows pool)) (baseBytes (t .base) (between text (t .start) (t .«end»))) in
-        let same : WroteBy v d q b d₁ = rw (read-back-put x bracketed) at u in
-        wrote-as v pool at d₁ (sym whole) (wrote-then v b d₁ bracketed same)
+    module _ (v : Wrote) (d₁ : List ℕ) (u : WroteBy v d q (turn (back (readBack rows d)) (baseBytes (t .base) (between text (t .start) (t .«end»)))) d₁) where
+      put : WroteBy v pool at (rawTypeOf (readBack rows pool) text) d₁
+      put =
+          let b : List ℕ = turn (back (readBack rows pool)) (baseBytes (t .base) (between text (t .start) (t .«end»))) in
+          let same : WroteBy v d q b d₁ = rw (read-back-put x bracketed) at u in
+          wrote-as v pool at d₁ (sym whole) (wrote-then v b d₁ bracketed same)
 
-pub ruleset raw-types = (type-order, type-inside, shape-base, raw-no-room, raw-indexed, raw-put, needs)
+      pub raw-none : v ≡ NoRoom → length pool < at + length (rawTypeOf (readBack rows pool) text)
+      raw-none g = wrote-none v pool at (rawTypeOf (readBack rows pool) text) d₁ put g
+
+      pub raw-done : {z : ℕ} → v ≡ Done z → Written z pool at (rawTypeOf (readBack rows pool) text) d₁
+      raw-done g = wrote-told v pool at (rawTypeOf (readBack rows pool) text) d₁ put g
+
+pub ruleset raw-types = (type-order, type-inside, shape-base, raw-no-room, raw-indexed, raw-none, raw-done, needs)

@@ -195,5 +195,10 @@ pub fn put_raw_type(
     let Wrote::Done(after) = put_bytes(pool, at, b'[', shape.brackets) else {
         return Wrote::NoRoom;
     };
-    put_raw_base(pool, after, &text[start..end], base, classes, index)
+    // an answer that is handed on is copied from between two words, and that copy is waited for; its number alone is not
+    let Wrote::Done(ended) = put_raw_base(pool, after, &text[start..end], base, classes, index)
+    else {
+        return Wrote::NoRoom;
+    };
+    Wrote::Done(ended)
 }

@@ -2,14 +2,16 @@
 use mathlib.Core.Path.{_≡_, refl, sym, _∙_, ap}
 use mathlib.Core.Bool.{Bool, true, false}
 use mathlib.Core.List.{List}
-use Prim.Native.Nat.{ℕ, _+_, _-_, _<_}
+use mathlib.Core.Logic.{_⊎_, inl, inr}
+use Prim.Native.Nat.{ℕ, _+_, _-_, _≤_, _<_}
 use lib.ListN.{length, getD}
 use borrow.Author.Needs.{needs}
 use Rattle.text_places.specs.declared.find.Place.{Place}
 use Rattle.text_places.specs.declared.find.Place.the-variants.{At, Nowhere}
 use Rattle.text_places.specs.Places.{firstWhere, starts}
 use Rattle.text_places.specs.declared.spans.Span.{Span}
-use Rattle.text_white.specs.Trim.{trimBoth, startsWhite}
+use Rattle.ground.proofs.Cases.{le-or-lt}
+use Rattle.text_white.specs.Trim.{trimBoth}
 use Rattle.line_parts.specs.declared.arrow.Arrow.{Arrow}
 use Rattle.line_parts.specs.declared.arrow.Arrow.the-variants.{Sides, NoArrow}
 use Rattle.line_parts.specs.declared.field.Field as field
@@ -65,11 +67,11 @@ module _ (s : List ℕ) {p : Span} (e : p ≡ trimBoth s) where
     opens-inside = line-first s e n
 
     pub opens-other : (getD s (p .start) 0 ≡ 0x23 → ⊥) → Other ≡ openingOf (lineOf s)
-    opens-other c = go (startsWhite s) refl
+    opens-other c = go (le-or-lt (p .start) 0)
       where
-        go : (b : Bool) → b ≡ startsWhite s → Other ≡ openingOf (lineOf s)
-        go true w = sym (member-other (p .start) (partOf s p)) ∙ ap openingOf (line-member s e n c w refl refl)
-        go false w = sym (class-other (p .start) (partOf s p)) ∙ ap openingOf (line-class s e n c w refl refl)
+        go : (p .start ≤ 0) ⊎ (0 < p .start) → Other ≡ openingOf (lineOf s)
+        go (inl h) = sym (class-other (p .start) (partOf s p)) ∙ ap openingOf (line-class s e n c h refl)
+        go (inr h) = sym (member-other (p .start) (partOf s p)) ∙ ap openingOf (line-member s e n c h refl)
 
 -- Any other line is what it was read as.
 module _ (s : List ℕ) {t : Line} (e : t ≡ lineOf s) where

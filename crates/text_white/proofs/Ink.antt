@@ -13,7 +13,7 @@ use Rattle.text_utf8.specs.Utf8.{sequenceOf, pieces}
 use Rattle.text_utf8.proofs.Sequences.{sequence-ascii, sequence-end}
 use Rattle.text_white.specs.White.{whiteRanges, inRanges, isWhite}
 use Rattle.text_white.specs.Trim.{runOf, startsWhite}
-use Rattle.text_white.proofs.TrimLaws.{Running, run-stops, running, white-here}
+use Rattle.text_white.proofs.TrimLaws.{Running, run-stops, running, white-here, first-white, last-white}
 
 abbrev pub ink : ℕ → Bool
 ink b = within 0x21 0x7F b
@@ -58,9 +58,16 @@ module _ (s : List ℕ) (at : ℕ) where
     pub white-ink : {r : Bool} → r ≡ ink (getD s at 0) → r ≡ true → false ≡ startsWhite (drop at s)
     white-ink i t = let y = sym i ∙ t in rw (ink-reads y, ink-dark (getD s at 0) y)
 
+    pub ink-passed : {r : Bool} → r ≡ ink (getD s at 0) → r ≡ true → startsWhite (drop at s) ≡ false
+    ink-passed i t = sym (white-ink i t)
+
     pub run-ink : {r : Bool} → Running isWhite s at → r ≡ ink (getD s at 0) → r ≡ true → at ≡ runOf isWhite (pieces s)
     run-ink k i t = let y = sym i ∙ t in run-stops k (sym (ink-reads y)) refl (ink-dark (getD s at 0) y)
 
 pub ruleset white-or-ink = (white-past, white-ink, white-here)
 
 pub ruleset running-to-ink = (run-ink, running)
+
+pub ruleset first-past-ink = (ink-passed, first-white)
+
+pub ruleset last-past-ink = (ink-passed, last-white)

@@ -15,10 +15,12 @@ use Rattle.ground.proofs.Cases.{within-both, both-left, both-right, le-or-lt, c
 use Rattle.text_utf8.specs.declared.sequence.Sequence.{Sequence}
 use Rattle.text_utf8.specs.declared.sequence.Sequence.the-variants.{End, Good, Bad}
 use Rattle.text_utf8.specs.Utf8.{Lead, lead, leadOf, tails, afterLead, sequenceOf, pieces}
+use Rattle.text_places.specs.declared.spans.Span.{Span}
 use Rattle.text_white.specs.White.{isWhite}
-use Rattle.text_white.specs.Trim.{allWhite, trimEnd}
+use Rattle.text_white.specs.Trim.{allWhite, trimStart, trimEnd, trimBoth}
 use Rattle.text_white.specs.inner.Before.{whiteLength, Before}
-use Rattle.text_white.proofs.Ink.{ink, ink-reads, ink-dark}
+use Rattle.text_white.proofs.Ink.{ink, ink-reads, ink-dark, run-ink}
+use Rattle.text_white.proofs.TrimLaws.{run-starts}
 use Rattle.text_utf8.proofs.Leads.{lead-low-none}
 use Rattle.text_utf8.proofs.Sequences.{good-fits, end-empty, tails-fit, first-good, second-good, went-on}
 use Rattle.text_utf8.proofs.Pieces.{pieces-none, pieces-good, pieces-bad}
@@ -277,3 +279,15 @@ pub ending-last : {s : List ℕ} {«end» : ℕ} → Ending s «end» → 0 < «
 ending-last k h = omega (arith, k .inside)
 
 pub ruleset ending = (ending-ink, ending-last, ending-starts, ending-empty, ending-stops, ending-more, ending-falls, ending-room, needs)
+
+-- A text that starts and ends with ink is trimmed already.
+pub inked-ends : (s : List ℕ) → 0 < length s → {a b : Bool} → a ≡ ink (getD s 0 0) → a ≡ true → b ≡ ink (getD s (length s - 1) 0) → b ≡ true →
+    record { start = 0; «end» = length s } ≡ trimBoth s
+inked-ends s h e p f q =
+    go (trimStart s) (run-ink s 0 h (run-starts isWhite s) e p)
+  where
+    go : (n : ℕ) → 0 ≡ n → _≡_ {A = Span} (record { start = 0; «end» = length s }) (record { start = n; «end» = n + trimEnd (drop n s) })
+    go zero z = let y = ending-ink (ending-starts s) h f q in ap (λ x. record { start = 0; «end» = x }) (let w : length s ≡ 0 + trimEnd (drop 0 s) = omega arith in w)
+    go (suc n) z = absurd (omega arith)
+
+pub ruleset trimmed = (inked-ends, needs)

@@ -5,11 +5,11 @@ use mathlib.Core.List.{List, [], _∷_}
 use Prim.Native.Nat.{ℕ, zero, suc, _+_, _-_, _^_, _≤_, _<_}
 use native.Mathlib.Nat.{add-zero, add-assoc}
 use native.Mathlib.Omega.{arith}
-use lib.Dec.{eqb}
+use lib.Dec.{eqb, ltb}
 use lib.ListN.{length, take, drop, length-drop}
 use mir.Val.{Fits}
 use mir.Syntax.{w64}
-use borrow.Author.Tests.{eq-eqb, ne-eqb}
+use borrow.Author.Tests.{eq-eqb, ne-eqb, lt-ltb}
 use borrow.Author.Needs.{needs}
 use Rattle.ground.specs.Choice.{pick}
 use Rattle.ground.specs.Put.{between}
@@ -106,6 +106,20 @@ told-white l w y = sym w ∙ y
 pub ruleset first-white = (told-white, seeking)
 
 pub ruleset last-white = (told-white, backing)
+
+-- A text starts white exactly where its trimmed start is not 0.
+pub starts-trimmed : (s : List ℕ) → startsWhite s ≡ ltb 0 (trimStart s)
+unfolding runOf
+starts-trimmed s = go (sequenceOf s) refl
+  where
+    by : (b : Bool) (m r : ℕ) → 0 < m → b ≡ ltb 0 (pick b (m + r) 0)
+    by true m r h = sym (lt-ltb 0 (m + r) (omega arith))
+    by false m r h = refl
+
+    go : (t : Sequence) → sequenceOf s ≡ t → startsWhite s ≡ ltb 0 (trimStart s)
+    go End e = rw (e, pieces-none s (end-empty s e))
+    go (Bad m) e = rw (e, pieces-bad s e)
+    go (Good d m) e = rw (e, pieces-good s e) (by (isWhite d) m (runOf isWhite (pieces (drop m s))) (good-fits s e .0))
 
 -- Trimmed places lie in the text.
 run-fuel : (p : ℕ → Bool) (n : ℕ) (l : List ℕ) → length l ≤ n → runOf p (pieces l) ≤ length l

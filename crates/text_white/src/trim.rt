@@ -155,6 +155,24 @@ pub fn trim_end(s: &[u8]) -> usize
 pub fn trim_both(s: &[u8]) -> Span
     ensures { λ r. ⌜ r ≡ trimBoth (now (s .entry)) ⌝ }
 {
+    // most texts have nothing to trim, and two bytes tell
+    let length = s.len();
+    if 0 < length {
+        if is_ink(s[0]) {
+            if is_ink(s[length - 1]) {
+                return Span {
+                    start: 0,
+                    end: length,
+                };
+            }
+        }
+    }
+    trim_ends(s)
+}
+
+fn trim_ends(s: &[u8]) -> Span
+    ensures { λ r. ⌜ r ≡ trimBoth (now (s .entry)) ⌝ }
+{
     let start = trim_start(s);
     let length = trim_end(&s[start..]);
     Span {
@@ -169,10 +187,15 @@ pub fn first_white(s: &[u8]) -> Place
 {
     let mut at = 0;
     while at < s.len() {
+        if is_ink(s[at]) {
+            at += 1;
+            continue;
+        }
         if white_at(s, at) {
             return Place::At(at);
         }
         at += 1;
+        continue;
     }
     Place::Nowhere
 }
@@ -184,10 +207,15 @@ pub fn last_white(s: &[u8]) -> Place
     let mut end = s.len();
     while 0 < end {
         let at = end - 1;
+        if is_ink(s[at]) {
+            end = at;
+            continue;
+        }
         if white_at(s, at) {
             return Place::At(at);
         }
-        end = at;
+        end -= 1;
+        continue;
     }
     Place::Nowhere
 }

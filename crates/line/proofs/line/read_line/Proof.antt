@@ -27,9 +27,6 @@ comment-line-requires c κs = search kinding
 returns-2 : tie.Need-returns-2
 returns-2 c = search kinding
 
-starts-white-requires : tie.Need-starts-white-requires
-starts-white-requires c κs = search kinding
-
 member-line-requires : tie.Need-member-line-requires
 member-line-requires c κs = search kinding
 
@@ -54,7 +51,6 @@ read-line-spec =
     shared-slice-read-if2
     comment-line-requires
     returns-2
-    starts-white-requires
     member-line-requires
     returns-3
     class-line-requires

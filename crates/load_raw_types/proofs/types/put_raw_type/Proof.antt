@@ -33,11 +33,23 @@ part-put-raw-base-end c = search raw-types
 put-raw-base-requires : tie.Need-put-raw-base-requires
 put-raw-base-requires c κs = search raw-types
 
+enum-known-ended : tie.Need-enum-known-ended
+enum-known-ended c = search raw-types
+
+enum-told-2 : tie.Need-enum-told-2
+enum-told-2 c = search raw-types
+
 same-length-2 : tie.Need-same-length-2
 same-length-2 c = search raw-types
 
 returns-2 : tie.Need-returns-2
 returns-2 c = search raw-types
+
+same-length-3 : tie.Need-same-length-3
+same-length-3 c = search raw-types
+
+returns-3 : tie.Need-returns-3
+returns-3 c = search raw-types
 
 pub put-raw-type-spec : {M : Type 1} → statement M
 put-raw-type-spec =
@@ -53,5 +65,9 @@ put-raw-type-spec =
     part-put-raw-base-start
     part-put-raw-base-end
     put-raw-base-requires
+    enum-known-ended
+    enum-told-2
     same-length-2
-    returns-2)
+    returns-2
+    same-length-3
+    returns-3)

@@ -1,9 +1,9 @@
--- `text_white::trim::first_white` meets its contract, by the laws of TrimLaws and an invariant that says: the rest decides as the whole does.
+-- `text_white::trim::first_white` meets its contract, by the laws of Ink and an invariant that says what is done and what is left.
+use Rattle.text_white.proofs.Ink.{first-past-ink}
 use Rattle.text_places.proofs.PlaceLaws.{Seeking}
-use Rattle.text_white.proofs.TrimLaws.{first-white}
+use Rattle.text_white.specs.Trim.{startsWhite}
 use Prim.Native.Nat.{_-_}
 use lib.ListN.{length}
-use Rattle.text_white.specs.Trim.{startsWhite}
 use Rattle.text_white.proofs.trim.first_white.Statement.{statement}
 use Rattle.text_white.proofs.trim.first_white.Tie as tie
 
@@ -14,25 +14,40 @@ abbrev μ-loop : tie.MeasureT-loop
 μ-loop s at₀ at = length s - at
 
 loop-holds : tie.Need-loop-holds Inv-loop μ-loop
-loop-holds c = search first-white
+loop-holds c = search first-past-ink
 
-white-at-requires : tie.Need-white-at-requires Inv-loop μ-loop
-white-at-requires c κs = search first-white
+shared-slice-read-is-ink : tie.Need-shared-slice-read-is-ink Inv-loop μ-loop
+shared-slice-read-is-ink c = search first-past-ink
 
-returns : tie.Need-returns Inv-loop μ-loop
-returns c = search first-white
+is-ink-requires : tie.Need-is-ink-requires Inv-loop μ-loop
+is-ink-requires c κs = search first-past-ink
 
 add-at : tie.Need-add-at Inv-loop μ-loop
-add-at c = search first-white
+add-at c = search first-past-ink
 
 loop-less : tie.Need-loop-less Inv-loop μ-loop
-loop-less c = search first-white
+loop-less c = search first-past-ink
 
 loop-again : tie.Need-loop-again Inv-loop μ-loop
-loop-again c = search first-white
+loop-again c = search first-past-ink
+
+white-at-requires : tie.Need-white-at-requires Inv-loop μ-loop
+white-at-requires c κs = search first-past-ink
+
+returns : tie.Need-returns Inv-loop μ-loop
+returns c = search first-past-ink
+
+add-at-2 : tie.Need-add-at-2 Inv-loop μ-loop
+add-at-2 c = search first-past-ink
+
+loop-less-2 : tie.Need-loop-less-2 Inv-loop μ-loop
+loop-less-2 c = search first-past-ink
+
+loop-again-2 : tie.Need-loop-again-2 Inv-loop μ-loop
+loop-again-2 c = search first-past-ink
 
 returns-2 : tie.Need-returns-2 Inv-loop μ-loop
-returns-2 c = search first-white
+returns-2 c = search first-past-ink
 
 pub first-white-spec : {M : Type 1} → statement M
 first-white-spec =
@@ -41,9 +56,14 @@ first-white-spec =
     Inv-loop
     μ-loop
     loop-holds
-    white-at-requires
-    returns
+    shared-slice-read-is-ink
+    is-ink-requires
     add-at
     loop-less
     loop-again
+    white-at-requires
+    returns
+    add-at-2
+    loop-less-2
+    loop-again-2
     returns-2)

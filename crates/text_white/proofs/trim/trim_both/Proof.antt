@@ -1,37 +1,41 @@
--- `text_white::trim::trim_both` meets its contract, by the laws of TrimLaws.
-use Rattle.text_white.proofs.TrimLaws.{both-trims}
+-- `text_white::trim::trim_both` meets its contract, by the laws of Sync.
+use Rattle.text_white.proofs.Sync.{trimmed}
 use Rattle.text_white.proofs.trim.trim_both.Statement.{statement}
 use Rattle.text_white.proofs.trim.trim_both.Tie as tie
 
-trim-start-requires : tie.Need-trim-start-requires
-trim-start-requires c κs = search both-trims
+shared-slice-read-is-ink : tie.Need-shared-slice-read-is-ink
+shared-slice-read-is-ink c = search trimmed
 
-sub-trim-end : tie.Need-sub-trim-end
-sub-trim-end c = search both-trims
+is-ink-requires : tie.Need-is-ink-requires
+is-ink-requires c κs = search trimmed
 
-part-trim-end-start : tie.Need-part-trim-end-start
-part-trim-end-start c = search both-trims
+sub-is-ink : tie.Need-sub-is-ink
+sub-is-ink c = search trimmed
 
-part-trim-end-end : tie.Need-part-trim-end-end
-part-trim-end-end c = search both-trims
+shared-slice-read-is-ink-2 : tie.Need-shared-slice-read-is-ink-2
+shared-slice-read-is-ink-2 c = search trimmed
 
-trim-end-requires : tie.Need-trim-end-requires
-trim-end-requires c κs = search both-trims
-
-add-t5 : tie.Need-add-t5
-add-t5 c = search both-trims
+is-ink-requires-2 : tie.Need-is-ink-requires-2
+is-ink-requires-2 c κs = search trimmed
 
 returns : tie.Need-returns
-returns c = search both-trims
+returns c = search trimmed
+
+trim-ends-requires : tie.Need-trim-ends-requires
+trim-ends-requires c κs = search trimmed
+
+returns-2 : tie.Need-returns-2
+returns-2 c = search trimmed
 
 pub trim-both-spec : {M : Type 1} → statement M
 trim-both-spec =
     tie.close
     (tie.spec
-    trim-start-requires
-    sub-trim-end
-    part-trim-end-start
-    part-trim-end-end
-    trim-end-requires
-    add-t5
-    returns)
+    shared-slice-read-is-ink
+    is-ink-requires
+    sub-is-ink
+    shared-slice-read-is-ink-2
+    is-ink-requires-2
+    returns
+    trim-ends-requires
+    returns-2)
