@@ -13,13 +13,14 @@ use Rattle.ground.specs.Choice.{both}
 use Rattle.ground.proofs.Cases.{both-left, both-right, clash}
 use Rattle.text_utf8.specs.declared.check.Check.{Check}
 use Rattle.text_utf8.specs.declared.check.Check.the-variants.{Valid, Broken}
-use Rattle.text_utf8.specs.Utf8.{checkOf}
+use Rattle.text_utf8.specs.Utf8.{checkOf, isValid, isUtf8}
+use Rattle.text_utf8.proofs.Checking.{valid-told}
 use Rattle.table_rows.specs.declared.rows.Text.{Text}
 use Rattle.table_rows.specs.declared.rows.Member.{Member}
 use Rattle.tables.specs.declared.check.Used.{Used}
 use Rattle.table_rows.specs.Rows.{unpackClass, unpackMember, flagOf, mostClasses, mostMembers, mostPool}
 use Rattle.tables.specs.Back.{textIn}
-use Rattle.tables.specs.Check.{allOf, countsFine, isValid, isUtf8, textFine, classFine, numbersFine, textsFine, memberFine, wellFormed}
+use Rattle.tables.specs.Check.{allOf, countsFine, textFine, classFine, numbersFine, textsFine, memberFine, wellFormed}
 
 -- A test of every element.
 module _ {A : Type 0} (p : A → Bool) where
@@ -79,10 +80,6 @@ pub record FineText (pool : List ℕ) (used : Used) (t : Text) : Type 0 where
   pub inside : t .place + t .length ≤ used .pool
   pub valid : checkOf (textIn pool t) ≡ Valid
 
-valid-told : (o : Check) → isValid o ≡ true → o ≡ Valid
-valid-told Valid e = refl
-valid-told (Broken at m) e = clash e refl
-
 module _ (pool : List ℕ) (used : Used) where
   module _ (t : Text) where
     pub text-told : textFine pool used t ≡ true → FineText pool used t
@@ -90,7 +87,7 @@ module _ (pool : List ℕ) (used : Used) where
         let p : Bool = leb (t .place + t .length) (used .pool) in
         record {
           inside = leb-true (t .place + t .length) (used .pool) (both-left p (isUtf8 (textIn pool t)) e);
-          valid = valid-told (checkOf (textIn pool t)) (both-right p (isUtf8 (textIn pool t)) e);
+          valid = valid-told (textIn pool t) (both-right p (isUtf8 (textIn pool t)) e);
         }
 
     pub text-fine : FineText pool used t → textFine pool used t ≡ true

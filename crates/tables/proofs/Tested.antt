@@ -12,16 +12,14 @@ use borrow.Author.Tests.{le-leb, lt-leb, lt-ltb, le-ltb, not-true, not-false}
 use borrow.Author.Needs.{needs}
 use Rattle.ground.specs.Choice.{both}
 use Rattle.ground.proofs.Parts.{prefix-whole}
-use Rattle.text_utf8.specs.declared.check.Check.{Check}
-use Rattle.text_utf8.specs.declared.check.Check.the-variants.{Valid, Broken}
-use Rattle.text_utf8.specs.Utf8.{checkOf}
+use Rattle.text_utf8.specs.Utf8.{isUtf8}
 use Rattle.table_rows.specs.declared.rows.Text.{Text}
 use Rattle.table_rows.specs.declared.rows.Class.{Class}
 use Rattle.table_rows.specs.declared.rows.Member.{Member}
 use Rattle.tables.specs.declared.check.Used.{Used}
 use Rattle.table_rows.specs.Rows.{unpackClass, unpackMember, flagOf, mostClasses, mostMembers, mostPool}
 use Rattle.tables.specs.Back.{textIn}
-use Rattle.tables.specs.Check.{allOf, countsFine, isValid, isUtf8, textFine, classFine, numbersFine, textsFine, memberFine, wellFormed}
+use Rattle.tables.specs.Check.{allOf, countsFine, textFine, classFine, numbersFine, textsFine, memberFine, wellFormed}
 use Rattle.tables.proofs.Checking.{FineCounts, counts-told}
 
 -- one test after the other: the first fails, or the second decides
@@ -32,15 +30,6 @@ then-second : (x y : Bool) {b : Bool} → b ≡ x → not b ≡ false → {d : B
 then-second x y {b} e n f = f ∙ sym (ap (λ t. both t y) (sym e ∙ not-false b n))
 
 -- A text.
-module _ (s : List ℕ) {t : Check} (e : t ≡ checkOf s) where
-  pub utf8-yes : t ≡ Valid → true ≡ isUtf8 s
-  utf8-yes f = ap isValid (sym f ∙ e)
-
-  pub utf8-no : {at m : ℕ} → t ≡ Broken at m → false ≡ isUtf8 s
-  utf8-no f = ap isValid (sym f ∙ e)
-
-pub ruleset validity = (utf8-yes, utf8-no, needs)
-
 module _ (pool : List ℕ) (used : Used) (t : Text) where
   pub text-past : used .pool < t .place + t .length → false ≡ textFine pool used t
   text-past h = sym (rw (lt-leb (t .place + t .length) (used .pool) h))

@@ -6,9 +6,7 @@ use Prim.Native.Nat.{ℕ, _+_, min}
 use lib.Dec.{leb, ltb}
 use lib.ListN.{length, take}
 use Rattle.ground.specs.Choice.{both}
-use Rattle.text_utf8.specs.declared.check.Check.{Check}
-use Rattle.text_utf8.specs.declared.check.Check.the-variants.{Valid, Broken}
-use Rattle.text_utf8.specs.Utf8.{checkOf}
+use Rattle.text_utf8.specs.Utf8.{isUtf8}
 use Rattle.table_rows.specs.declared.rows.Text.{Text}
 use Rattle.table_rows.specs.declared.rows.Member.{Member}
 use Rattle.tables.specs.declared.check.Used.{Used}
@@ -27,15 +25,7 @@ countsFine classes members pool used =
     both (leb (used .classes) (min classes mostClasses))
     (both (leb (used .members) (min members mostMembers)) (leb (used .pool) (min pool mostPool)))
 
--- "a named text not UTF-8"
-abbrev pub isValid : Check → Bool
-isValid Valid = true
-isValid (Broken at length) = false
-
-abbrev pub isUtf8 : List ℕ → Bool
-isUtf8 s = isValid (checkOf s)
-
--- "a text reaching past the used pool"
+-- "a text reaching past the used pool", and "a named text not UTF-8"
 abbrev pub textFine : List ℕ → Used → Text → Bool
 textFine pool used t = both (leb (t .place + t .length) (used .pool)) (isUtf8 (textIn pool t))
 

@@ -11,25 +11,15 @@ use table_rows::Text;
 use table_rows::range_flag;
 use table_rows::unpack_class;
 use table_rows::unpack_member;
-use text_utf8::Check;
-use text_utf8::check_text;
+use text_utf8::is_utf8;
 ghost use mathlib.Core.Path.{_≡_};
-ghost use Rattle.tables.specs.Check.{isUtf8, textFine, classFine, numbersFine, textsFine, memberFine, allOf, countsFine, wellFormed};
+ghost use Rattle.tables.specs.Check.{textFine, classFine, numbersFine, textsFine, memberFine, allOf, countsFine, wellFormed};
 
 // How many class rows, member rows and pool bytes are used.
 pub struct Used {
     pub classes: u32,
     pub members: u32,
     pub pool: u32,
-}
-
-fn is_utf8(s: &[u8]) -> bool
-    ensures { λ r. ⌜ r ≡ isUtf8 (now (s .entry)) ⌝ }
-{
-    match check_text(s) {
-        Check::Valid => true,
-        Check::Broken { at: _, length: _ } => false,
-    }
 }
 
 // A text does not reach past the used pool, and is UTF-8.

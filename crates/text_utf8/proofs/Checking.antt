@@ -1,5 +1,6 @@
 -- The check of a whole text: what is found from here on is what is found of the whole. Assumes nothing.
-use mathlib.Core.Path.{_≡_, refl, sym, _∙_}
+use mathlib.Core.Path.{_≡_, refl, sym, _∙_, ap}
+use mathlib.Core.Bool.{Bool, true, false}
 use mathlib.Core.List.{List}
 use Prim.Native.Nat.{ℕ, zero, suc, _+_, _-_, _^_, _≤_, _<_}
 use native.Mathlib.Omega.{arith}
@@ -8,11 +9,12 @@ use lib.ListN.{length, getD, drop}
 use mir.Val.{Fits}
 use mir.Syntax.{w64}
 use borrow.Author.Needs.{needs}
-use Rattle.ground.proofs.Cases.{le-or-lt}
+use Rattle.ground.proofs.Cases.{le-or-lt, clash}
 use Rattle.text_utf8.specs.declared.sequence.Sequence.{Sequence}
 use Rattle.text_utf8.specs.declared.sequence.Sequence.the-variants.{End, Good, Bad}
+use Rattle.text_utf8.specs.declared.check.Check.{Check}
 use Rattle.text_utf8.specs.declared.check.Check.the-variants.{Valid, Broken}
-use Rattle.text_utf8.specs.Utf8.{sequenceOf, pieces, checkFrom, checkOf}
+use Rattle.text_utf8.specs.Utf8.{sequenceOf, pieces, checkFrom, checkOf, isValid, isUtf8}
 use Rattle.text_utf8.specs.inner.Runs.{AsciiTo}
 use Rattle.text_utf8.proofs.Sequences.{sequence-ascii, end-empty}
 use Rattle.text_utf8.proofs.Pieces.{pieces-none, pieces-past, pieces-on, pieces-bad, good-inside}
@@ -84,3 +86,20 @@ pub run-inside : {s : List ℕ} {at to : ℕ} → AsciiTo s at to → to ≤ len
 run-inside a = a .inside
 
 pub ruleset checking = (checked-first, checked-runs, runs-fall, run-inside, checked-all, checked-good, checked-bad, checked-end, checked-fits, checked-falls, needs)
+
+-- Whether a text is UTF-8, by what its check says.
+module _ (s : List ℕ) {t : Check} (e : t ≡ checkOf s) where
+  pub utf8-yes : t ≡ Valid → true ≡ isUtf8 s
+  utf8-yes f = ap isValid (sym f ∙ e)
+
+  pub utf8-no : {at m : ℕ} → t ≡ Broken at m → false ≡ isUtf8 s
+  utf8-no f = ap isValid (sym f ∙ e)
+
+pub ruleset validity = (utf8-yes, utf8-no, needs)
+
+pub valid-told : (s : List ℕ) → isUtf8 s ≡ true → checkOf s ≡ Valid
+valid-told s e = go (checkOf s) e
+  where
+    go : (o : Check) → isValid o ≡ true → o ≡ Valid
+    go Valid e = refl
+    go (Broken at m) e = clash e refl

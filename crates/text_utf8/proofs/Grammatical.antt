@@ -164,7 +164,7 @@ reads x ys n mark low high e t r =
     let (d, f) = tails-read n low high (x - mark) 1 t r in
     (d, rw (e, eqb·suc-zero n) (f ∙ ap (Good d) (omega arith)))
 
-char-reads : {a : List ℕ} → UTF8-char a → (r : List ℕ) → (d : ℕ) × (sequenceOf (a ++ r) ≡ Good d (length a))
+pub char-reads : {a : List ℕ} → UTF8-char a → (r : List ℕ) → (d : ℕ) × (sequenceOf (a ++ r) ≡ Good d (length a))
 char-reads (left (octet x e)) r = reads x [] 0 0x00 0x80 0xBF (row-00 x e) last r
 char-reads (right (left (octet x e ⨾ octet y p))) r = reads x (y ∷ []) 1 0xC0 0x80 0xBF (row-C2 x e) (next p last) r
 char-reads (right (right (left (left (octet x e ⨾ octet y p ⨾ octet z q))))) r = reads x (y ∷ z ∷ []) 2 0xE0 0xA0 0xBF (row-E0 x e) (next p (next q last)) r

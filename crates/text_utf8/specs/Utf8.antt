@@ -1,4 +1,5 @@
 -- UTF-8: RFC 3629, sections 3 and 4, and the length that document 01's refusal 2 gives.
+use mathlib.Core.Bool.{Bool, true, false}
 use mathlib.Core.List.{List, [], _∷_}
 use Prim.Native.Nat.{ℕ, zero, suc, pred, _+_, _*_, _-_}
 use lib.Dec.{eqb}
@@ -78,3 +79,11 @@ checkFrom at (Bad length ∷ ps) = Broken at length
 
 abbrev pub checkOf : List ℕ → Check
 checkOf s = checkFrom 0 (pieces s)
+
+-- a text is UTF-8, or not
+abbrev pub isValid : Check → Bool
+isValid Valid = true
+isValid (Broken at length) = false
+
+abbrev pub isUtf8 : List ℕ → Bool
+isUtf8 s = isValid (checkOf s)

@@ -4,7 +4,7 @@ use crate::sequence::sequence_at;
 ghost use mathlib.Core.Path.{_≡_};
 ghost use Prim.Native.Nat.{ℕ, _+_, _≤_, _<_, max};
 ghost use lib.ListN.{length, getD};
-ghost use Rattle.text_utf8.specs.Utf8.{checkOf};
+ghost use Rattle.text_utf8.specs.Utf8.{checkOf, isUtf8};
 ghost use Rattle.text_utf8.specs.inner.Runs.{AsciiTo};
 
 // Whether a whole text is UTF-8, and if not, where and how it breaks first.
@@ -91,4 +91,14 @@ pub fn check_text(s: &[u8]) -> Check
         }
     }
     Check::Valid
+}
+
+// Whether a whole text is UTF-8.
+pub fn is_utf8(s: &[u8]) -> bool
+    ensures { λ r. ⌜ r ≡ isUtf8 (now (s .entry)) ⌝ }
+{
+    match check_text(s) {
+        Check::Valid => true,
+        Check::Broken { at: _, length: _ } => false,
+    }
 }

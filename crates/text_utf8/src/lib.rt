@@ -4,5 +4,6 @@ mod sequence;
 
 pub use check::Check;
 pub use check::check_text;
+pub use check::is_utf8;
 pub use sequence::Sequence;
 pub use sequence::sequence_at;

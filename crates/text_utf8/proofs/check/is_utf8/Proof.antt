@@ -1,7 +1,7 @@
--- `tables::check::is_utf8` meets its contract, by the laws of Tested.
-use Rattle.tables.proofs.Tested.{validity}
-use Rattle.tables.proofs.check.is_utf8.Statement.{statement}
-use Rattle.tables.proofs.check.is_utf8.Tie as tie
+-- `text_utf8::check::is_utf8` meets its contract, by the laws of Checking.
+use Rattle.text_utf8.proofs.Checking.{validity}
+use Rattle.text_utf8.proofs.check.is_utf8.Statement.{statement}
+use Rattle.text_utf8.proofs.check.is_utf8.Tie as tie
 
 check-text-requires : tie.Need-check-text-requires
 check-text-requires c κs = search validity
