@@ -110,6 +110,47 @@ void clumarief_mapped_class_name(const clumarief_class *classes, size_t class_ro
                                  const uint8_t *raw, size_t raw_length,
                                  clumarief_mapped *answer);
 
+/* What a look-up of a member's name answers: number (0 or 14), 1 found or 0 unknown, the member row that answers, place and
+ * length of its display name in the pool. */
+typedef uint32_t clumarief_member_name[5];
+
+/* The display name of a field: by the raw descriptor of its class, as `Lx;`, its raw name, and its raw descriptor, as `I`.
+ * Members of all class rows with that raw descriptor belong together; the last field that matches answers. */
+void clumarief_display_field_name(const clumarief_class *classes, size_t class_rows,
+                                  const clumarief_member *members, size_t member_rows,
+                                  const uint8_t *pool, size_t pool_length,
+                                  const clumarief_used *used,
+                                  const uint8_t *owner, size_t owner_length,
+                                  const uint8_t *name, size_t name_length,
+                                  const uint8_t *descriptor, size_t descriptor_length,
+                                  clumarief_member_name *answer);
+
+/* The display name of a method, by the same three: of the last method that matches and whose display owner is the class's
+ * display descriptor, else of the last that matches. */
+void clumarief_display_method_name(const clumarief_class *classes, size_t class_rows,
+                                   const clumarief_member *members, size_t member_rows,
+                                   const uint8_t *pool, size_t pool_length,
+                                   const clumarief_used *used,
+                                   const uint8_t *owner, size_t owner_length,
+                                   const uint8_t *name, size_t name_length,
+                                   const uint8_t *descriptor, size_t descriptor_length,
+                                   clumarief_member_name *answer);
+
+/* What a look-up of a line answers: number (0 or 14), 1 found or 0 unknown, the member row that answers, the display line. */
+typedef uint32_t clumarief_line[4];
+
+/* The display line of a raw line of a method: by the last method that matches, whose display owner is the class's display
+ * descriptor, and whose raw range holds the line. */
+void clumarief_display_line(const clumarief_class *classes, size_t class_rows,
+                            const clumarief_member *members, size_t member_rows,
+                            const uint8_t *pool, size_t pool_length,
+                            const clumarief_used *used,
+                            const uint8_t *owner, size_t owner_length,
+                            const uint8_t *name, size_t name_length,
+                            const uint8_t *descriptor, size_t descriptor_length,
+                            uint32_t line,
+                            clumarief_line *answer);
+
 #ifdef __cplusplus
 }
 #endif

@@ -10,7 +10,8 @@ ghost use Rattle.table_rows.specs.Tables.{tables};
 ghost use Rattle.name_classes.specs.ClassNames.{displayOfClass, rawOfClass, classNameNumbers};
 ghost use Rattle.capi.specs.Answers.{usedBy, mappedNumbers};
 
-fn used_of(used: [u32; 3]) -> Used
+// How much is used, as C says it.
+pub fn used_of(used: [u32; 3]) -> Used
     ensures { λ r. ⌜ r ≡ usedBy used ⌝ }
 {
     Used {

@@ -5,6 +5,8 @@ use mathlib.Core.List.{List, []}
 use Prim.Native.Nat.{ℕ, _≤_, _<_}
 use native.Mathlib.Omega.{arith}
 use lib.ListN.{length, getD, take, length-take}
+use mir.Val.{Fits}
+use mir.Syntax.{w32}
 use borrow.Author.Tests.{not-true, not-false}
 use borrow.Author.Needs.{needs}
 use Rattle.ground.specs.Choice.{pick}
@@ -39,6 +41,12 @@ use Rattle.name_members.specs.declared.names.MemberLine.{MemberLine}
 use Rattle.name_members.specs.declared.names.MemberLine.the-variants as shown
 use Rattle.name_members.specs.MemberAnswers.{rowAsked, answerOfRow, answering, nameOfRow, nameAnswer, lineOfRow, lineOfAnswer, fieldAnswer, methodAnswer, lineAnswer}
 
+-- The row that answers is there.
+row-inside : (a : Asked) (cs : List Pair) (k : Key) (rows : List (List ℕ)) (pool : List ℕ) {i : ℕ} → rowAsked a cs k rows pool ≡ row.Row i → i < length rows
+row-inside asked.Field cs k rows pool e = field-found cs k rows pool e .0
+row-inside asked.Method cs k rows pool e = method-found cs k rows pool e .0
+row-inside (asked.Line n) cs k rows pool e = line-found cs k rows pool n e .0
+
 -- The row, or why there is none.
 module _ (a : Asked) (c m : List (List ℕ)) (p : List ℕ) (used : Used) (k : Key) {b : Bool} (w : b ≡ wellFormed c m p used) where
   pub answering-malformed : not b ≡ true → answer.Malformed ≡ answering a (tables c m p) used k
@@ -58,16 +66,16 @@ module _ (a : Asked) (c m : List (List ℕ)) (p : List ℕ) (used : Used) (k : K
       pub answering-row : {i : ℕ} → o ≡ row.Row i → answer.Row i ≡ answering a (tables c m p) used k
       answering-row e = sym (rw (well, sym f ∙ e))
 
+      -- a row's number is below a count of 32 bits
+      pub row-fits : Fits w32 (used .members) → {i : ℕ} → o ≡ row.Row i → Fits w32 i
+      row-fits h {i} e =
+          let n = row-inside a (readBack (take (used .classes) c) p) k (take (used .members) m) p (sym f ∙ e) in
+          omega (arith, length-take (used .members) m)
+
       pub answering-unknown : o ≡ row.Unknown → answer.Unknown ≡ answering a (tables c m p) used k
       answering-unknown e = sym (rw (well, sym f ∙ e))
 
-pub ruleset answers = (prefix-whole, answering-malformed, class-rows-lent, member-rows-lent, answering-row, answering-unknown, needs)
-
--- The row that answers is there.
-row-inside : (a : Asked) (cs : List Pair) (k : Key) (rows : List (List ℕ)) (pool : List ℕ) {i : ℕ} → rowAsked a cs k rows pool ≡ row.Row i → i < length rows
-row-inside asked.Field cs k rows pool e = field-found cs k rows pool e .0
-row-inside asked.Method cs k rows pool e = method-found cs k rows pool e .0
-row-inside (asked.Line n) cs k rows pool e = line-found cs k rows pool n e .0
+pub ruleset answers = (prefix-whole, answering-malformed, class-rows-lent, member-rows-lent, answering-row, row-fits, answering-unknown, needs)
 
 module _ (a : Asked) (t : Tables) (used : Used) (k : Key) where
   abbrev asked-row : Found

@@ -21,7 +21,7 @@ ghost use Rattle.name_members.specs.MemberAnswers.{answering, nameOfRow,
 
 pub enum MemberName {
     // The row that answers, and where its display name stands in the pool.
-    Found { row: usize, place: u32, length: u32 },
+    Found { row: u32, place: u32, length: u32 },
     Unknown,
     // The tables are malformed.
     Malformed,
@@ -29,7 +29,7 @@ pub enum MemberName {
 
 pub enum MemberLine {
     // The row that answers, and the display line.
-    Found { row: usize, line: DisplayLine },
+    Found { row: u32, line: DisplayLine },
     Unknown,
     // The tables are malformed.
     Malformed,
@@ -37,7 +37,7 @@ pub enum MemberLine {
 
 // The row that answers, or why there is none.
 pub enum Answering {
-    Row(usize),
+    Row(u32),
     Unknown,
     Malformed,
 }
@@ -73,16 +73,17 @@ fn answering_row(
         descriptor,
         asked,
     ) {
-        Found::Row(row) => Answering::Row(row),
+        Found::Row(row) => Answering::Row(row as u32),
         Found::Unknown => Answering::Unknown,
     }
 }
 
-fn name_of_row(members: &[MemberRow], row: usize) -> MemberName
+fn name_of_row(members: &[MemberRow], row: u32) -> MemberName
     requires { ⌜ row < length (now members) ⌝ }
     ensures { λ r. ⌜ r ≡ nameOfRow row (getD (now (members .entry)) row []) ⌝ }
 {
-    let name = unpack_member(members[row]).name;
+    let at = row as usize;
+    let name = unpack_member(members[at]).name;
     MemberName::Found {
         row,
         place: name.place,
@@ -90,11 +91,12 @@ fn name_of_row(members: &[MemberRow], row: usize) -> MemberName
     }
 }
 
-fn line_of_row(members: &[MemberRow], row: usize, line: RawLine) -> MemberLine
+fn line_of_row(members: &[MemberRow], row: u32, line: RawLine) -> MemberLine
     requires { ⌜ row < length (now members) ⌝ }
     ensures { λ r. ⌜ r ≡ lineOfRow row (getD (now (members .entry)) row []) line ⌝ }
 {
-    let ranges = unpack_member(members[row]).ranges;
+    let at = row as usize;
+    let ranges = unpack_member(members[at]).ranges;
     match translated(ranges, line) {
         LineName::Line(shown) => MemberLine::Found { row, line: shown },
         LineName::Unknown => MemberLine::Unknown,

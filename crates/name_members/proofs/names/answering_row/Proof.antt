@@ -27,6 +27,9 @@ member-row-requires c κs = search answers
 enum-known-row : tie.Need-enum-known-row
 enum-known-row c = search answers
 
+cast-t20 : tie.Need-cast-t20
+cast-t20 c = search answers
+
 enum-told : tie.Need-enum-told
 enum-told c = search answers
 
@@ -48,6 +51,7 @@ answering-row-spec =
     slice-aggregate-member-rows
     member-row-requires
     enum-known-row
+    cast-t20
     enum-told
     returns-2
     returns-3)
