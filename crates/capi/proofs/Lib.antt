@@ -1,4 +1,4 @@
 -- Laws.
 pub mod Numbering
 pub mod Naming
-pub mod Members
+pub mod Membering
