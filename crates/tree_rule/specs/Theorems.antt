@@ -1,0 +1,61 @@
+-- The words of the theorems about tree files. No rule cites them.
+use mathlib.Core.Path.{_≡_}
+use mathlib.Core.Bool.{true, false}
+use mathlib.Core.List.{List, [], _∷_}
+use Prim.Native.Nat.{ℕ, _+_, _*_, _≤_, _<_}
+use lib.ListN.{length}
+use Rattle.table_rows.specs.declared.rows.Text.{Text}
+use Rattle.tables.specs.Check.{isUtf8}
+use Rattle.tree_rule.specs.declared.TreeCounts.{TreeCounts}
+use Rattle.tree_rule.specs.declared.Token.{Token}
+use Rattle.tree_rule.specs.declared.Token.the-variants.{Other, MemberName, Descriptor, SourceLine}
+use Rattle.tree_rule.specs.Words.{wordAt, sumFrom}
+use Rattle.tree_rule.specs.Trees.{Parent, noParent, parentRow, Node, Tree}
+use Rattle.tree_rule.specs.Files.{countsIn, fileLength, tokensStart, parentAt, tokenCountAt, nameAt, nameText, allTokens, writtenTree}
+use Rattle.tree_rule.specs.Checks.{tokenRowFine}
+
+-- What the checks say, as plain facts: a file with these counts is well formed.
+pub record FormedBy (c : TreeCounts) (f : List ℕ) : Type 0 where
+  pub size : length f ≡ fileLength c
+  pub some : 1 ≤ c .nodes
+  pub root : parentAt f 0 ≡ 4294967295
+  pub lower : (i : ℕ) → 1 ≤ i → i < c .nodes → parentAt f i < i
+  pub sums : sumFrom (tokenCountAt f) 0 (c .nodes) ≡ c .tokens
+  pub tokens : (i : ℕ) → i < c .tokens → tokenRowFine c f (tokensStart c + 12 * i) ≡ true
+  pub inside : (i : ℕ) → i < c .names → nameAt c f i .place + nameAt c f i .length ≤ c .bytes
+  pub utf8 : (i : ℕ) → i < c .names → isUtf8 (nameText c f i) ≡ true
+
+abbrev pub FormedTree : List ℕ → Type 0
+FormedTree f = FormedBy (countsIn f) f
+
+-- Every number of a tree can be written in 32 bits.
+abbrev pub Word : ℕ → Type 0
+Word x = x < 4294967296
+
+-- the number that says "no parent" is no row
+abbrev pub ParentFits : Parent → Type 0
+ParentFits noParent = 0 ≤ 0
+ParentFits (parentRow p) = p < 4294967295
+
+abbrev pub TokenFits : Token → Type 0
+TokenFits (Other a b) = Word a × Word b
+TokenFits (MemberName raw display) = Word raw × Word display
+TokenFits (Descriptor raw display) = Word raw × Word display
+TokenFits (SourceLine raw display) = Word raw × Word display
+
+abbrev pub NameFits : Text → Type 0
+NameFits n = Word (n .place) × Word (n .length)
+
+-- a statement about every element of a list
+pub data Every {A : Type 0} (P : A → Type 0) : List A → Type 0 where
+  every-none : Every P []
+  every-one : {x : A} {l : List A} → P x → Every P l → Every P (x ∷ l)
+
+pub record Writable (t : Tree) : Type 0 where
+  pub node-count : Word (length (t .nodes))
+  pub token-count : Word (length (allTokens (t .nodes)))
+  pub name-count : Word (length (t .names))
+  pub byte-count : Word (length (t .bytes))
+  pub parents : Every (λ n. ParentFits (n .parent)) (t .nodes)
+  pub tokens : Every TokenFits (allTokens (t .nodes))
+  pub names : Every NameFits (t .names)
