@@ -1,6 +1,6 @@
 -- The words of the theorems about tree files. No rule cites them.
 use mathlib.Core.Path.{_≡_}
-use mathlib.Core.Bool.{true, false}
+use mathlib.Core.Bool.{Bool, true, false}
 use mathlib.Core.List.{List, [], _∷_}
 use Prim.Native.Nat.{ℕ, _+_, _*_, _≤_, _<_}
 use lib.ListN.{length}
@@ -59,3 +59,10 @@ pub record Writable (t : Tree) : Type 0 where
   pub parents : Every (λ n. ParentFits (n .parent)) (t .nodes)
   pub tokens : Every TokenFits (allTokens (t .nodes))
   pub names : Every NameFits (t .names)
+
+-- Of `n` rows from row `i` on, row `k` is the first of which `p` does not hold.
+pub record FaultyRow (p : ℕ → Bool) (i n k : ℕ) : Type 0 where
+  pub «from» : i ≤ k
+  pub below : k < i + n
+  pub fails : p k ≡ false
+  pub before : (j : ℕ) → i ≤ j → j < k → p j ≡ true
