@@ -2,3 +2,4 @@ pub mod WordLaws
 pub mod RowLaws
 pub mod Formed
 pub mod ReadWritten
+pub mod WrittenRead
