@@ -3,3 +3,4 @@ pub mod RowLaws
 pub mod Formed
 pub mod ReadWritten
 pub mod WrittenRead
+pub mod Reading

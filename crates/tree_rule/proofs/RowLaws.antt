@@ -59,8 +59,11 @@ module _ {A : Type 0} (f : ℕ → A) where
       let a : i + 0 ≡ i = omega arith in
       let b : j + 0 ≡ j = omega arith in
       let head : f i ≡ g j = rw (a, b) at (e 0 (omega arith)) in
-      rw (head, list-same g (suc i) (suc j) n (λ k h. let c : suc i + k ≡ i + suc k = omega arith in
-      let d : suc j + k ≡ j + suc k = omega arith in rw (c, d) (e (suc k) (omega arith))))
+      rw (
+        head,
+        list-same g (suc i) (suc j) n (λ k h. let c : suc i + k ≡ i + suc k = omega arith in
+            let d : suc j + k ≡ j + suc k = omega arith in rw (c, d) (e (suc k) (omega arith))),
+      )
 
 -- Sums.
 module _ (f : ℕ → ℕ) where

@@ -58,8 +58,8 @@ two-files :
     × (wellFormedFile (writtenTree two) ≡ true)
     × (length (writtenTree two) ≡ 124)
     × (meaningOf two ≡
-      record { parent = noParent; tokens = other 7 9 ∷ memberName (ascii "n") [] ∷ descriptor (ascii "()V") (ascii "()V") ∷ [] } ∷
-      record { parent = parentRow 0; tokens = sourceLine 4294967295 5 ∷ [] } ∷ [])
+    record { parent = noParent; tokens = other 7 9 ∷ memberName (ascii "n") [] ∷ descriptor (ascii "()V") (ascii "()V") ∷ [] } ∷
+    record { parent = parentRow 0; tokens = sourceLine 4294967295 5 ∷ [] } ∷ [])
 unfolding ascii join wordAt wordBytes listFrom sumFrom nodesFrom allTokens firstFaulty checkFrom piecesFrom sequenceOf afterLead leadOf tails
 two-files = (refl, refl, refl, refl)
 

@@ -28,6 +28,13 @@ pub record FormedBy (c : TreeCounts) (f : List ℕ) : Type 0 where
 abbrev pub FormedTree : List ℕ → Type 0
 FormedTree f = FormedBy (countsIn f) f
 
+-- The names of a token are rows.
+abbrev pub NamesBelow : ℕ → Token → Type 0
+NamesBelow names (Other a b) = 0 ≤ 0
+NamesBelow names (MemberName raw display) = (raw < names) × (display < names)
+NamesBelow names (Descriptor raw display) = (raw < names) × (display < names)
+NamesBelow names (SourceLine raw display) = 0 ≤ 0
+
 -- Every number of a tree can be written in 32 bits.
 abbrev pub Word : ℕ → Type 0
 Word x = x < 4294967296
