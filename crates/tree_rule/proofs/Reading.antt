@@ -6,10 +6,11 @@ use Prim.Native.Nat.{ℕ, zero, suc, _+_, _*_, _-_, _≤_, _<_}
 use native.Mathlib.Nat.{not-suc-le-zero}
 use native.Mathlib.Omega.{arith}
 use lib.Dec.{eqb, ltb}
-use lib.ListN.{getD}
+use lib.ListN.{length, getD, take, drop, length-drop}
 use borrow.Author.Tests.{ltb-true, eqb-true}
 use Rattle.ground.specs.Choice.{pick, both}
 use Rattle.ground.proofs.Cases.{both-left, both-right}
+use Rattle.ground.proofs.Parts.{take-rest}
 use Rattle.table_rows.specs.Rows.{text}
 use Rattle.tables.specs.Back.{textIn}
 use Rattle.tree_rule.specs.declared.TreeCounts.{TreeCounts}
@@ -17,7 +18,21 @@ use Rattle.tree_rule.specs.declared.Token.{Token}
 use Rattle.tree_rule.specs.declared.Token.the-variants.{Other, MemberName, Descriptor, SourceLine}
 use Rattle.tree_rule.specs.Words.{wordAt, listFrom, sumFrom}
 use Rattle.tree_rule.specs.Trees.{Node, nameIn}
-use Rattle.tree_rule.specs.Files.{bytesIn, parentAt, parentBy, tokenCountAt, tokensStart, tokenBy, tokenRow, tokenAt, nameAt, nameText, nodesFrom, treeBy}
+use Rattle.tree_rule.specs.Files.{
+  tokensStart,
+  bytesStart,
+  fileLength,
+  parentAt,
+  tokenCountAt,
+  tokenBy,
+  tokenAt,
+  nameAt,
+  bytesIn,
+  nameText,
+  parentBy,
+  nodesFrom,
+  treeBy,
+}
 use Rattle.tree_rule.specs.Checks.{tokenFine, tokenRowFine}
 use Rattle.tree_rule.specs.Theorems.{FormedBy, NamesBelow}
 use Rattle.tree_rule.proofs.RowLaws.{list-at, sum-append, sum-less}
@@ -36,6 +51,14 @@ names-below names kind a b e = go (eqb kind 0) refl (eqb kind 1) refl (eqb kind 
     go false w false x true y s z = rw (x, y) (pair (rw (w, x, y) at e))
     go false w false x false y true z = rw (x, y, z) (omega arith)
     go false w false x false y false z = rw (x, y, z) (omega arith)
+
+-- the name bytes of a file whose length agrees are all that is left
+module _ (c : TreeCounts) (f : List ℕ) (e : length f ≡ fileLength c) where
+  pub bytes-rest : bytesIn c f ≡ drop (bytesStart c) f
+  bytes-rest = ap (λ n. take (n - bytesStart c) (drop (bytesStart c) f)) (sym e) ∙ take-rest f (bytesStart c)
+
+  pub bytes-count : length (bytesIn c f) ≡ c .bytes
+  bytes-count = rw bytes-rest (rw (length-drop (bytesStart c) f) (omega arith))
 
 module _ (c : TreeCounts) (f : List ℕ) where
   -- the node of a row, whose tokens start at token `t`

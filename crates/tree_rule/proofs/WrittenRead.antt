@@ -5,13 +5,11 @@ use mathlib.Core.List.{List, [], _∷_, _++_, map, append-assoc}
 use Prim.Native.Nat.{ℕ, zero, suc, _+_, _*_, _-_, _≤_, _<_}
 use native.Mathlib.Omega.{arith}
 use lib.Dec.{eqb}
-use lib.ListN.{length, getD, take, drop, length-drop}
-use lib.Seq.{length-take-le}
+use lib.ListN.{length, getD, drop}
 use borrow.Author.Tests.{eqb-true}
 use Rattle.ground.specs.Choice.{pick, both}
 use Rattle.ground.specs.Join.{join}
 use Rattle.ground.proofs.Cases.{clash}
-use Rattle.ground.proofs.Parts.{take-rest}
 use Rattle.tree_rule.specs.declared.TreeCounts.{TreeCounts}
 use Rattle.tree_rule.specs.Words.{wordAt, wordBytes, listFrom, sumFrom}
 use Rattle.tree_rule.specs.Trees.{Node, Tree}
@@ -46,6 +44,7 @@ use Rattle.tree_rule.specs.Checks.{tokenFine}
 use Rattle.tree_rule.specs.Theorems.{FormedBy, FormedTree}
 use Rattle.tree_rule.proofs.WordLaws.{word-part}
 use Rattle.tree_rule.proofs.RowLaws.{list-length, list-append}
+use Rattle.tree_rule.proofs.Reading.{bytes-rest, bytes-count}
 
 pub map-list : {A B : Type 0} (enc : A → B) (g : ℕ → A) (i n : ℕ) → map enc (listFrom g i n) ≡ listFrom (λ k. enc (g k)) i n
 unfolding listFrom
@@ -160,13 +159,6 @@ module _ (c : TreeCounts) (f : List ℕ) where
         ap (λ n. drop n f) (sym z) ∙ cut ∙ ap (λ n. join (listFrom h 0 (c .names)) ++ drop n f) y
         ∙ ap (λ l. join l ++ drop (bytesStart c) f) (sym (map-list nameBytes (nameAt c f) 0 (c .names)))
 
-    -- the name bytes are all that is left
-    pub bytes-rest : bytesIn c f ≡ drop (bytesStart c) f
-    bytes-rest = ap (λ n. take (n - bytesStart c) (drop (bytesStart c) f)) (sym (k .size)) ∙ take-rest f (bytesStart c)
-
-    pub bytes-count : length (bytesIn c f) ≡ c .bytes
-    bytes-count = rw bytes-rest (rw (length-drop (bytesStart c) f) (omega (arith, k .size)))
-
     pub counts-kept : countsOf (treeBy c f) ≡ c
     counts-kept =
         rw (
@@ -175,7 +167,7 @@ module _ (c : TreeCounts) (f : List ℕ) where
           list-length (tokenAt c f) 0 (sumFrom (tokenCountAt f) 0 (c .nodes)),
           k .sums,
           list-length (nameAt c f) 0 (c .names),
-          bytes-count,
+          bytes-count c f (k .size),
         )
 
     all-tokens : allTokens (nodesFrom c f 0 0 (c .nodes)) ≡ listFrom (tokenAt c f) 0 (c .tokens)
@@ -184,7 +176,7 @@ module _ (c : TreeCounts) (f : List ℕ) where
     -- what stands behind the counts
     pub body-kept : drop 16 f ≡ join (map nodeBytes (treeBy c f .nodes)) ++
         (join (map tokenBytes (allTokens (treeBy c f .nodes))) ++ (join (map nameBytes (treeBy c f .names)) ++ bytesIn c f))
-    body-kept = rw (all-tokens, bytes-rest, ← name-stretch, ← token-stretch) node-stretch
+    body-kept = rw (all-tokens, bytes-rest c f (k .size), ← name-stretch, ← token-stretch) node-stretch
 
 head-kept : (f : List ℕ) → ((i : ℕ) → getD f i 0 < 256) → 16 ≤ length f → f ≡ countBytes (countsIn f) ++ drop 16 f
 head-kept f small h =

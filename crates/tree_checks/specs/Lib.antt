@@ -1,0 +1,1 @@
+-- The checks of tree files: contracts cite the rules of tree_rule.
