@@ -61,7 +61,8 @@ module _ (f : List ℕ) (at n : ℕ) {a : ℕ} (e : a ≡ wordAt f (at + 4)) whe
   pub raw-beyond : n ≤ a → false ≡ both (ltb (wordAt f (at + 4)) n) (ltb (wordAt f (at + 8)) n)
   raw-beyond h = sym (rw (← e, le-ltb a n h))
 
-  pub raw-there : a < n → {b : ℕ} → b ≡ wordAt f (at + 8) → ltb b n ≡ both (ltb (wordAt f (at + 4)) n) (ltb (wordAt f (at + 8)) n)
+  pub raw-there : a < n → {b : ℕ} → b ≡ wordAt f (at + 8) →
+      ltb b n ≡ both (ltb (wordAt f (at + 4)) n) (ltb (wordAt f (at + 8)) n)
   raw-there h g = ap (λ x. ltb x n) g ∙ sym (rw (← e, lt-ltb a n h))
 
 module _ (n a b : ℕ) {k w : ℕ} (e : k ≡ w) where
@@ -109,7 +110,8 @@ module _ {p : ℕ → Bool} {n : ℕ} {whole : RowCheck} {i : ℕ} (k : Asked p 
 
 -- the test of a row at its place
 module _ (c : TreeCounts) (f : List ℕ) (i : ℕ) where
-  pub token-asked : {a : ℕ} → a ≡ tokensStart c → {b : Bool} → b ≡ tokenRowFine c f (a + 12 * i) → b ≡ tokenRowFine c f (tokensStart c + 12 * i)
+  pub token-asked : {a : ℕ} → a ≡ tokensStart c → {b : Bool} → b ≡ tokenRowFine c f (a + 12 * i) →
+      b ≡ tokenRowFine c f (tokensStart c + 12 * i)
   token-asked e g = g ∙ ap (λ x. tokenRowFine c f (x + 12 * i)) e
 
   module _ {a : ℕ} (e : a ≡ namesStart c) {r : Text} (g : r ≡ nameRow f (a + 8 * i)) where
@@ -130,7 +132,8 @@ module _ (c : TreeCounts) (f : List ℕ) (i : ℕ) where
 pub ruleset asking = (asked-first, asked-second, asked-ends, asked-fails, asked-more, token-asked, name-asked, text-asked, text-lies, needs)
 
 -- A name as the part that is lent.
-module _ (l : List ℕ) (t : Text) {s : List ℕ} (e : s ≡ between l (t .place) (t .place + t .length)) {o : Check} (g : o ≡ checkOf s) where
+module _ (l : List ℕ) (t : Text) {s : List ℕ} (e : s ≡ between l (t .place) (t .place + t .length)) {o : Check}
+    (g : o ≡ checkOf s) where
   part : s ≡ textIn l t
   part = let z : t .place + t .length - t .place ≡ t .length = omega arith in e ∙ ap (λ n. take n (drop (t .place) l)) z
 
@@ -164,7 +167,8 @@ module _ {f : List ℕ} {n sum i : ℕ} (k : Summing f n sum i) where
     unfolding sumFrom
     summing-more l =
         let z : n - i ≡ suc (n - suc i) = omega arith in
-        let next : sum + (tokenCountAt f i + sumFrom (tokenCountAt f) (suc i) (n - suc i)) ≡ sumFrom (tokenCountAt f) 0 n = rw z at (k .adds) in
+        let next : sum + (tokenCountAt f i + sumFrom (tokenCountAt f) (suc i) (n - suc i)) ≡ sumFrom (tokenCountAt f) 0 n =
+        rw z at (k .adds) in
         record { adds = rw (add-one i) (omega arith); bounded = omega (arith, k .bounded) }
 
 pub ruleset summing = (summing-starts, summing-ends, summing-more, needs)

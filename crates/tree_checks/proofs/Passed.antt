@@ -31,7 +31,8 @@ use Rattle.tree_rule.proofs.RowLaws.{fine-told, fine-each}
 
 -- fewer bytes than the counts take
 pub too-short : (f : List ℕ) → length f < 16 → false ≡ wellFormedFile f
-too-short f h = sym (rw (ne-eqb (length f) (fileLength (countsIn f)) (λ e. let z : length f ≡ fileLength (countsIn f) = e in omega arith)))
+too-short f h =
+    sym (rw (ne-eqb (length f) (fileLength (countsIn f)) (λ e. let z : length f ≡ fileLength (countsIn f) = e in omega arith)))
 
 -- what a check of rows that did not fail says
 passed : {b : Bool} {r q : RowCheck} → r ≡ q → b ≡ allFine r → not b ≡ false → allFine q ≡ true
@@ -59,7 +60,8 @@ module _ (f : List ℕ) (c : TreeCounts) (e : c ≡ countsIn f) where
         pub root-fails : not b₂ ≡ true → false ≡ wellFormedFile f
         root-fails n = sym (rw (t₁, sym e₂ ∙ not-true b₂ n)) ∙ by-counts
 
-        module _ (n₂ : not b₂ ≡ false) {b₃ : Bool} {r₃ : RowCheck} (e₃ : r₃ ≡ faultyParent c f) (f₃ : b₃ ≡ allFine r₃) where
+        module _ (n₂ : not b₂ ≡ false) {b₃ : Bool} {r₃ : RowCheck} (e₃ : r₃ ≡ faultyParent c f)
+            (f₃ : b₃ ≡ allFine r₃) where
           t₂ : rootFine c f ≡ true
           t₂ = sym e₂ ∙ not-false b₂ n₂
 
@@ -73,14 +75,16 @@ module _ (f : List ℕ) (c : TreeCounts) (e : c ≡ countsIn f) where
             pub sum-fails : not b₄ ≡ true → false ≡ wellFormedFile f
             sum-fails n = sym (rw (t₁, t₂, t₃, sym e₄ ∙ not-true b₄ n)) ∙ by-counts
 
-            module _ (n₄ : not b₄ ≡ false) {b₅ : Bool} {r₅ : RowCheck} (e₅ : r₅ ≡ faultyToken c f) (f₅ : b₅ ≡ allFine r₅) where
+            module _ (n₄ : not b₄ ≡ false) {b₅ : Bool} {r₅ : RowCheck} (e₅ : r₅ ≡ faultyToken c f)
+                (f₅ : b₅ ≡ allFine r₅) where
               t₄ : countsSum c f ≡ true
               t₄ = sym e₄ ∙ not-false b₄ n₄
 
               pub tokens-fail : not b₅ ≡ true → false ≡ wellFormedFile f
               tokens-fail n = sym (rw (t₁, t₂, t₃, t₄, failed e₅ f₅ n)) ∙ by-counts
 
-              pub names-told : not b₅ ≡ false → {b₆ : Bool} → b₆ ≡ both (allFine (faultyName c f)) (allFine (faultyText c f)) → b₆ ≡ wellFormedFile f
+              pub names-told : not b₅ ≡ false → {b₆ : Bool} →
+                  b₆ ≡ both (allFine (faultyName c f)) (allFine (faultyText c f)) → b₆ ≡ wellFormedFile f
               names-told n e₆ = e₆ ∙ (sym (rw (t₁, t₂, t₃, t₄, passed e₅ f₅ n)) ∙ by-counts)
 
 -- The two checks of names.
@@ -89,7 +93,8 @@ module _ (f : List ℕ) (c : TreeCounts) {b : Bool} {r : RowCheck} (e : r ≡ fa
   names-fail n = sym (rw (failed e g n))
 
   module _ (n : not b ≡ false) where
-    pub texts-told : {b₂ : Bool} {r₂ : RowCheck} → r₂ ≡ faultyText c f → b₂ ≡ allFine r₂ → b₂ ≡ both (allFine (faultyName c f)) (allFine (faultyText c f))
+    pub texts-told : {b₂ : Bool} {r₂ : RowCheck} → r₂ ≡ faultyText c f → b₂ ≡ allFine r₂ →
+        b₂ ≡ both (allFine (faultyName c f)) (allFine (faultyText c f))
     texts-told e₂ g₂ = (g₂ ∙ ap allFine e₂) ∙ sym (rw (passed e g n))
 
     -- names that passed, for the check of their texts

@@ -66,7 +66,8 @@ module _ (c : TreeCounts) (f : List ℕ) where
             (fine-told (faultyToken c f) (both-left a₅ b₆ e₅)) i (omega arith) (omega arith);
         inside = λ i h. leb-true (nameAt c f i .place + nameAt c f i .length) (c .bytes)
             (fine-each (nameInside c f) 0 (c .names) (fine-told (faultyName c f) (both-left a₆ a₇ e₆)) i (omega arith) (omega arith));
-        utf8 = λ i h. fine-each (nameUtf8 c f) 0 (c .names) (fine-told (faultyText c f) (both-right a₆ a₇ e₆)) i (omega arith) (omega arith);
+        utf8 = λ i h. fine-each (nameUtf8 c f) 0 (c .names) (fine-told (faultyText c f) (both-right a₆ a₇ e₆)) i (omega arith)
+            (omega arith);
       }
 
   pub checks-pass : FormedBy c f → checksPass c f ≡ true

@@ -74,16 +74,23 @@ module _ {A : Type 0} (enc : A → List ℕ) (w base : ℕ) (f : List ℕ) (size
   unfolding join
   rows-next i x l r e =
       let here : drop (base + w * i) f ≡ enc x ++ (join (map enc l) ++ r) = e ∙ append-assoc (enc x) (join (map enc l)) r in
-      let more : base + w * suc i ≡ base + w * i + w = omega (arith, mul-suc w i) in
-      (here, ap (λ n. drop n f) more ∙ sym (drop-drop w (base + w * i) f) ∙ ap (drop w) here ∙ drop-at (enc x) (join (map enc l) ++ r) w (size x))
+      let more : base + w * suc i ≡ base + w * i + w = omega (arith, mul-suc w i) in (
+        here,
+        ap (λ n. drop n f) more ∙ sym (drop-drop w (base + w * i) f) ∙ ap (drop w) here
+            ∙ drop-at (enc x) (join (map enc l) ++ r) w (size x),
+      )
 
-  pub rows-past : (l : List A) (i : ℕ) (r : List ℕ) → drop (base + w * i) f ≡ join (map enc l) ++ r → drop (base + w * (i + length l)) f ≡ r
+  pub rows-past : (l : List A) (i : ℕ) (r : List ℕ) → drop (base + w * i) f ≡ join (map enc l) ++ r →
+      drop (base + w * (i + length l)) f ≡ r
   unfolding join
   rows-past [] i r e = let z : i + 0 ≡ i = omega arith in rw z e
-  rows-past (x ∷ l) i r e = let z : i + suc (length l) ≡ suc i + length l = omega arith in rw z (rows-past l (suc i) r (rows-next i x l r e .1))
+  rows-past (x ∷ l) i r e = let z : i + suc (length l) ≡ suc i + length l = omega arith in
+      rw z (rows-past l (suc i) r (rows-next i x l r e .1))
 
-  pub rows-read : (dec : List ℕ → ℕ → A) (P : A → Type 0) (law : (at : ℕ) (x : A) (r : List ℕ) → P x → drop at f ≡ enc x ++ r → dec f at ≡ x)
-      (l : List A) (i : ℕ) (r : List ℕ) → Every P l → drop (base + w * i) f ≡ join (map enc l) ++ r → listFrom (λ k. dec f (base + w * k)) i (length l) ≡ l
+  pub rows-read : (dec : List ℕ → ℕ → A) (P : A → Type 0) (law : (at : ℕ) (x : A) (r : List ℕ) → P x →
+      drop at f ≡ enc x ++ r → dec f at ≡ x)
+      (l : List A) (i : ℕ) (r : List ℕ) → Every P l → drop (base + w * i) f ≡ join (map enc l) ++ r →
+      listFrom (λ k. dec f (base + w * k)) i (length l) ≡ l
   unfolding listFrom
   rows-read dec P law [] i r p e = refl
   rows-read dec P law (x ∷ l) i r (every-one p q) e =
@@ -103,12 +110,14 @@ module _ (f : List ℕ) where
   three-read : (at x y z : ℕ) (r : List ℕ) → Word x → Word y → Word z → drop at f ≡ threeWords x y z ++ r →
       (wordAt f at ≡ x) × (wordAt f (at + 4) ≡ y) × (wordAt f (at + 8) ≡ z)
   three-read at x y z r p q h e =
-      let first : drop at f ≡ wordBytes x ++ ((wordBytes y ++ wordBytes z) ++ r) = e ∙ append-assoc (wordBytes x) (wordBytes y ++ wordBytes z) r in
+      let first : drop at f ≡ wordBytes x ++ ((wordBytes y ++ wordBytes z) ++ r) = e
+      ∙ append-assoc (wordBytes x) (wordBytes y ++ wordBytes z) r in
       let rest = two-read (at + 4) y z r q h (past-word f at x ((wordBytes y ++ wordBytes z) ++ r) first) in
       let four : at + 4 + 4 ≡ at + 8 = omega arith in
       (word-written f at x ((wordBytes y ++ wordBytes z) ++ r) p first, rest .0, ap (wordAt f) (sym four) ∙ rest .1)
 
-  by-words : (at kind a b : ℕ) (r : List ℕ) → Word kind → Word a → Word b → drop at f ≡ threeWords kind a b ++ r → tokenRow f at ≡ tokenBy kind a b
+  by-words : (at kind a b : ℕ) (r : List ℕ) → Word kind → Word a → Word b → drop at f ≡ threeWords kind a b ++ r →
+      tokenRow f at ≡ tokenBy kind a b
   by-words at kind a b r p q h e = let w = three-read at kind a b r p q h e in rw (w .0, w .1, w .2)
 
   pub token-read : (at : ℕ) (t : Token) (r : List ℕ) → TokenFits t → drop at f ≡ tokenBytes t ++ r → tokenRow f at ≡ t
@@ -154,7 +163,8 @@ module _ (c : TreeCounts) (f : List ℕ) where
   abbrev tokensFrom : ℕ → ℕ → List Token
   tokensFrom t n = listFrom (tokenAt c f) t n
 
-  tokens-read : (l : List Token) (t : ℕ) (r : List ℕ) → Every TokenFits l → drop (tokensStart c + 12 * t) f ≡ join (map tokenBytes l) ++ r →
+  tokens-read : (l : List Token) (t : ℕ) (r : List ℕ) → Every TokenFits l →
+      drop (tokensStart c + 12 * t) f ≡ join (map tokenBytes l) ++ r →
       tokensFrom t (length l) ≡ l
   tokens-read l t r p e = rows-read tokenBytes 12 (tokensStart c) f token-length tokenRow TokenFits (token-read f) l t r p e
 
@@ -162,25 +172,30 @@ module _ (c : TreeCounts) (f : List ℕ) where
       drop (tokensStart c + 12 * (t + length l)) f ≡ r
   tokens-past l t r e = rows-past tokenBytes 12 (tokensStart c) f token-length l t r e
 
-  pub nodes-read : (ns : List Node) (i t : ℕ) (r q : List ℕ) → Every (λ n. ParentFits (n .parent)) ns → Every TokenFits (allTokens ns) →
+  pub nodes-read : (ns : List Node) (i t : ℕ) (r q : List ℕ) → Every (λ n. ParentFits (n .parent)) ns →
+      Every TokenFits (allTokens ns) →
       Word (length (allTokens ns)) → drop (16 + 8 * i) f ≡ join (map nodeBytes ns) ++ r →
       drop (tokensStart c + 12 * t) f ≡ join (map tokenBytes (allTokens ns)) ++ q → nodesFrom c f i t (length ns) ≡ ns
   unfolding nodesFrom allTokens join
   nodes-read [] i t r q ps ts h e g = refl
   nodes-read (n ∷ ns) i t r q (every-one p ps) ts h e g =
-      let first : drop (16 + 8 * i) f ≡ nodeBytes n ++ (join (map nodeBytes ns) ++ r) = e ∙ append-assoc (nodeBytes n) (join (map nodeBytes ns)) r in
+      let first : drop (16 + 8 * i) f ≡ nodeBytes n ++ (join (map nodeBytes ns) ++ r) = e
+      ∙ append-assoc (nodeBytes n) (join (map nodeBytes ns)) r in
       let fits : Word (length (n .tokens)) = omega (arith, length-append (n .tokens) (allTokens ns)) in
       let words = two-read f (16 + 8 * i) (parentWord (n .parent)) (length (n .tokens)) (join (map nodeBytes ns) ++ r)
       (parent-word (n .parent) p) fits first in
       let parent : parentBy (parentAt f i) ≡ n .parent = ap parentBy (words .0) ∙ parent-again (n .parent) p in
       let more : 16 + 8 * suc i ≡ 16 + 8 * i + 8 = omega arith in
       let next : drop (16 + 8 * suc i) f ≡ join (map nodeBytes ns) ++ r =
-      ap (λ k. drop k f) more ∙ sym (drop-drop 8 (16 + 8 * i) f) ∙ ap (drop 8) first ∙ drop-at (nodeBytes n) (join (map nodeBytes ns) ++ r) 8 (node-length n) in
+      ap (λ k. drop k f) more ∙ sym (drop-drop 8 (16 + 8 * i) f) ∙ ap (drop 8) first
+      ∙ drop-at (nodeBytes n) (join (map nodeBytes ns) ++ r) 8 (node-length n) in
       let split : drop (tokensStart c + 12 * t) f ≡ join (map tokenBytes (n .tokens)) ++ (join (map tokenBytes (allTokens ns)) ++ q) =
-      g ∙ ap (λ l. l ++ q) (ap join (map-append tokenBytes (n .tokens) (allTokens ns)) ∙ join-append (map tokenBytes (n .tokens)) (map tokenBytes (allTokens ns)))
+      g ∙ ap (λ l. l ++ q) (ap join (map-append tokenBytes (n .tokens) (allTokens ns))
+      ∙ join-append (map tokenBytes (n .tokens)) (map tokenBytes (allTokens ns)))
       ∙ append-assoc (join (map tokenBytes (n .tokens))) (join (map tokenBytes (allTokens ns))) q in
       let tokens : tokensFrom t (tokenCountAt f i) ≡ n .tokens =
-      ap (tokensFrom t) (words .1) ∙ tokens-read (n .tokens) t (join (map tokenBytes (allTokens ns)) ++ q) (every-front (n .tokens) (allTokens ns) ts) split in
+      ap (tokensFrom t) (words .1)
+      ∙ tokens-read (n .tokens) t (join (map tokenBytes (allTokens ns)) ++ q) (every-front (n .tokens) (allTokens ns) ts) split in
       let onward : drop (tokensStart c + 12 * (t + length (n .tokens))) f ≡ join (map tokenBytes (allTokens ns)) ++ q =
       tokens-past (n .tokens) t (join (map tokenBytes (allTokens ns)) ++ q) split in
       let rest : nodesFrom c f (suc i) (t + tokenCountAt f i) (length ns) ≡ ns =
@@ -251,7 +266,8 @@ module _ (t : Tree) where
   at-names : drop (namesStart c + 8 * 0) f ≡ namePart ++ t .bytes
   at-names =
       let z : namesStart c + 8 * 0 ≡ tokensStart c + 12 * (0 + length (allTokens (t .nodes))) = omega arith in
-      ap (λ n. drop n f) z ∙ rows-past tokenBytes 12 (tokensStart c) f token-length (allTokens (t .nodes)) 0 (namePart ++ t .bytes) at-tokens
+      ap (λ n. drop n f) z
+      ∙ rows-past tokenBytes 12 (tokensStart c) f token-length (allTokens (t .nodes)) 0 (namePart ++ t .bytes) at-tokens
 
   at-bytes : drop (bytesStart c) f ≡ t .bytes
   at-bytes =
@@ -264,9 +280,11 @@ module _ (t : Tree) where
   pub read-written : Writable t → readTree (writtenTree t) ≡ t
   read-written w =
       let counts : countsIn f ≡ c =
-      counts-read f c (nodePart ++ (tokenPart ++ (namePart ++ t .bytes))) refl (w .node-count) (w .token-count) (w .name-count) (w .byte-count) in
+      counts-read f c (nodePart ++ (tokenPart ++ (namePart ++ t .bytes))) refl (w .node-count) (w .token-count) (w .name-count)
+      (w .byte-count) in
       let nodes : nodesFrom c f 0 0 (length (t .nodes)) ≡ t .nodes =
-      nodes-read c f (t .nodes) 0 0 (tokenPart ++ (namePart ++ t .bytes)) (namePart ++ t .bytes) (w .parents) (w .tokens) (w .token-count) at-nodes at-tokens in
+      nodes-read c f (t .nodes) 0 0 (tokenPart ++ (namePart ++ t .bytes)) (namePart ++ t .bytes) (w .parents) (w .tokens)
+      (w .token-count) at-nodes at-tokens in
       let names : listFrom (nameAt c f) 0 (length (t .names)) ≡ t .names =
       rows-read nameBytes 8 (namesStart c) f name-length nameRow NameFits (name-read f) (t .names) 0 (t .bytes) (w .names) at-names in
       ap (λ k. treeBy k f) counts ∙ rw (nodes, names, bytes-read)

@@ -44,7 +44,8 @@ names-below names kind a b e = go (eqb kind 0) refl (eqb kind 1) refl (eqb kind 
     pair : both (ltb a names) (ltb b names) ≡ true → (a < names) × (b < names)
     pair g = (ltb-true a names (both-left (ltb a names) (ltb b names) g), ltb-true b names (both-right (ltb a names) (ltb b names) g))
 
-    go : (p : Bool) → eqb kind 0 ≡ p → (q : Bool) → eqb kind 1 ≡ q → (r : Bool) → eqb kind 2 ≡ r → (s : Bool) → eqb kind 3 ≡ s →
+    go : (p : Bool) → eqb kind 0 ≡ p → (q : Bool) → eqb kind 1 ≡ q → (r : Bool) → eqb kind 2 ≡ r → (s : Bool) →
+        eqb kind 3 ≡ s →
         NamesBelow names (tokenBy kind a b)
     go true w q x r y s z = rw (eqb-true kind 0 w) (omega arith)
     go false w true x r y s z = rw x (pair (rw (w, x) at e))
@@ -71,7 +72,8 @@ module _ (c : TreeCounts) (f : List ℕ) where
   nodes-at i t (suc n) zero z h = let a : i + 0 ≡ i = omega arith in let b : t + 0 ≡ t = omega arith in rw (a, b)
   nodes-at i t (suc n) (suc k) z h =
       let a : i + suc k ≡ suc i + k = omega arith in
-      let b : t + (tokenCountAt f i + sumFrom (tokenCountAt f) (suc i) k) ≡ t + tokenCountAt f i + sumFrom (tokenCountAt f) (suc i) k = omega arith in
+      let b : t + (tokenCountAt f i + sumFrom (tokenCountAt f) (suc i) k) ≡ t + tokenCountAt f i + sumFrom (tokenCountAt f) (suc i) k =
+      omega arith in
       rw (a, b) (nodes-at (suc i) (t + tokenCountAt f i) n k z (omega arith))
 
   -- a node's tokens come after those of all nodes before it
@@ -82,16 +84,19 @@ module _ (c : TreeCounts) (f : List ℕ) where
       nodes-at 0 0 (c .nodes) i z h ∙ rw (a, b)
 
   pub name-at : (n : ℕ) → n < c .names → nameIn (treeBy c f) n ≡ nameText c f n
-  name-at n h = let a : 0 + n ≡ n = omega arith in ap (textIn (bytesIn c f)) (list-at (nameAt c f) 0 (c .names) n (text 0 0) h ∙ ap (nameAt c f) a)
+  name-at n h = let a : 0 + n ≡ n = omega arith in
+      ap (textIn (bytesIn c f)) (list-at (nameAt c f) 0 (c .names) n (text 0 0) h ∙ ap (nameAt c f) a)
 
   module _ (k : FormedBy c f) where
     -- they are tokens of the file
     pub node-tokens : (i : ℕ) → i < c .nodes → sumFrom (tokenCountAt f) 0 i + tokenCountAt f i ≤ c .tokens
     unfolding sumFrom
     node-tokens i h =
-        let more : sumFrom (tokenCountAt f) 0 (i + 1) ≡ sumFrom (tokenCountAt f) 0 i + (tokenCountAt f (0 + i) + 0) = sum-append (tokenCountAt f) 0 i 1 in
+        let more : sumFrom (tokenCountAt f) 0 (i + 1) ≡ sumFrom (tokenCountAt f) 0 i + (tokenCountAt f (0 + i) + 0) =
+        sum-append (tokenCountAt f) 0 i 1 in
         let a : 0 + i ≡ i = omega arith in
-        let less : sumFrom (tokenCountAt f) 0 (i + 1) ≤ sumFrom (tokenCountAt f) 0 (c .nodes) = sum-less (tokenCountAt f) 0 (i + 1) (c .nodes) (omega arith) in
+        let less : sumFrom (tokenCountAt f) 0 (i + 1) ≤ sumFrom (tokenCountAt f) 0 (c .nodes) =
+        sum-less (tokenCountAt f) 0 (i + 1) (c .nodes) (omega arith) in
         let same : tokenCountAt f (0 + i) ≡ tokenCountAt f i = ap (tokenCountAt f) a in
         omega (arith, k .sums)
 
@@ -102,7 +107,8 @@ module _ (c : TreeCounts) (f : List ℕ) where
         names-below (c .names) (wordAt f at) (wordAt f (at + 4)) (wordAt f (at + 8)) (k .tokens i h)
 
     -- their texts are those of the tree
-    pub raw-text : (i : ℕ) {raw display : ℕ} → i < c .tokens → tokenAt c f i ≡ Descriptor raw display → nameIn (treeBy c f) raw ≡ nameText c f raw
+    pub raw-text : (i : ℕ) {raw display : ℕ} → i < c .tokens → tokenAt c f i ≡ Descriptor raw display →
+        nameIn (treeBy c f) raw ≡ nameText c f raw
     raw-text i {raw} {display} h e =
         let below : NamesBelow (c .names) (Descriptor raw display) = rw e at (token-names i h) in
         name-at raw (below .0)

@@ -91,7 +91,8 @@ module _ (p : ℕ → Bool) where
   unfolding firstFaulty
   fine-head i n e = go (p i) refl e
     where
-      go : (b : Bool) → p i ≡ b → pick b (firstFaulty p (suc i) n) (Faulty i) ≡ Fine → (p i ≡ true) × (firstFaulty p (suc i) n ≡ Fine)
+      go : (b : Bool) → p i ≡ b → pick b (firstFaulty p (suc i) n) (Faulty i) ≡ Fine →
+          (p i ≡ true) × (firstFaulty p (suc i) n ≡ Fine)
       go true q f = (q, f)
       go false q f = absurd (let z : _≡_ {A = ℕ} 0 1 = cc in omega arith)
 
@@ -124,7 +125,8 @@ module _ (p : ℕ → Bool) where
             before = λ j l h. earlier j l h (r .before) (le-or-lt (suc i) j);
           }
         where
-          earlier : (j : ℕ) → i ≤ j → j < k → ((j : ℕ) → suc i ≤ j → j < k → p j ≡ true) → (suc i ≤ j) ⊎ (j < suc i) → p j ≡ true
+          earlier : (j : ℕ) → i ≤ j → j < k → ((j : ℕ) → suc i ≤ j → j < k → p j ≡ true) →
+              (suc i ≤ j) ⊎ (j < suc i) → p j ≡ true
           earlier j l h w (inl g) = w j g h
           earlier j l h w (inr g) = let z : j ≡ i = omega arith in rw z q
       go false q f again =

@@ -13,7 +13,8 @@ bytes-of : (x : ℕ) → wordBytes x ≡ x % 256 ∷ x / 256 % 256 ∷ x / 256 /
 unfolding wordBytes
 bytes-of x =
     let two : x / 65536 ≡ x / 256 / 256 = sym (div-div-eq-div-mul x 256 256) in
-    let three : x / 16777216 ≡ x / 256 / 256 / 256 = sym (ap (λ y. y / 256) (div-div-eq-div-mul x 256 256) ∙ div-div-eq-div-mul x 65536 256) in
+    let three : x / 16777216 ≡ x / 256 / 256 / 256 =
+    sym (ap (λ y. y / 256) (div-div-eq-div-mul x 256 256) ∙ div-div-eq-div-mul x 65536 256) in
     rw (two, three)
 
 -- a number is that of its bytes
@@ -80,7 +81,8 @@ module _ (s : List ℕ) (small : (i : ℕ) → getD s i 0 < 256) where
       let three : suc (a + 2) ≡ a + 3 = omega arith in
       let last : suc (a + 3) ≡ a + 4 = omega arith in
       rw (
-        four (getD s a 0) (getD s (a + 1) 0) (getD s (a + 2) 0) (getD s (a + 3) 0) (small a) (small (a + 1)) (small (a + 2)) (small (a + 3)),
+        four (getD s a 0) (getD s (a + 1) 0) (getD s (a + 2) 0) (getD s (a + 3) 0) (small a) (small (a + 1)) (small (a + 2))
+            (small (a + 3)),
         drop-cons s a 0 (omega arith),
         one,
         drop-cons s (a + 1) 0 (omega arith),

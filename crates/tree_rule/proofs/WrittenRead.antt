@@ -53,7 +53,8 @@ map-list enc g i (suc n) = rw (map-list enc g (suc i) n)
 
 -- A stretch of rows is cut row by row.
 rows-cut : (h : ℕ → List ℕ) (f : List ℕ) (place : ℕ → ℕ) (i n : ℕ) →
-    ((k : ℕ) → k < i + n → drop (place k) f ≡ h k ++ drop (place (suc k)) f) → drop (place i) f ≡ join (listFrom h i n) ++ drop (place (i + n)) f
+    ((k : ℕ) → k < i + n → drop (place k) f ≡ h k ++ drop (place (suc k)) f) →
+    drop (place i) f ≡ join (listFrom h i n) ++ drop (place (i + n)) f
 unfolding listFrom join
 rows-cut h f place i zero cut = let z : i + 0 ≡ i = omega arith in rw z
 rows-cut h f place i (suc n) cut =
@@ -73,7 +74,8 @@ parent-kept w = go (eqb w 4294967295) refl
 token-kept : (names kind a b : ℕ) → tokenFine names kind a b ≡ true → tokenBytes (tokenBy kind a b) ≡ threeWords kind a b
 token-kept names kind a b e = go (eqb kind 0) refl (eqb kind 1) refl (eqb kind 2) refl (eqb kind 3) refl
   where
-    go : (p : Bool) → eqb kind 0 ≡ p → (q : Bool) → eqb kind 1 ≡ q → (r : Bool) → eqb kind 2 ≡ r → (s : Bool) → eqb kind 3 ≡ s →
+    go : (p : Bool) → eqb kind 0 ≡ p → (q : Bool) → eqb kind 1 ≡ q → (r : Bool) → eqb kind 2 ≡ r → (s : Bool) →
+        eqb kind 3 ≡ s →
         tokenBytes (tokenBy kind a b) ≡ threeWords kind a b
     go true g q h r i s j = rw (eqb-true kind 0 g)
     go false g true h r i s j = rw (eqb-true kind 1 h)
@@ -82,14 +84,17 @@ token-kept names kind a b e = go (eqb kind 0) refl (eqb kind 1) refl (eqb kind 2
     go false g false h false i false j = clash e (rw (g, h, i, j))
 
 module _ (f : List ℕ) (small : (i : ℕ) → getD f i 0 < 256) where
-  pub two-cut : (at : ℕ) → at + 8 ≤ length f → drop at f ≡ (wordBytes (wordAt f at) ++ wordBytes (wordAt f (at + 4))) ++ drop (at + 8) f
+  pub two-cut : (at : ℕ) → at + 8 ≤ length f →
+      drop at f ≡ (wordBytes (wordAt f at) ++ wordBytes (wordAt f (at + 4))) ++ drop (at + 8) f
   two-cut at h =
       let z : at + 4 + 4 ≡ at + 8 = omega arith in
       word-part f small at (omega arith)
-      ∙ ap (λ l. wordBytes (wordAt f at) ++ l) (word-part f small (at + 4) (omega arith) ∙ ap (λ n. wordBytes (wordAt f (at + 4)) ++ drop n f) z)
+      ∙ ap (λ l. wordBytes (wordAt f at) ++ l) (word-part f small (at + 4) (omega arith)
+      ∙ ap (λ n. wordBytes (wordAt f (at + 4)) ++ drop n f) z)
       ∙ sym (append-assoc (wordBytes (wordAt f at)) (wordBytes (wordAt f (at + 4))) (drop (at + 8) f))
 
-  three-cut : (at : ℕ) → at + 12 ≤ length f → drop at f ≡ threeWords (wordAt f at) (wordAt f (at + 4)) (wordAt f (at + 8)) ++ drop (at + 12) f
+  three-cut : (at : ℕ) → at + 12 ≤ length f →
+      drop at f ≡ threeWords (wordAt f at) (wordAt f (at + 4)) (wordAt f (at + 8)) ++ drop (at + 12) f
   three-cut at h =
       let z : at + 4 + 4 ≡ at + 8 = omega arith in
       let y : at + 4 + 8 ≡ at + 12 = omega arith in
@@ -141,7 +146,8 @@ module _ (c : TreeCounts) (f : List ℕ) where
         let y : tokensStart c + 12 * (0 + c .tokens) ≡ namesStart c = omega arith in
         let h : ℕ → List ℕ = λ i. tokenBytes (tokenAt c f i) in
         let cut : drop (tokensStart c + 12 * 0) f ≡ join (listFrom h 0 (c .tokens)) ++ drop (tokensStart c + 12 * (0 + c .tokens)) f =
-        rows-cut h f (λ i. tokensStart c + 12 * i) 0 (c .tokens) (λ i l. let next : tokensStart c + 12 * suc i ≡ tokensStart c + 12 * i + 12 = omega arith in
+        rows-cut h f (λ i. tokensStart c + 12 * i) 0 (c .tokens)
+        (λ i l. let next : tokensStart c + 12 * suc i ≡ tokensStart c + 12 * i + 12 = omega arith in
         let at : ℕ = tokensStart c + 12 * i in
         rw next (three-cut f small at (omega (arith, k .size)) ∙ ap (λ b. b ++ drop (at + 12) f)
         (sym (token-kept (c .names) (wordAt f at) (wordAt f (at + 4)) (wordAt f (at + 8)) (k .tokens i (omega arith)))))) in
@@ -154,7 +160,8 @@ module _ (c : TreeCounts) (f : List ℕ) where
         let y : namesStart c + 8 * (0 + c .names) ≡ bytesStart c = omega arith in
         let h : ℕ → List ℕ = λ i. nameBytes (nameAt c f i) in
         let cut : drop (namesStart c + 8 * 0) f ≡ join (listFrom h 0 (c .names)) ++ drop (namesStart c + 8 * (0 + c .names)) f =
-        rows-cut h f (λ i. namesStart c + 8 * i) 0 (c .names) (λ i l. let next : namesStart c + 8 * suc i ≡ namesStart c + 8 * i + 8 = omega arith in
+        rows-cut h f (λ i. namesStart c + 8 * i) 0 (c .names) (λ i l. let next : namesStart c + 8 * suc i ≡ namesStart c + 8 * i + 8 =
+        omega arith in
         rw next (two-cut f small (namesStart c + 8 * i) (omega (arith, k .size)))) in
         ap (λ n. drop n f) (sym z) ∙ cut ∙ ap (λ n. join (listFrom h 0 (c .names)) ++ drop n f) y
         ∙ ap (λ l. join l ++ drop (bytesStart c) f) (sym (map-list nameBytes (nameAt c f) 0 (c .names)))
@@ -188,5 +195,6 @@ pub written-read : (f : List ℕ) → ((i : ℕ) → getD f i 0 < 256) → Forme
 written-read f small k =
     let c : TreeCounts = countsIn f in
     ap (λ n. countBytes n ++ (join (map nodeBytes (treeBy c f .nodes)) ++
-    (join (map tokenBytes (allTokens (treeBy c f .nodes))) ++ (join (map nameBytes (treeBy c f .names)) ++ bytesIn c f)))) (counts-kept c f small k)
+    (join (map tokenBytes (allTokens (treeBy c f .nodes))) ++ (join (map nameBytes (treeBy c f .names)) ++ bytesIn c f))))
+    (counts-kept c f small k)
     ∙ ap (λ l. countBytes c ++ l) (sym (body-kept c f small k)) ∙ sym (head-kept f small (omega (arith, k .size)))

@@ -17,7 +17,17 @@ use Rattle.tree_rule.specs.declared.NodeSignature.the-variants.{Absent, 
 use Rattle.tree_rule.specs.Words.{wordAt, wordBytes, listFrom, sumFrom}
 use Rattle.tree_rule.specs.Trees.{noParent, parentRow, Node, Tree, other, memberName, descriptor, sourceLine, meaningOf}
 use Rattle.tree_rule.specs.Files.{treeCounts, countsIn, fileLength, nodesFrom, readTree, allTokens, writtenTree}
-use Rattle.tree_rule.specs.Checks.{firstFaulty, lengthAgrees, rootFine, faultyParent, countsSum, faultyToken, faultyName, faultyText, wellFormedFile}
+use Rattle.tree_rule.specs.Checks.{
+  firstFaulty,
+  lengthAgrees,
+  rootFine,
+  faultyParent,
+  countsSum,
+  faultyToken,
+  faultyName,
+  faultyText,
+  wellFormedFile,
+}
 use Rattle.tree_rule.specs.Signatures.{firstToken, lastToken, nodeSignature, signatureFrom, namesMethod}
 
 -- one node with one source line, 258 shown as 10; one name, the second of two bytes
@@ -39,7 +49,8 @@ oneFile =
     0x61 ∷ 0x62 ∷ []
 
 one-file : (writtenTree one ≡ oneFile) × (readTree oneFile ≡ one) × (wellFormedFile oneFile ≡ true)
-unfolding ascii join wordAt wordBytes listFrom sumFrom nodesFrom allTokens firstFaulty checkFrom piecesFrom sequenceOf afterLead leadOf tails
+unfolding ascii join wordAt wordBytes listFrom sumFrom nodesFrom allTokens firstFaulty checkFrom piecesFrom sequenceOf afterLead leadOf
+    tails
 one-file = (refl, refl, refl)
 
 -- two nodes, with tokens of all kinds; a name that no token has, and two names that share bytes
@@ -60,14 +71,16 @@ two-files :
     × (meaningOf two ≡
     record { parent = noParent; tokens = other 7 9 ∷ memberName (ascii "n") [] ∷ descriptor (ascii "()V") (ascii "()V") ∷ [] } ∷
     record { parent = parentRow 0; tokens = sourceLine 4294967295 5 ∷ [] } ∷ [])
-unfolding ascii join wordAt wordBytes listFrom sumFrom nodesFrom allTokens firstFaulty checkFrom piecesFrom sequenceOf afterLead leadOf tails
+unfolding ascii join wordAt wordBytes listFrom sumFrom nodesFrom allTokens firstFaulty checkFrom piecesFrom sequenceOf afterLead leadOf
+    tails
 two-files = (refl, refl, refl, refl)
 
--- A file with three nodes, two tokens, one name and three bytes, to spoil it number by number: its counts, parents, token counts, the second
--- token and the name.
+-- A file with three nodes, two tokens, one name and three bytes, to spoil it number by number: its counts, its node rows, the second token
+-- and the name.
 abbrev spoilt : List ℕ → List ℕ → List ℕ → List ℕ → List ℕ → List ℕ → List ℕ
 spoilt counts first second third token name =
-    join (map wordBytes (counts ++ (first ++ (second ++ (third ++ (0 ∷ 8 ∷ 9 ∷ (token ++ name))))))) ++ (0x61 ∷ 0xC3 ∷ 0xA9 ∷ [])
+    join (map wordBytes (counts ++ (first ++ (second ++ (third ++ (0 ∷ 8 ∷ 9 ∷ (token ++ name))))))) ++
+    (0x61 ∷ 0xC3 ∷ 0xA9 ∷ [])
 
 abbrev counts : List ℕ
 counts = 3 ∷ 2 ∷ 1 ∷ 3 ∷ []

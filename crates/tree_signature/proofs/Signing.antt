@@ -46,12 +46,14 @@ unfolding firstToken
 first-inside p at [] e = absurd (let z : _≡_ {A = ℕ} 0 1 = cc in omega arith)
 first-inside p at (t ∷ ts) {i} e = go (p t) e (λ g. first-inside p (suc at) ts g)
   where
-    go : (b : Bool) → pick b (At at) (firstToken p (suc at) ts) ≡ At i → (firstToken p (suc at) ts ≡ At i → i < suc at + length ts) → i < at + suc (length ts)
+    go : (b : Bool) → pick b (At at) (firstToken p (suc at) ts) ≡ At i →
+        (firstToken p (suc at) ts ≡ At i → i < suc at + length ts) → i < at + suc (length ts)
     go true f later = let q : at ≡ i = cc in omega arith
     go false f later = let h = later f in omega arith
 
 -- two tests that agree
-first-same : (p q : Token → Bool) → ((t : Token) → p t ≡ q t) → (at : ℕ) (ts : List Token) → firstToken p at ts ≡ firstToken q at ts
+first-same : (p q : Token → Bool) → ((t : Token) → p t ≡ q t) → (at : ℕ) (ts : List Token) →
+    firstToken p at ts ≡ firstToken q at ts
 unfolding firstToken
 first-same p q e at [] = refl
 first-same p q e at (t ∷ ts) = rw (e t, first-same p q e (suc at) ts)
@@ -122,12 +124,15 @@ module _ (c : TreeCounts) (f : List ℕ) (first count : ℕ) where
         module _ {q : Place} (k : q ≡ firstToken (ofKind 2) (m + 1) (listFrom (rowOf f (a + 12 * first)) (m + 1) (count - (m + 1)))) where
           descriptor-found : q ≡ descriptorPlace m ts
           descriptor-found =
-              k ∙ first-same (ofKind 2) isDescriptor descriptor-kind (m + 1) (listFrom (rowOf f (a + 12 * first)) (m + 1) (count - (m + 1)))
-              ∙ ap (firstToken isDescriptor (m + 1)) (rows-are (m + 1) (count - (m + 1)) ∙ sym (list-drop (tokenAt c f) first count (m + 1)))
+              k ∙ first-same (ofKind 2) isDescriptor descriptor-kind (m + 1)
+              (listFrom (rowOf f (a + 12 * first)) (m + 1) (count - (m + 1)))
+              ∙ ap (firstToken isDescriptor (m + 1)) (rows-are (m + 1) (count - (m + 1))
+              ∙ sym (list-drop (tokenAt c f) first count (m + 1)))
 
           pub no-descriptor : q ≡ Nowhere → Absent ≡ signed
           no-descriptor l =
-              sym (signed-member ∙ ap (λ x. signatureFrom first (signatureBy m x (ownerBy (ownerPlace name m ts)))) (sym descriptor-found ∙ l))
+              sym (signed-member
+              ∙ ap (λ x. signatureFrom first (signatureBy m x (ownerBy (ownerPlace name m ts)))) (sym descriptor-found ∙ l))
 
           module _ {d : ℕ} (l : q ≡ At d) where
             descriptor-inside : d < count
@@ -142,17 +147,21 @@ module _ (c : TreeCounts) (f : List ℕ) (first count : ℕ) where
             descriptor-fits z b s = let j = descriptor-inside in record { fits = omega (arith, z .size) }
 
             pub signature-told : {w : Owner} →
-                w ≡ ownerFrom first (ownerBy (lastToken (isOwner name) 0 (listFrom (tokenOf c f first) 0 m))) → Present (first + m) (first + d) w ≡ signed
+                w ≡ ownerFrom first (ownerBy (lastToken (isOwner name) 0 (listFrom (tokenOf c f first) 0 m))) →
+                Present (first + m) (first + d) w ≡ signed
             signature-told u =
                 let before : listFrom (tokenOf c f first) 0 m ≡ take m ts =
-                list-same (tokenOf c f first) (tokenAt c f) 0 first m (λ i b. let z : first + (0 + i) ≡ first + i = omega arith in ap (tokenAt c f) z)
+                list-same (tokenOf c f first) (tokenAt c f) 0 first m (λ i b. let z : first + (0 + i) ≡ first + i = omega arith in
+                ap (tokenAt c f) z)
                 ∙ sym (list-take (tokenAt c f) first count m (let j = member-inside in omega arith)) in
                 sym (signed-member
                 ∙ ap (λ x. signatureFrom first (signatureBy m x (ownerBy (ownerPlace name m ts)))) (sym descriptor-found ∙ l)
-                ∙ ap (Present (first + m) (first + d)) (sym (u ∙ ap (λ x. ownerFrom first (ownerBy (lastToken (isOwner name) 0 x))) before)))
+                ∙ ap (Present (first + m) (first + d)) (sym (u
+                ∙ ap (λ x. ownerFrom first (ownerBy (lastToken (isOwner name) 0 x))) before)))
 
 -- the rows of a node's tokens lie in the file
-pub rows-inside : (c : TreeCounts) (f : List ℕ) (first count : ℕ) {a : ℕ} → a ≡ tokensStart c → FormedBy c f → first + count ≤ c .tokens →
+pub rows-inside : (c : TreeCounts) (f : List ℕ) (first count : ℕ) {a : ℕ} → a ≡ tokensStart c → FormedBy c f →
+    first + count ≤ c .tokens →
     a + 12 * first + 12 * count ≤ length f
 rows-inside c f first count e k h = omega (arith, k .size)
 

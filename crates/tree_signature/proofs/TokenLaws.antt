@@ -68,7 +68,8 @@ module _ (c : TreeCounts) (f : List ℕ) (i : ℕ) {a : ℕ} (e : a ≡ tokensSt
         method-descriptor = told ∙ ap (namesMethod name) (sym (here ∙ h))
 
 -- its row lies in the file
-pub row-inside : (c : TreeCounts) (f : List ℕ) (i : ℕ) {a : ℕ} → a ≡ tokensStart c → FormedBy c f → i < c .tokens → a + 12 * i + 12 ≤ length f
+pub row-inside : (c : TreeCounts) (f : List ℕ) (i : ℕ) {a : ℕ} → a ≡ tokensStart c → FormedBy c f → i < c .tokens →
+    a + 12 * i + 12 ≤ length f
 row-inside c f i e k h = omega (arith, k .size)
 
 pub names-inside : (c : TreeCounts) (f : List ℕ) → FormedBy c f → fileLength c ≤ length f

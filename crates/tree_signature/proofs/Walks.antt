@@ -28,13 +28,15 @@ use Rattle.tree_signature.specs.inner.Tokens.{kindOf, ofKind, rowOf, tok
 kind-by : (w a b kind : ℕ) → 1 ≤ kind → kind ≤ 3 → eqb (kindOf (tokenBy w a b)) kind ≡ eqb w kind
 kind-by w a b kind l h = go (eqb w 1) refl (eqb w 2) refl (eqb w 3) refl
   where
-    go : (p : Bool) → eqb w 1 ≡ p → (q : Bool) → eqb w 2 ≡ q → (r : Bool) → eqb w 3 ≡ r → eqb (kindOf (tokenBy w a b)) kind ≡ eqb w kind
+    go : (p : Bool) → eqb w 1 ≡ p → (q : Bool) → eqb w 2 ≡ q → (r : Bool) → eqb w 3 ≡ r →
+        eqb (kindOf (tokenBy w a b)) kind ≡ eqb w kind
     go true x q y r z = rw (eqb-true w 1 x)
     go false x true y r z = rw (eqb-true w 2 y)
     go false x false y true z = rw (eqb-true w 3 z)
     go false x false y false z =
         let none : w ≡ kind → ⊥ =
-        λ e. let s : w ≡ kind = e in let x′ = eqb-false w 1 x in let y′ = eqb-false w 2 y in let z′ = eqb-false w 3 z in omega arith in
+        λ e. let s : w ≡ kind = e in let x′ = eqb-false w 1 x in let y′ = eqb-false w 2 y in let z′ = eqb-false w 3 z in
+        omega arith in
         rw (x, y, z, ne-eqb w kind none) (ne-eqb 0 kind (λ e. let s : 0 ≡ kind = e in omega arith))
 
 -- Forwards: the first from here on is the first of all.
@@ -67,7 +69,8 @@ module _ {f : List ℕ} {base kind n : ℕ} {whole : Place} {k : ℕ} (u : Walki
 pub ruleset walking = (walking-starts, walking-ends, walking-found, walking-more, needs)
 
 -- Backwards: there is none from here on.
-last-cons : (p : Token → Bool) (at : ℕ) (t : Token) (ts : List Token) → lastToken p at (t ∷ ts) ≡ orElse (lastToken p (suc at) ts) (pick (p t) (At at) Nowhere)
+last-cons : (p : Token → Bool) (at : ℕ) (t : Token) (ts : List Token) →
+    lastToken p at (t ∷ ts) ≡ orElse (lastToken p (suc at) ts) (pick (p t) (At at) Nowhere)
 unfolding lastToken
 last-cons p at t ts = refl
 
@@ -76,13 +79,16 @@ unfolding listFrom
 list-cons g k n h = let z : n - k ≡ suc (n - suc k) = omega arith in rw z
 
 -- a last token from somewhere on is the last of all
-last-stays : (p : Token → Bool) (g : ℕ → Token) (n k i : ℕ) → k ≤ n → lastToken p k (listFrom g k (n - k)) ≡ At i → lastToken p 0 (listFrom g 0 n) ≡ At i
+last-stays : (p : Token → Bool) (g : ℕ → Token) (n k i : ℕ) → k ≤ n → lastToken p k (listFrom g k (n - k)) ≡ At i →
+    lastToken p 0 (listFrom g 0 n) ≡ At i
 last-stays p g n zero i h e = let z : n - 0 ≡ n = omega arith in rw z at e
 last-stays p g n (suc k) i h e =
-    last-stays p g n k i (omega arith) (ap (lastToken p k) (list-cons g k n h) ∙ last-cons p k (g k) (listFrom g (suc k) (n - suc k)) ∙ rw e)
+    last-stays p g n k i (omega arith) (ap (lastToken p k) (list-cons g k n h) ∙ last-cons p k (g k) (listFrom g (suc k) (n - suc k))
+    ∙ rw e)
 
 -- where there is none behind a token, the token itself decides
-step-back : (p : Token → Bool) (g : ℕ → Token) (n k : ℕ) → k < n → lastToken p (suc k) (listFrom g (suc k) (n - suc k)) ≡ Nowhere →
+step-back : (p : Token → Bool) (g : ℕ → Token) (n k : ℕ) → k < n →
+    lastToken p (suc k) (listFrom g (suc k) (n - suc k)) ≡ Nowhere →
     lastToken p k (listFrom g k (n - k)) ≡ pick (p (g k)) (At k) Nowhere
 step-back p g n k h e = ap (lastToken p k) (list-cons g k n h) ∙ last-cons p k (g k) (listFrom g (suc k) (n - suc k)) ∙ rw e
 
@@ -118,7 +124,8 @@ module _ {c : TreeCounts} {f : List ℕ} {first n «end» : ℕ} (u : Backing c 
     module _ {b : Bool} (e : b ≡ owns c f (tokenAt c f (first + («end» - 1)))) where
       pub backing-found : b ≡ true → TokenAt (first + («end» - 1)) ≡ whole
       backing-found g =
-          let found : lastToken (owns c f) («end» - 1) (listFrom (tokenOf c f first) («end» - 1) (n - («end» - 1))) ≡ At («end» - 1) =
+          let found : lastToken (owns c f) («end» - 1) (listFrom (tokenOf c f first) («end» - 1) (n - («end» - 1))) ≡ At
+          («end» - 1) =
           before ∙ ap (λ x. pick x (At («end» - 1)) Nowhere) (sym e ∙ g) in
           sym (ap (λ x. ownerFrom first (ownerBy x))
           (last-stays (owns c f) (tokenOf c f first) n («end» - 1) («end» - 1) (omega (arith, u .inside)) found))

@@ -16,7 +16,8 @@ ghost use Rattle.tree_rule.specs.Signatures.{firstToken, lastToken, isOwner, ow
 ghost use Rattle.tree_rule.specs.Theorems.{FormedBy};
 ghost use Rattle.tree_signature.specs.inner.Tokens.{ofKind, rowOf, tokenOf};
 
-// The first of a node's tokens that has a kind, from one of them on. Their rows start at the place `base`; they count from the node's first.
+// The first of a node's tokens that has a kind, from one of them on. Their rows start at the place `base`; they count from the node's
+// first.
 fn first_of_kind(tree: &[u8], base: usize, start: usize, count: usize, kind: u32) -> Place
     requires { ⌜ (base + 12 * count ≤ length (now tree)) × (1 ≤ kind) × (kind ≤ 3) ⌝ }
     ensures { λ r. let f = now (tree .entry) in
@@ -36,7 +37,8 @@ fn first_of_kind(tree: &[u8], base: usize, start: usize, count: usize, kind: u32
 fn owner_before(tree: &[u8], counts: TreeCounts, first: usize, member: usize) -> Owner
     requires { ⌜ FormedBy counts (now tree) × (first + member ≤ counts .tokens) ⌝ }
     ensures { λ r. let f = now (tree .entry) in
-        ⌜ r ≡ ownerFrom first (ownerBy (lastToken (isOwner (nameIn (treeBy counts f))) 0 (listFrom (tokenOf counts f first) 0 member))) ⌝ }
+        ⌜ r ≡ ownerFrom first
+        (ownerBy (lastToken (isOwner (nameIn (treeBy counts f))) 0 (listFrom (tokenOf counts f first) 0 member))) ⌝ }
 {
     let mut end = member;
     while 0 < end {

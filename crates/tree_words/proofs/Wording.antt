@@ -19,7 +19,8 @@ use Rattle.tree_rule.specs.Words.{wordAt}
 use Rattle.tree_rule.specs.Files.{treeCounts, countsIn, namesStart, bytesStart, fileLength, tokenBy, tokenRow, nameRow, bytesIn, nameText}
 
 -- A number: four bytes.
-pub word-told : (f : List ℕ) (at : ℕ) {a b c d : ℕ} → a ≡ getD f at 0 → b ≡ getD f (at + 1) 0 → c ≡ getD f (at + 2) 0 → d ≡ getD f (at + 3) 0 →
+pub word-told : (f : List ℕ) (at : ℕ) {a b c d : ℕ} → a ≡ getD f at 0 → b ≡ getD f (at + 1) 0 →
+    c ≡ getD f (at + 2) 0 → d ≡ getD f (at + 3) 0 →
     a + 256 * b + 65536 * c + 16777216 * d ≡ wordAt f at
 unfolding wordAt
 word-told f at e g h i = rw (e, g, h, i)
@@ -27,7 +28,8 @@ word-told f at e g h i = rw (e, g, h, i)
 pub ruleset words = (word-told, needs)
 
 -- Counts.
-pub counts-told : (f : List ℕ) {n t s b : ℕ} → n ≡ wordAt f 0 → t ≡ wordAt f 4 → s ≡ wordAt f 8 → b ≡ wordAt f 12 → treeCounts n t s b ≡ countsIn f
+pub counts-told : (f : List ℕ) {n t s b : ℕ} → n ≡ wordAt f 0 → t ≡ wordAt f 4 → s ≡ wordAt f 8 → b ≡ wordAt f 12 →
+    treeCounts n t s b ≡ countsIn f
 counts-told f e g h i = rw (e, g, h, i)
 
 pub bytes-told : (f : List ℕ) (c : TreeCounts) {a e : ℕ} → a ≡ bytesStart c → e ≡ fileLength c → between f a e ≡ bytesIn c f
@@ -61,7 +63,8 @@ pub ruleset rows = (name-row-told, member-told, descriptor-told, line-told, othe
 
 -- Names.
 module _ (c : TreeCounts) (f : List ℕ) (i : ℕ) where
-  pub name-told : {a : ℕ} → a ≡ namesStart c → {n : Text} → n ≡ nameRow f (a + 8 * i) → {b : List ℕ} → b ≡ bytesIn c f → {t : List ℕ} → t ≡ textIn b n →
+  pub name-told : {a : ℕ} → a ≡ namesStart c → {n : Text} → n ≡ nameRow f (a + 8 * i) → {b : List ℕ} →
+      b ≡ bytesIn c f → {t : List ℕ} → t ≡ textIn b n →
       t ≡ nameText c f i
   name-told e {n} g h k = k ∙ ap (λ x. textIn x n) h ∙ ap (textIn (bytesIn c f)) (g ∙ ap (λ x. nameRow f (x + 8 * i)) e)
 

@@ -1,13 +1,10 @@
+-- `tree_checks::names::faulty_among` meets its contract, by the laws of Checked and an invariant that says: the rows from here on decide
+-- as all do.
 use Rattle.tree_checks.proofs.Checked.{asking, Asked}
 use Prim.Native.Nat.{_-_}
 use Rattle.tree_rule.specs.Checks.{nameUtf8, faultyText}
 use Rattle.tree_checks.proofs.names.faulty_among.Statement.{statement}
 use Rattle.tree_checks.proofs.names.faulty_among.Tie as tie
-use Rattle.tree_checks.proofs.names.faulty_among.Reads as reads
-use Rattle.tree_checks.proofs.names.faulty_among.Lts as lts
-use Rattle.tree_checks.proofs.names.name_utf8.Reads as name-utf8-reads
-use Rattle.tree_words.proofs.names_start.Reads as names-start-reads
-use Rattle.tree_words.proofs.name_row.Reads as name-row-reads
 
 abbrev Inv-loop : tie.InvT-loop
 Inv-loop tree counts bytes start row₀ row = Asked (nameUtf8 counts tree) (counts .names) (faultyText counts tree) row
@@ -15,51 +12,39 @@ Inv-loop tree counts bytes start row₀ row = Asked (nameUtf8 counts tree) (coun
 abbrev μ-loop : tie.MeasureT-loop
 μ-loop tree counts bytes start row₀ row = counts .names - row
 
--- src/names.rt:65:9
 names-start-requires : tie.Need-names-start-requires Inv-loop μ-loop
 names-start-requires c κs = search asking
 
--- src/names.rt:67:5
 loop-holds : tie.Need-loop-holds Inv-loop μ-loop
 loop-holds c = search asking
 
--- src/names.rt:67:17
 cast-if1 : tie.Need-cast-if1 Inv-loop μ-loop
 cast-if1 c = search asking
 
--- src/names.rt:68:53
 mul-name-row : tie.Need-mul-name-row Inv-loop μ-loop
 mul-name-row c = search asking
 
--- src/names.rt:68:45
 add-name-row : tie.Need-add-name-row Inv-loop μ-loop
 add-name-row c = search asking
 
--- src/names.rt:68:30
 name-row-requires : tie.Need-name-row-requires Inv-loop μ-loop
 name-row-requires c κs = search asking
 
--- src/names.rt:68:13
 name-utf8-requires : tie.Need-name-utf8-requires Inv-loop μ-loop
 name-utf8-requires c κs = search asking
 
--- src/names.rt:69:13
 returns : tie.Need-returns Inv-loop μ-loop
 returns c = search asking
 
--- src/names.rt:71:9
 add-row : tie.Need-add-row Inv-loop μ-loop
 add-row c = search asking
 
--- src/names.rt:67:5
 loop-less : tie.Need-loop-less Inv-loop μ-loop
 loop-less c = search asking
 
--- src/names.rt:67:5
 loop-again : tie.Need-loop-again Inv-loop μ-loop
 loop-again c = search asking
 
--- src/names.rt:57:1
 returns-2 : tie.Need-returns-2 Inv-loop μ-loop
 returns-2 c = search asking
 

@@ -1,13 +1,10 @@
+-- `tree_checks::names::faulty_name` meets its contract, by the laws of Checked and an invariant that says: the rows from here on decide
+-- as all do.
 use Rattle.tree_checks.proofs.Checked.{asking, Asked}
 use Prim.Native.Nat.{_-_}
 use Rattle.tree_rule.specs.Checks.{nameInside, faultyName}
 use Rattle.tree_checks.proofs.names.faulty_name.Statement.{statement}
 use Rattle.tree_checks.proofs.names.faulty_name.Tie as tie
-use Rattle.tree_checks.proofs.names.faulty_name.Reads as reads
-use Rattle.tree_checks.proofs.names.faulty_name.Lts as lts
-use Rattle.tree_checks.proofs.names.ends_inside.Reads as ends-inside-reads
-use Rattle.tree_words.proofs.names_start.Reads as names-start-reads
-use Rattle.tree_words.proofs.name_row.Reads as name-row-reads
 
 abbrev Inv-loop : tie.InvT-loop
 Inv-loop tree counts start names row₀ row = Asked (nameInside counts tree) names (faultyName counts tree) row
@@ -15,51 +12,39 @@ Inv-loop tree counts start names row₀ row = Asked (nameInside counts tree) nam
 abbrev μ-loop : tie.MeasureT-loop
 μ-loop tree counts start names row₀ row = names - row
 
--- src/names.rt:32:9
 names-start-requires : tie.Need-names-start-requires Inv-loop μ-loop
 names-start-requires c κs = search asking
 
--- src/names.rt:33:17
 cast-names : tie.Need-cast-names Inv-loop μ-loop
 cast-names c = search asking
 
--- src/names.rt:35:5
 loop-holds : tie.Need-loop-holds Inv-loop μ-loop
 loop-holds c = search asking
 
--- src/names.rt:36:48
 mul-name-row : tie.Need-mul-name-row Inv-loop μ-loop
 mul-name-row c = search asking
 
--- src/names.rt:36:40
 add-name-row : tie.Need-add-name-row Inv-loop μ-loop
 add-name-row c = search asking
 
--- src/names.rt:36:25
 name-row-requires : tie.Need-name-row-requires Inv-loop μ-loop
 name-row-requires c κs = search asking
 
--- src/names.rt:36:13
 ends-inside-requires : tie.Need-ends-inside-requires Inv-loop μ-loop
 ends-inside-requires c κs = search asking
 
--- src/names.rt:37:13
 returns : tie.Need-returns Inv-loop μ-loop
 returns c = search asking
 
--- src/names.rt:39:9
 add-row : tie.Need-add-row Inv-loop μ-loop
 add-row c = search asking
 
--- src/names.rt:35:5
 loop-less : tie.Need-loop-less Inv-loop μ-loop
 loop-less c = search asking
 
--- src/names.rt:35:5
 loop-again : tie.Need-loop-again Inv-loop μ-loop
 loop-again c = search asking
 
--- src/names.rt:28:1
 returns-2 : tie.Need-returns-2 Inv-loop μ-loop
 returns-2 c = search asking
 

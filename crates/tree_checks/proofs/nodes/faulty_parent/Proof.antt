@@ -1,11 +1,10 @@
+-- `tree_checks::nodes::faulty_parent` meets its contract, by the laws of Checked and an invariant that says: the rows from here on decide
+-- as all do.
 use Rattle.tree_checks.proofs.Checked.{asking, Asked}
 use Prim.Native.Nat.{_-_}
 use Rattle.tree_rule.specs.Checks.{firstFaulty, parentLower}
 use Rattle.tree_checks.proofs.nodes.faulty_parent.Statement.{statement}
 use Rattle.tree_checks.proofs.nodes.faulty_parent.Tie as tie
-use Rattle.tree_checks.proofs.nodes.faulty_parent.Reads as reads
-use Rattle.tree_checks.proofs.nodes.faulty_parent.Lts as lts
-use Rattle.tree_checks.proofs.nodes.parent_lower.Reads as parent-lower-reads
 
 abbrev Inv-loop : tie.InvT-loop
 Inv-loop tree nodes row₀ row = Asked (parentLower tree) nodes (firstFaulty (parentLower tree) 1 (nodes - 1)) row
@@ -13,35 +12,27 @@ Inv-loop tree nodes row₀ row = Asked (parentLower tree) nodes (firstFaulty (pa
 abbrev μ-loop : tie.MeasureT-loop
 μ-loop tree nodes row₀ row = nodes - row
 
--- src/nodes.rt:44:17
 cast-nodes : tie.Need-cast-nodes Inv-loop μ-loop
 cast-nodes c = search asking
 
--- src/nodes.rt:46:5
 loop-holds : tie.Need-loop-holds Inv-loop μ-loop
 loop-holds c = search asking
 
--- src/nodes.rt:47:13
 parent-lower-requires : tie.Need-parent-lower-requires Inv-loop μ-loop
 parent-lower-requires c κs = search asking
 
--- src/nodes.rt:48:13
 returns : tie.Need-returns Inv-loop μ-loop
 returns c = search asking
 
--- src/nodes.rt:50:9
 add-row : tie.Need-add-row Inv-loop μ-loop
 add-row c = search asking
 
--- src/nodes.rt:46:5
 loop-less : tie.Need-loop-less Inv-loop μ-loop
 loop-less c = search asking
 
--- src/nodes.rt:46:5
 loop-again : tie.Need-loop-again Inv-loop μ-loop
 loop-again c = search asking
 
--- src/nodes.rt:40:1
 returns-2 : tie.Need-returns-2 Inv-loop μ-loop
 returns-2 c = search asking
 

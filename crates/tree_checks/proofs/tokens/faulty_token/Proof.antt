@@ -1,61 +1,49 @@
+-- `tree_checks::tokens::faulty_token` meets its contract, by the laws of Checked and an invariant that says: the rows from here on decide
+-- as all do.
 use Rattle.tree_checks.proofs.Checked.{asking, Asked}
 use Prim.Native.Nat.{_+_, _*_, _-_}
 use Rattle.tree_rule.specs.Files.{tokensStart}
 use Rattle.tree_rule.specs.Checks.{tokenRowFine, faultyToken}
 use Rattle.tree_checks.proofs.tokens.faulty_token.Statement.{statement}
 use Rattle.tree_checks.proofs.tokens.faulty_token.Tie as tie
-use Rattle.tree_checks.proofs.tokens.faulty_token.Reads as reads
-use Rattle.tree_checks.proofs.tokens.faulty_token.Lts as lts
-use Rattle.tree_checks.proofs.tokens.token_fine.Reads as token-fine-reads
-use Rattle.tree_words.proofs.tokens_start.Reads as tokens-start-reads
 
 abbrev Inv-loop : tie.InvT-loop
-Inv-loop tree counts start tokens row₀ row = Asked (λ i. tokenRowFine counts tree (tokensStart counts + 12 * i)) tokens (faultyToken counts tree) row
+Inv-loop tree counts start tokens row₀ row =
+    Asked (λ i. tokenRowFine counts tree (tokensStart counts + 12 * i)) tokens (faultyToken counts tree) row
 
 abbrev μ-loop : tie.MeasureT-loop
 μ-loop tree counts start tokens row₀ row = tokens - row
 
--- src/tokens.rt:50:9
 tokens-start-requires : tie.Need-tokens-start-requires Inv-loop μ-loop
 tokens-start-requires c κs = search asking
 
--- src/tokens.rt:51:18
 cast-tokens : tie.Need-cast-tokens Inv-loop μ-loop
 cast-tokens c = search asking
 
--- src/tokens.rt:53:5
 loop-holds : tie.Need-loop-holds Inv-loop μ-loop
 loop-holds c = search asking
 
--- src/tokens.rt:54:38
 mul-token-fine : tie.Need-mul-token-fine Inv-loop μ-loop
 mul-token-fine c = search asking
 
--- src/tokens.rt:54:30
 add-token-fine : tie.Need-add-token-fine Inv-loop μ-loop
 add-token-fine c = search asking
 
--- src/tokens.rt:54:13
 token-fine-requires : tie.Need-token-fine-requires Inv-loop μ-loop
 token-fine-requires c κs = search asking
 
--- src/tokens.rt:55:13
 returns : tie.Need-returns Inv-loop μ-loop
 returns c = search asking
 
--- src/tokens.rt:57:9
 add-row : tie.Need-add-row Inv-loop μ-loop
 add-row c = search asking
 
--- src/tokens.rt:53:5
 loop-less : tie.Need-loop-less Inv-loop μ-loop
 loop-less c = search asking
 
--- src/tokens.rt:53:5
 loop-again : tie.Need-loop-again Inv-loop μ-loop
 loop-again c = search asking
 
--- src/tokens.rt:46:1
 returns-2 : tie.Need-returns-2 Inv-loop μ-loop
 returns-2 c = search asking
 

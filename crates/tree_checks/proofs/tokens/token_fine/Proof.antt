@@ -1,36 +1,26 @@
+-- `tree_checks::tokens::token_fine` meets its contract, by the laws of Checked.
 use Rattle.tree_checks.proofs.Checked.{token-tests}
 use Rattle.tree_checks.proofs.tokens.token_fine.Statement.{statement}
 use Rattle.tree_checks.proofs.tokens.token_fine.Tie as tie
-use Rattle.tree_checks.proofs.tokens.token_fine.Reads as reads
-use Rattle.tree_checks.proofs.tokens.token_fine.Lts as lts
-use Rattle.tree_checks.proofs.tokens.names_there.Reads as names-there-reads
-use Rattle.tree_words.proofs.word_at.Reads as word-at-reads
 
--- src/tokens.rt:31:9
 word-at-requires : tie.Need-word-at-requires
 word-at-requires c κs = search token-tests
 
--- src/tokens.rt:33:9
 returns : tie.Need-returns
 returns c = search token-tests
 
--- src/tokens.rt:36:9
 names-there-requires : tie.Need-names-there-requires
 names-there-requires c κs = search token-tests
 
--- src/tokens.rt:36:9
 returns-2 : tie.Need-returns-2
 returns-2 c = search token-tests
 
--- src/tokens.rt:39:9
 names-there-requires-2 : tie.Need-names-there-requires-2
 names-there-requires-2 c κs = search token-tests
 
--- src/tokens.rt:39:9
 returns-3 : tie.Need-returns-3
 returns-3 c = search token-tests
 
--- src/tokens.rt:27:1
 returns-4 : tie.Need-returns-4
 returns-4 c = search token-tests
 

@@ -1,70 +1,50 @@
+-- `tree_signature::token::is_owner` meets its contract, by the laws of TokenLaws.
 use Rattle.tree_signature.proofs.TokenLaws.{token-tests}
 use Rattle.tree_signature.proofs.token.is_owner.Statement.{statement}
 use Rattle.tree_signature.proofs.token.is_owner.Tie as tie
-use Rattle.tree_signature.proofs.token.is_owner.Reads as reads
-use Rattle.tree_signature.proofs.token.is_owner.Lts as lts
-use Rattle.tree_signature.proofs.token.starts_open.Reads as starts-open-reads
-use Rattle.tree_words.proofs.tokens_start.Reads as tokens-start-reads
-use Rattle.tree_words.proofs.name_text.Reads as name-text-reads
-use Rattle.tree_words.proofs.token_row.Reads as token-row-reads
 
--- src/token.rt:29:14
 tokens-start-requires : tie.Need-tokens-start-requires
 tokens-start-requires c κs = search token-tests
 
--- src/token.rt:29:37
 mul-at : tie.Need-mul-at
 mul-at c = search token-tests
 
--- src/token.rt:29:14
 add-at : tie.Need-add-at
 add-at c = search token-tests
 
--- src/token.rt:30:11
 token-row-requires : tie.Need-token-row-requires
 token-row-requires c κs = search token-tests
 
--- src/token.rt:31:40
 enum-told : tie.Need-enum-told
 enum-told c = search token-tests
 
--- src/token.rt:32:53
 enum-told-2 : tie.Need-enum-told-2
 enum-told-2 c = search token-tests
 
--- src/token.rt:33:29
 enum-known-raw : tie.Need-enum-known-raw
 enum-known-raw c = search token-tests
 
--- src/token.rt:33:87
 cast-name-text : tie.Need-cast-name-text
 cast-name-text c = search token-tests
 
--- src/token.rt:33:63
 name-text-requires : tie.Need-name-text-requires
 name-text-requires c κs = search token-tests
 
--- src/token.rt:33:51
 starts-open-requires : tie.Need-starts-open-requires
 starts-open-requires c κs = search token-tests
 
--- src/token.rt:34:53
 enum-told-3 : tie.Need-enum-told-3
 enum-told-3 c = search token-tests
 
--- src/token.rt:25:1
 returns : tie.Need-returns
 returns c = search token-tests
 
--- src/token.rt:25:1
 returns-2 : tie.Need-returns-2
 returns-2 c = search token-tests
 
--- src/token.rt:25:1
 returns-3 : tie.Need-returns-3
 returns-3 c = search token-tests
 
--- src/token.rt:25:1
 returns-4 : tie.Need-returns-4
 returns-4 c = search token-tests
 

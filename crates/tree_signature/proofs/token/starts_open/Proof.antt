@@ -1,18 +1,14 @@
+-- `tree_signature::token::starts_open` meets its contract, by the laws of TokenLaws.
 use Rattle.tree_signature.proofs.TokenLaws.{openings}
 use Rattle.tree_signature.proofs.token.starts_open.Statement.{statement}
 use Rattle.tree_signature.proofs.token.starts_open.Tie as tie
-use Rattle.tree_signature.proofs.token.starts_open.Reads as reads
-use Rattle.tree_signature.proofs.token.starts_open.Lts as lts
 
--- src/token.rt:19:9
 returns : tie.Need-returns
 returns c = search openings
 
--- src/token.rt:21:5
 shared-slice-read-result : tie.Need-shared-slice-read-result
 shared-slice-read-result c = search openings
 
--- src/token.rt:15:1
 returns-2 : tie.Need-returns-2
 returns-2 c = search openings
 

@@ -1,43 +1,32 @@
+-- `tree_words::rows::token_row` meets its contract, by the laws of Wording.
 use Rattle.tree_words.proofs.Wording.{rows}
 use Rattle.tree_words.proofs.rows.token_row.Statement.{statement}
 use Rattle.tree_words.proofs.rows.token_row.Tie as tie
-use Rattle.tree_words.proofs.rows.token_row.Reads as reads
-use Rattle.tree_words.proofs.rows.token_row.Lts as lts
-use Rattle.tree_words.proofs.rows.word_at.Reads as word-at-reads
 
--- src/rows.rt:50:9
 word-at-requires : tie.Need-word-at-requires
 word-at-requires c κs = search rows
 
--- src/rows.rt:51:27
 add-word-at : tie.Need-add-word-at
 add-word-at c = search rows
 
--- src/rows.rt:51:9
 word-at-requires-2 : tie.Need-word-at-requires-2
 word-at-requires-2 c κs = search rows
 
--- src/rows.rt:52:27
 add-word-at-2 : tie.Need-add-word-at-2
 add-word-at-2 c = search rows
 
--- src/rows.rt:52:9
 word-at-requires-3 : tie.Need-word-at-requires-3
 word-at-requires-3 c κs = search rows
 
--- src/rows.rt:54:9
 returns : tie.Need-returns
 returns c = search rows
 
--- src/rows.rt:57:9
 returns-2 : tie.Need-returns-2
 returns-2 c = search rows
 
--- src/rows.rt:60:9
 returns-3 : tie.Need-returns-3
 returns-3 c = search rows
 
--- src/rows.rt:46:1
 returns-4 : tie.Need-returns-4
 returns-4 c = search rows
 

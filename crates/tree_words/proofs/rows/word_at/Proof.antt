@@ -1,79 +1,59 @@
+-- `tree_words::rows::word_at` meets its contract, by the laws of Wording.
 use Rattle.tree_words.proofs.Wording.{words}
 use Rattle.tree_words.proofs.rows.word_at.Statement.{statement}
 use Rattle.tree_words.proofs.rows.word_at.Tie as tie
-use Rattle.tree_words.proofs.rows.word_at.Reads as reads
-use Rattle.tree_words.proofs.rows.word_at.Lts as lts
-use Rattle.tree_words.proofs.rows.wide.Reads as wide-reads
 
--- src/rows.rt:25:20
 shared-slice-read-wide : tie.Need-shared-slice-read-wide
 shared-slice-read-wide c = search words
 
--- src/rows.rt:25:15
 wide-requires : tie.Need-wide-requires
 wide-requires c κs = search words
 
--- src/rows.rt:25:48
 add-wide : tie.Need-add-wide
 add-wide c = search words
 
--- src/rows.rt:25:43
 shared-slice-read-wide-2 : tie.Need-shared-slice-read-wide-2
 shared-slice-read-wide-2 c = search words
 
--- src/rows.rt:25:38
 wide-requires-2 : tie.Need-wide-requires-2
 wide-requires-2 c κs = search words
 
--- src/rows.rt:25:32
 mul-low : tie.Need-mul-low
 mul-low c = search words
 
--- src/rows.rt:25:15
 add-low : tie.Need-add-low
 add-low c = search words
 
--- src/rows.rt:26:29
 add-wide-2 : tie.Need-add-wide-2
 add-wide-2 c = search words
 
--- src/rows.rt:26:24
 shared-slice-read-wide-3 : tie.Need-shared-slice-read-wide-3
 shared-slice-read-wide-3 c = search words
 
--- src/rows.rt:26:19
 wide-requires-3 : tie.Need-wide-requires-3
 wide-requires-3 c κs = search words
 
--- src/rows.rt:26:11
 mul-result : tie.Need-mul-result
 mul-result c = search words
 
--- src/rows.rt:26:5
 add-result : tie.Need-add-result
 add-result c = search words
 
--- src/rows.rt:26:61
 add-wide-3 : tie.Need-add-wide-3
 add-wide-3 c = search words
 
--- src/rows.rt:26:56
 shared-slice-read-wide-4 : tie.Need-shared-slice-read-wide-4
 shared-slice-read-wide-4 c = search words
 
--- src/rows.rt:26:51
 wide-requires-4 : tie.Need-wide-requires-4
 wide-requires-4 c κs = search words
 
--- src/rows.rt:26:40
 mul-result-2 : tie.Need-mul-result-2
 mul-result-2 c = search words
 
--- src/rows.rt:26:5
 add-result-2 : tie.Need-add-result-2
 add-result-2 c = search words
 
--- src/rows.rt:21:1
 returns : tie.Need-returns
 returns c = search words
 
