@@ -22,7 +22,8 @@ use Rattle.tree_rule.specs.Words.{wordAt, listFrom}
 use Rattle.tree_rule.specs.Trees.{nameIn}
 use Rattle.tree_rule.specs.Files.{tokenBy, tokenRow, tokenAt, treeBy}
 use Rattle.tree_rule.specs.Signatures.{firstToken, lastToken, isOwner, ownerBy, ownerFrom}
-use Rattle.tree_signature.specs.inner.Tokens.{kindOf, ofKind, rowOf, tokenOf}
+use Rattle.tree_signature.specs.inner.Tokens.{kindOf, ofKind, rowOf, tokenOf, describedAs}
+use Rattle.tree_signature.proofs.TokenLaws.{owner-told}
 
 -- the kind of a token, by the number that stands in its row
 kind-by : (w a b kind : ℕ) → 1 ≤ kind → kind ≤ 3 → eqb (kindOf (tokenBy w a b)) kind ≡ eqb w kind
@@ -121,7 +122,10 @@ module _ {c : TreeCounts} {f : List ℕ} {first n «end» : ℕ} (u : Backing c 
         let up : «end» ≡ suc («end» - 1) = omega arith in
         step-back (owns c f) (tokenOf c f first) n («end» - 1) (omega (arith, u .inside)) (rw up at (u .none))
 
-    module _ {b : Bool} (e : b ≡ owns c f (tokenAt c f (first + («end» - 1)))) where
+    module _ {b : Bool} (d : b ≡ describedAs false (nameIn (treeBy c f)) (tokenAt c f (first + («end» - 1)))) where
+      e : b ≡ owns c f (tokenAt c f (first + («end» - 1)))
+      e = owner-told (nameIn (treeBy c f)) (tokenAt c f (first + («end» - 1))) d
+
       pub backing-found : b ≡ true → TokenAt (first + («end» - 1)) ≡ whole
       backing-found g =
           let found : lastToken (owns c f) («end» - 1) (listFrom (tokenOf c f first) («end» - 1) (n - («end» - 1))) ≡ At

@@ -1,5 +1,5 @@
 // The signature of a node, found by three walks over its tokens.
-use crate::token::is_owner;
+use crate::token::is_descriptor;
 use text_places::Place;
 use tree_rule::NodeSignature;
 use tree_rule::Owner;
@@ -43,7 +43,7 @@ fn owner_before(tree: &[u8], counts: TreeCounts, first: usize, member: usize) ->
     let mut end = member;
     while 0 < end {
         let token = end - 1;
-        if is_owner(tree, counts, first + token) {
+        if is_descriptor(tree, counts, first + token, false) {
             return Owner::At(first + token);
         }
         end = token;

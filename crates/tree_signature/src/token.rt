@@ -8,33 +8,36 @@ ghost use mathlib.Core.Path.{_≡_};
 ghost use Prim.Native.Nat.{_<_};
 ghost use Rattle.tree_rule.specs.Trees.{nameIn};
 ghost use Rattle.tree_rule.specs.Files.{tokenAt, treeBy};
-ghost use Rattle.tree_rule.specs.Signatures.{opens, isOwner, namesMethod};
+ghost use Rattle.tree_rule.specs.Signatures.{namesMethod};
 ghost use Rattle.tree_rule.specs.Theorems.{FormedBy};
+ghost use Rattle.tree_signature.specs.inner.Tokens.{startsAs, describedAs};
 
-// "starting `(`".
-fn starts_open(text: &[u8]) -> bool
-    ensures { λ r. ⌜ r ≡ opens (now (text .entry)) ⌝ }
+// Whether a text starts `(` or does not, as `opening` asks.
+fn starts_as(text: &[u8], opening: bool) -> bool
+    ensures { λ r. ⌜ r ≡ startsAs opening (now (text .entry)) ⌝ }
 {
     if text.len() < 1 {
-        return false;
+        return !opening;
     }
-    text[0] == b'('
+    if text[0] == b'(' {
+        return opening;
+    }
+    !opening
 }
 
-// Whether a token is a "descriptor not starting `(`", by its raw name.
-pub(crate) fn is_owner(tree: &[u8], counts: TreeCounts, token: usize) -> bool
+// Whether a token is a descriptor that starts `(`, or one that does not, by its raw name.
+pub(crate) fn is_descriptor(tree: &[u8], counts: TreeCounts, token: usize, opening: bool) -> bool
     requires { ⌜ FormedBy counts (now tree) × (token < counts .tokens) ⌝ }
-    ensures { λ r. let f = now (tree .entry) in ⌜ r ≡ isOwner (nameIn (treeBy counts f)) (tokenAt counts f token) ⌝ }
+    ensures { λ r. let f = now (tree .entry) in ⌜ r ≡ describedAs opening (nameIn (treeBy counts f)) (tokenAt counts f token) ⌝ }
 {
     let at = tokens_start(counts) + 12 * token;
     match token_row(tree, at) {
         Token::Other { a: _, b: _ } => false,
         Token::MemberName { raw: _, display: _ } => false,
-        Token::Descriptor { raw, display: _ } => !starts_open(name_text(
-            tree,
-            counts,
-            raw as usize,
-        )),
+        Token::Descriptor { raw, display: _ } => starts_as(
+            name_text(tree, counts, raw as usize),
+            opening,
+        ),
         Token::SourceLine { raw: _, display: _ } => false,
     }
 }
@@ -44,11 +47,5 @@ pub fn names_method(tree: &[u8], counts: TreeCounts, token: usize) -> bool
     requires { ⌜ FormedBy counts (now tree) × (token < counts .tokens) ⌝ }
     ensures { λ r. let f = now (tree .entry) in ⌜ r ≡ namesMethod (nameIn (treeBy counts f)) (tokenAt counts f token) ⌝ }
 {
-    let at = tokens_start(counts) + 12 * token;
-    match token_row(tree, at) {
-        Token::Other { a: _, b: _ } => false,
-        Token::MemberName { raw: _, display: _ } => false,
-        Token::Descriptor { raw, display: _ } => starts_open(name_text(tree, counts, raw as usize)),
-        Token::SourceLine { raw: _, display: _ } => false,
-    }
+    is_descriptor(tree, counts, token, true)
 }

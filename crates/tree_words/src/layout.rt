@@ -29,25 +29,21 @@ pub fn tokens_start(counts: TreeCounts) -> usize
 pub fn names_start(counts: TreeCounts) -> usize
     ensures { λ r. ⌜ r ≡ namesStart counts ⌝ }
 {
-    16 + 8 * counts.nodes as usize + 12 * counts.tokens as usize
+    tokens_start(counts) + 12 * counts.tokens as usize
 }
 
 // Where the name bytes start.
 pub fn bytes_start(counts: TreeCounts) -> usize
     ensures { λ r. ⌜ r ≡ bytesStart counts ⌝ }
 {
-    16 + 8 * counts.nodes as usize + 12 * counts.tokens as usize + 8 * counts.names as usize
+    names_start(counts) + 8 * counts.names as usize
 }
 
 // The length of a file with these counts.
 pub fn file_length(counts: TreeCounts) -> usize
     ensures { λ r. ⌜ r ≡ fileLength counts ⌝ }
 {
-    16
-        + 8 * counts.nodes as usize
-        + 12 * counts.tokens as usize
-        + 8 * counts.names as usize
-        + counts.bytes as usize
+    bytes_start(counts) + counts.bytes as usize
 }
 
 // The name bytes of a file.

@@ -15,11 +15,11 @@ loop-holds c = search backing
 sub-token : tie.Need-sub-token Inv-loop μ-loop
 sub-token c = search backing
 
-add-is-owner : tie.Need-add-is-owner Inv-loop μ-loop
-add-is-owner c = search backing
+add-is-descriptor : tie.Need-add-is-descriptor Inv-loop μ-loop
+add-is-descriptor c = search backing
 
-is-owner-requires : tie.Need-is-owner-requires Inv-loop μ-loop
-is-owner-requires c κs = search backing
+is-descriptor-requires : tie.Need-is-descriptor-requires Inv-loop μ-loop
+is-descriptor-requires c κs = search backing
 
 add-t10 : tie.Need-add-t10 Inv-loop μ-loop
 add-t10 c = search backing
@@ -44,8 +44,8 @@ owner-before-spec =
     μ-loop
     loop-holds
     sub-token
-    add-is-owner
-    is-owner-requires
+    add-is-descriptor
+    is-descriptor-requires
     add-t10
     returns
     loop-less

@@ -1,69 +1,13 @@
 -- `tree_signature::token::names_method` meets its contract, by the laws of TokenLaws.
-use Rattle.tree_signature.proofs.TokenLaws.{token-tests}
+use Rattle.tree_signature.proofs.TokenLaws.{meanings}
 use Rattle.tree_signature.proofs.token.names_method.Statement.{statement}
 use Rattle.tree_signature.proofs.token.names_method.Tie as tie
 
-tokens-start-requires : tie.Need-tokens-start-requires
-tokens-start-requires c κs = search token-tests
-
-mul-at : tie.Need-mul-at
-mul-at c = search token-tests
-
-add-at : tie.Need-add-at
-add-at c = search token-tests
-
-token-row-requires : tie.Need-token-row-requires
-token-row-requires c κs = search token-tests
-
-enum-told : tie.Need-enum-told
-enum-told c = search token-tests
-
-enum-told-2 : tie.Need-enum-told-2
-enum-told-2 c = search token-tests
-
-enum-known-raw : tie.Need-enum-known-raw
-enum-known-raw c = search token-tests
-
-cast-name-text : tie.Need-cast-name-text
-cast-name-text c = search token-tests
-
-name-text-requires : tie.Need-name-text-requires
-name-text-requires c κs = search token-tests
-
-starts-open-requires : tie.Need-starts-open-requires
-starts-open-requires c κs = search token-tests
-
-enum-told-3 : tie.Need-enum-told-3
-enum-told-3 c = search token-tests
+is-descriptor-requires : tie.Need-is-descriptor-requires
+is-descriptor-requires c κs = search meanings
 
 returns : tie.Need-returns
-returns c = search token-tests
-
-returns-2 : tie.Need-returns-2
-returns-2 c = search token-tests
-
-returns-3 : tie.Need-returns-3
-returns-3 c = search token-tests
-
-returns-4 : tie.Need-returns-4
-returns-4 c = search token-tests
+returns c = search meanings
 
 pub names-method-spec : {M : Type 1} → statement M
-names-method-spec =
-    tie.close
-    (tie.spec
-    tokens-start-requires
-    mul-at
-    add-at
-    token-row-requires
-    enum-told
-    enum-told-2
-    enum-known-raw
-    cast-name-text
-    name-text-requires
-    starts-open-requires
-    enum-told-3
-    returns
-    returns-2
-    returns-3
-    returns-4)
+names-method-spec = tie.close (tie.spec is-descriptor-requires returns)

@@ -1,7 +1,7 @@
--- `tree_signature::token::is_owner` meets its contract, by the laws of TokenLaws.
+-- `tree_signature::token::is_descriptor` meets its contract, by the laws of TokenLaws.
 use Rattle.tree_signature.proofs.TokenLaws.{token-tests}
-use Rattle.tree_signature.proofs.token.is_owner.Statement.{statement}
-use Rattle.tree_signature.proofs.token.is_owner.Tie as tie
+use Rattle.tree_signature.proofs.token.is_descriptor.Statement.{statement}
+use Rattle.tree_signature.proofs.token.is_descriptor.Tie as tie
 
 tokens-start-requires : tie.Need-tokens-start-requires
 tokens-start-requires c κs = search token-tests
@@ -30,8 +30,8 @@ cast-name-text c = search token-tests
 name-text-requires : tie.Need-name-text-requires
 name-text-requires c κs = search token-tests
 
-starts-open-requires : tie.Need-starts-open-requires
-starts-open-requires c κs = search token-tests
+starts-as-requires : tie.Need-starts-as-requires
+starts-as-requires c κs = search token-tests
 
 enum-told-3 : tie.Need-enum-told-3
 enum-told-3 c = search token-tests
@@ -48,8 +48,8 @@ returns-3 c = search token-tests
 returns-4 : tie.Need-returns-4
 returns-4 c = search token-tests
 
-pub is-owner-spec : {M : Type 1} → statement M
-is-owner-spec =
+pub is-descriptor-spec : {M : Type 1} → statement M
+is-descriptor-spec =
     tie.close
     (tie.spec
     tokens-start-requires
@@ -61,7 +61,7 @@ is-owner-spec =
     enum-known-raw
     cast-name-text
     name-text-requires
-    starts-open-requires
+    starts-as-requires
     enum-told-3
     returns
     returns-2
