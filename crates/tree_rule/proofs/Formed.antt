@@ -1,36 +1,19 @@
 -- What the checks of a tree file say, as plain facts, and the other way. Nothing else opens `wellFormedFile`. Assumes nothing.
-use mathlib.Core.Path.{_≡_, refl, sym, _∙_, ap}
-use mathlib.Core.Bool.{Bool, true, false}
+use mathlib.Core.Path.{_≡_, sym, _∙_, subst}
+use mathlib.Core.Bool.{Bool, true, false, not}
 use mathlib.Core.List.{List}
-use Prim.Native.Nat.{ℕ, _+_, _*_, _-_, _≤_, _<_}
+use Prim.Native.Nat.{ℕ, _+_, _*_, _-_, _≤_}
 use native.Mathlib.Omega.{arith}
-use lib.Dec.{eqb, leb, ltb}
+use lib.Dec.{eqb, leb}
 use lib.ListN.{length}
-use borrow.Author.Tests.{le-leb, lt-ltb, eq-eqb, leb-true, ltb-true, eqb-true}
+use borrow.Author.Tests.{le-leb, lt-ltb, eq-eqb, leb-true, ltb-true, eqb-true, not-false}
 use Rattle.ground.specs.Choice.{both}
 use Rattle.ground.proofs.Cases.{both-left, both-right}
-use Rattle.tables.specs.Check.{isUtf8}
 use Rattle.tree_rule.specs.declared.TreeCounts.{TreeCounts}
 use Rattle.tree_rule.specs.declared.RowCheck.the-variants.{Fine}
 use Rattle.tree_rule.specs.Words.{sumFrom}
 use Rattle.tree_rule.specs.Files.{countsIn, fileLength, tokensStart, parentAt, tokenCountAt, nameAt}
-use Rattle.tree_rule.specs.Checks.{
-  firstFaulty,
-  allFine,
-  lengthAgrees,
-  rootFine,
-  parentLower,
-  faultyParent,
-  countsSum,
-  tokenRowFine,
-  faultyToken,
-  nameInside,
-  faultyName,
-  nameUtf8,
-  faultyText,
-  checksPass,
-  wellFormedFile,
-}
+use Rattle.tree_rule.specs.Checks.{allFine, lengthAgrees, rootFine, parentLower, faultyParent, countsSum, tokenRowFine, faultyToken, nameInside, faultyName, nameUtf8, faultyText, checksPass, wellFormedFile}
 use Rattle.tree_rule.specs.Theorems.{FormedBy, FormedTree}
 use Rattle.tree_rule.proofs.RowLaws.{fine-each, each-fine, fine-told}
 
@@ -95,3 +78,14 @@ formed-tree f e = formed-by (countsIn f) f e
 
 pub formed-file : (f : List ℕ) → FormedTree f → wellFormedFile f ≡ true
 formed-file f k = checks-pass (countsIn f) f k
+
+-- after the code's own test: the counts can be read, and the file is well formed by them
+module _ (f : List ℕ) {b : Bool} (e : b ≡ wellFormedFile f) (n : not b ≡ false) where
+  formed-told : FormedTree f
+  formed-told = formed-tree f (sym e ∙ not-false b n)
+
+  pub head-inside : 16 ≤ length f
+  head-inside = let k = formed-told in omega (arith, k .size)
+
+  pub formed-with : {c : TreeCounts} → c ≡ countsIn f → FormedBy c f
+  formed-with g = subst (λ x. FormedBy x f) (sym g) formed-told

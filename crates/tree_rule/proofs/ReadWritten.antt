@@ -1,15 +1,12 @@
 -- A tree that was written is read again. Assumes nothing.
 use mathlib.Core.Path.{_≡_, refl, sym, _∙_, ap}
-use mathlib.Core.Bool.{Bool, true, false}
-use mathlib.Core.List.{List, [], _∷_, _++_, map, append-assoc, append-nil}
-use Prim.Native.Nat.{ℕ, zero, suc, _+_, _*_, _-_, _≤_, _<_}
-use native.Mathlib.Nat.{mul-suc, mul-zero, add-zero, add-assoc}
+use mathlib.Core.List.{List, [], _∷_, _++_, map, append-assoc}
+use Prim.Native.Nat.{ℕ, suc, _+_, _*_, _-_}
+use native.Mathlib.Nat.{mul-suc}
 use native.Mathlib.Omega.{arith}
-use lib.Dec.{eqb}
-use lib.ListN.{length, take, drop, length-append}
+use lib.ListN.{length, drop, length-append}
 use lib.Seq.{drop-drop, drop-at, take-all}
 use borrow.Author.Tests.{ne-eqb}
-use Rattle.ground.specs.Choice.{pick}
 use Rattle.ground.specs.Join.{join}
 use Rattle.table_rows.specs.declared.rows.Text.{Text}
 use Rattle.tree_rule.specs.declared.TreeCounts.{TreeCounts}
@@ -46,7 +43,7 @@ use Rattle.tree_rule.specs.Files.{
   writtenTree,
 }
 use Rattle.tree_rule.specs.Theorems.{Word, ParentFits, TokenFits, NameFits, Every, every-none, every-one, Writable}
-use Rattle.tree_rule.proofs.WordLaws.{word-written, bytes-length, past-word}
+use Rattle.tree_rule.proofs.WordLaws.{word-written, past-word}
 
 -- Texts one after the other.
 pub join-append : (a b : List (List ℕ)) → join (a ++ b) ≡ join a ++ join b

@@ -1,21 +1,20 @@
 -- The nodes and names of a tree that was read, by their rows in the file. Assumes nothing.
 use mathlib.Core.Path.{_≡_, refl, sym, _∙_, ap}
 use mathlib.Core.Bool.{Bool, true, false}
-use mathlib.Core.List.{List, []}
+use mathlib.Core.List.{List}
 use Prim.Native.Nat.{ℕ, zero, suc, _+_, _*_, _-_, _≤_, _<_}
 use native.Mathlib.Nat.{not-suc-le-zero}
 use native.Mathlib.Omega.{arith}
 use lib.Dec.{eqb, ltb}
 use lib.ListN.{length, getD, take, drop, length-drop}
 use borrow.Author.Tests.{ltb-true, eqb-true}
-use Rattle.ground.specs.Choice.{pick, both}
+use Rattle.ground.specs.Choice.{both}
 use Rattle.ground.proofs.Cases.{both-left, both-right}
 use Rattle.ground.proofs.Parts.{take-rest}
 use Rattle.table_rows.specs.Rows.{text}
 use Rattle.tables.specs.Back.{textIn}
 use Rattle.tree_rule.specs.declared.TreeCounts.{TreeCounts}
-use Rattle.tree_rule.specs.declared.Token.{Token}
-use Rattle.tree_rule.specs.declared.Token.the-variants.{Other, MemberName, Descriptor, SourceLine}
+use Rattle.tree_rule.specs.declared.Token.the-variants.{Descriptor}
 use Rattle.tree_rule.specs.Words.{wordAt, listFrom, sumFrom}
 use Rattle.tree_rule.specs.Trees.{Node, nameIn}
 use Rattle.tree_rule.specs.Files.{
@@ -33,7 +32,7 @@ use Rattle.tree_rule.specs.Files.{
   nodesFrom,
   treeBy,
 }
-use Rattle.tree_rule.specs.Checks.{tokenFine, tokenRowFine}
+use Rattle.tree_rule.specs.Checks.{tokenFine}
 use Rattle.tree_rule.specs.Theorems.{FormedBy, NamesBelow}
 use Rattle.tree_rule.proofs.RowLaws.{list-at, sum-append, sum-less}
 

@@ -1,45 +1,17 @@
 -- A well-formed file, read and written, is the file. Assumes nothing.
 use mathlib.Core.Path.{_≡_, refl, sym, _∙_, ap}
 use mathlib.Core.Bool.{Bool, true, false}
-use mathlib.Core.List.{List, [], _∷_, _++_, map, append-assoc}
+use mathlib.Core.List.{List, _++_, map, append-assoc}
 use Prim.Native.Nat.{ℕ, zero, suc, _+_, _*_, _-_, _≤_, _<_}
 use native.Mathlib.Omega.{arith}
 use lib.Dec.{eqb}
 use lib.ListN.{length, getD, drop}
 use borrow.Author.Tests.{eqb-true}
-use Rattle.ground.specs.Choice.{pick, both}
 use Rattle.ground.specs.Join.{join}
 use Rattle.ground.proofs.Cases.{clash}
 use Rattle.tree_rule.specs.declared.TreeCounts.{TreeCounts}
 use Rattle.tree_rule.specs.Words.{wordAt, wordBytes, listFrom, sumFrom}
-use Rattle.tree_rule.specs.Trees.{Node, Tree}
-use Rattle.tree_rule.specs.Files.{
-  countsIn,
-  tokensStart,
-  namesStart,
-  bytesStart,
-  fileLength,
-  parentAt,
-  tokenCountAt,
-  tokenBy,
-  tokenRow,
-  tokenAt,
-  nameAt,
-  bytesIn,
-  parentBy,
-  nodesFrom,
-  treeBy,
-  readTree,
-  allTokens,
-  parentWord,
-  nodeBytes,
-  threeWords,
-  tokenBytes,
-  nameBytes,
-  countBytes,
-  countsOf,
-  writtenTree,
-}
+use Rattle.tree_rule.specs.Files.{countsIn, tokensStart, namesStart, bytesStart, parentAt, tokenCountAt, tokenBy, tokenAt, nameAt, bytesIn, parentBy, nodesFrom, treeBy, readTree, allTokens, parentWord, nodeBytes, threeWords, tokenBytes, nameBytes, countBytes, countsOf, writtenTree}
 use Rattle.tree_rule.specs.Checks.{tokenFine}
 use Rattle.tree_rule.specs.Theorems.{FormedBy, FormedTree}
 use Rattle.tree_rule.proofs.WordLaws.{word-part}

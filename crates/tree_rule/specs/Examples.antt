@@ -3,7 +3,7 @@ use mathlib.Core.Path.{_≡_, refl}
 use mathlib.Core.Bool.{Bool, true, false}
 use mathlib.Core.List.{List, [], _∷_, _++_, map}
 use Prim.Native.Nat.{ℕ}
-use lib.ListN.{length, getD, take}
+use lib.ListN.{length, getD, set, take, replicate}
 use Rattle.ground.specs.Ascii.{ascii}
 use Rattle.ground.specs.Join.{join}
 use Rattle.text_utf8.specs.Utf8.{leadOf, tails, afterLead, sequenceOf, piecesFrom, checkFrom}
@@ -15,10 +15,11 @@ use Rattle.tree_rule.specs.declared.Owner.the-variants.{Given, At}
 use Rattle.tree_rule.specs.declared.NodeSignature.{NodeSignature}
 use Rattle.tree_rule.specs.declared.NodeSignature.the-variants.{Absent, Present}
 use Rattle.tree_rule.specs.Words.{wordAt, wordBytes, listFrom, sumFrom}
-use Rattle.tree_rule.specs.Trees.{noParent, parentRow, Node, Tree, other, memberName, descriptor, sourceLine, meaningOf}
-use Rattle.tree_rule.specs.Files.{treeCounts, countsIn, fileLength, nodesFrom, readTree, allTokens, writtenTree}
+use Rattle.tree_rule.specs.Trees.{noParent, parentRow, Tree, other, memberName, descriptor, sourceLine, meaningOf}
+use Rattle.tree_rule.specs.Files.{treeCounts, countsIn, nodesFrom, readTree, allTokens, writtenTree}
 use Rattle.tree_rule.specs.Checks.{
   firstFaulty,
+  allFine,
   lengthAgrees,
   rootFine,
   faultyParent,
@@ -100,36 +101,51 @@ token = 1 ∷ 0 ∷ 0 ∷ []
 abbrev name : List ℕ
 name = 1 ∷ 2 ∷ []
 
--- the checks that follow a check that fails are not asked; here every other one passes
+abbrev whole : List ℕ
+whole = spoilt counts root child grandchild token name
+
+-- what each check says, in document 01's order
+abbrev checked : List ℕ → List Bool
+checked f =
+    let c = countsIn f in
+    lengthAgrees c f ∷ rootFine c f ∷ allFine (faultyParent c f) ∷ countsSum c f ∷ allFine (faultyToken c f) ∷ allFine (faultyName c f) ∷
+    allFine (faultyText c f) ∷ []
+
+-- one check fails, by its place in that order from 0, and the others pass
+abbrev only : ℕ → List Bool
+only k = set (replicate 7 true) k false
+
 formed :
-    (wellFormedFile (spoilt counts root child grandchild token name) ≡ true)
-    -- the length: nothing, a byte missing, a byte too many, counts that are too large for any file
+    (wellFormedFile whole ≡ true)
+    × (checked whole ≡ replicate 7 true)
+    -- the length: a byte missing, a byte too many, nothing, counts that are too large for any file
+    × (checked (take 74 (spoilt counts root child grandchild token (0 ∷ 1 ∷ []))) ≡ only 0)
+    × (checked (whole ++ (0 ∷ [])) ≡ only 0)
     × (wellFormedFile [] ≡ false)
-    × (wellFormedFile (take 74 (spoilt counts root child grandchild token name)) ≡ false)
-    × (wellFormedFile (spoilt (3 ∷ 2 ∷ 1 ∷ 2 ∷ []) root child grandchild token (1 ∷ 0 ∷ [])) ≡ false)
     × (lengthAgrees (treeCounts 536870912 0 0 0) (ascii "1234567890123456") ≡ false)
     -- the root: it has a parent, or there is no node
-    × (wellFormedFile (spoilt counts (0 ∷ 0 ∷ []) child grandchild token name) ≡ false)
-    × (rootFine (treeCounts 0 0 0 0) (take 16 (spoilt counts root child grandchild token name)) ≡ false)
-    -- a parent is a row that is not lower, its own row
-    × (wellFormedFile (spoilt counts root child (2 ∷ 1 ∷ []) token name) ≡ false)
-    × (wellFormedFile (spoilt counts root (4294967295 ∷ 1 ∷ []) grandchild token name) ≡ false)
+    × (checked (spoilt counts (0 ∷ 0 ∷ []) child grandchild token name) ≡ only 1)
+    × (checked (replicate 16 0) ≡ only 1)
+    -- a parent that is its own row, one that says "no parent"
+    × (checked (spoilt counts root child (2 ∷ 1 ∷ []) token name) ≡ only 2)
+    × (checked (spoilt counts root (4294967295 ∷ 1 ∷ []) grandchild token name) ≡ only 2)
     -- token counts that sum to less, to more
-    × (wellFormedFile (spoilt counts root (0 ∷ 0 ∷ []) grandchild token name) ≡ false)
-    × (wellFormedFile (spoilt counts root (0 ∷ 2 ∷ []) grandchild token name) ≡ false)
-    -- another kind, a raw name and a display name that are not there
-    × (wellFormedFile (spoilt counts root child grandchild (4 ∷ 0 ∷ 0 ∷ []) name) ≡ false)
-    × (wellFormedFile (spoilt counts root child grandchild (1 ∷ 1 ∷ 0 ∷ []) name) ≡ false)
-    × (wellFormedFile (spoilt counts root child grandchild (2 ∷ 0 ∷ 1 ∷ []) name) ≡ false)
+    × (checked (spoilt counts root (0 ∷ 0 ∷ []) grandchild token name) ≡ only 3)
+    × (checked (spoilt counts root (0 ∷ 2 ∷ []) grandchild token name) ≡ only 3)
+    -- another kind, a raw name and a display name that are not there; a source line's numbers are no names
+    × (checked (spoilt counts root child grandchild (4 ∷ 0 ∷ 0 ∷ []) name) ≡ only 4)
+    × (checked (spoilt counts root child grandchild (1 ∷ 1 ∷ 0 ∷ []) name) ≡ only 4)
+    × (checked (spoilt counts root child grandchild (2 ∷ 0 ∷ 1 ∷ []) name) ≡ only 4)
     × (wellFormedFile (spoilt counts root child grandchild (3 ∷ 1 ∷ 1 ∷ []) name) ≡ true)
-    -- a name that ends one byte past the last, an empty one at the end and one past it
-    × (wellFormedFile (spoilt counts root child grandchild token (1 ∷ 3 ∷ [])) ≡ false)
+    -- a name that ends one byte past the last; an empty one at the end, and one past it
+    × (checked (spoilt counts root child grandchild token (1 ∷ 3 ∷ [])) ≡ only 5)
     × (wellFormedFile (spoilt counts root child grandchild token (3 ∷ 0 ∷ [])) ≡ true)
-    × (wellFormedFile (spoilt counts root child grandchild token (4 ∷ 0 ∷ [])) ≡ false)
+    × (checked (spoilt counts root child grandchild token (4 ∷ 0 ∷ [])) ≡ only 5)
     -- a name that is not UTF-8
+    × (checked (spoilt counts root child grandchild token (1 ∷ 1 ∷ [])) ≡ only 6)
     × (wellFormedFile (spoilt counts root child grandchild token (1 ∷ 1 ∷ [])) ≡ false)
 unfolding ascii join wordAt wordBytes sumFrom firstFaulty checkFrom piecesFrom sequenceOf afterLead leadOf tails
-formed = (refl, refl, refl, refl, refl, refl, refl, refl, refl, refl, refl, refl, refl, refl, refl, refl, refl, refl, refl)
+formed = (refl, refl, refl, refl, refl, refl, refl, refl, refl, refl, refl, refl, refl, refl, refl, refl, refl, refl, refl, refl, refl)
 
 -- each check by itself says which row fails first
 abbrev spoiltTwice : List ℕ

@@ -9,19 +9,9 @@ use Rattle.tables.specs.Check.{isUtf8}
 use Rattle.tree_rule.specs.declared.TreeCounts.{TreeCounts}
 use Rattle.tree_rule.specs.declared.Token.{Token}
 use Rattle.tree_rule.specs.declared.Token.the-variants.{Other, MemberName, Descriptor, SourceLine}
-use Rattle.tree_rule.specs.Words.{wordAt, sumFrom}
-use Rattle.tree_rule.specs.Trees.{Parent, noParent, parentRow, Node, Tree}
-use Rattle.tree_rule.specs.Files.{
-  countsIn,
-  fileLength,
-  tokensStart,
-  parentAt,
-  tokenCountAt,
-  nameAt,
-  nameText,
-  allTokens,
-  writtenTree,
-}
+use Rattle.tree_rule.specs.Words.{sumFrom}
+use Rattle.tree_rule.specs.Trees.{Parent, noParent, parentRow, Tree}
+use Rattle.tree_rule.specs.Files.{countsIn, fileLength, tokensStart, parentAt, tokenCountAt, nameAt, nameText, allTokens}
 use Rattle.tree_rule.specs.Checks.{tokenRowFine}
 
 -- What the checks say, as plain facts: a file with these counts is well formed.

@@ -1,12 +1,11 @@
 -- Walks over the tokens of a node, forwards and backwards. Assumes nothing.
 use mathlib.Core.Path.{_≡_, refl, sym, _∙_, ap}
 use mathlib.Core.Bool.{Bool, true, false}
-use mathlib.Core.List.{List, [], _∷_}
+use mathlib.Core.List.{List, _∷_}
 use Prim.Native.Nat.{ℕ, zero, suc, _+_, _*_, _-_, _≤_, _<_}
 use native.Mathlib.Numerals.{add-one}
 use native.Mathlib.Omega.{arith}
 use lib.Dec.{eqb}
-use lib.ListN.{length}
 use borrow.Author.Tests.{eq-eqb, ne-eqb, eqb-true, eqb-false}
 use borrow.Author.Needs.{needs}
 use Rattle.ground.specs.Choice.{pick}
@@ -15,12 +14,11 @@ use Rattle.text_places.specs.declared.find.Place.the-variants.{At, Nowhere}
 use Rattle.text_places.specs.Places.{orElse}
 use Rattle.tree_rule.specs.declared.TreeCounts.{TreeCounts}
 use Rattle.tree_rule.specs.declared.Token.{Token}
-use Rattle.tree_rule.specs.declared.Token.the-variants.{Other, MemberName, Descriptor, SourceLine}
 use Rattle.tree_rule.specs.declared.Owner.{Owner}
 use Rattle.tree_rule.specs.declared.Owner.the-variants.{Given, At as TokenAt}
 use Rattle.tree_rule.specs.Words.{wordAt, listFrom}
 use Rattle.tree_rule.specs.Trees.{nameIn}
-use Rattle.tree_rule.specs.Files.{tokenBy, tokenRow, tokenAt, treeBy}
+use Rattle.tree_rule.specs.Files.{tokenBy, tokenAt, treeBy}
 use Rattle.tree_rule.specs.Signatures.{firstToken, lastToken, isOwner, ownerBy, ownerFrom}
 use Rattle.tree_signature.specs.inner.Tokens.{kindOf, ofKind, rowOf, tokenOf, describedAs}
 use Rattle.tree_signature.proofs.TokenLaws.{owner-told}

@@ -1,19 +1,15 @@
 -- Numbers, rows and names of a tree file, as the code reads them. Assumes nothing.
-use mathlib.Core.Path.{_≡_, refl, sym, _∙_, ap}
+use mathlib.Core.Path.{_≡_, _∙_, ap}
 use mathlib.Core.List.{List}
-use Prim.Native.Nat.{ℕ, _+_, _*_, _-_, _≤_, _<_}
-use native.Mathlib.Omega.{arith}
-use lib.Dec.{eqb}
-use lib.ListN.{length, getD, take, drop}
+use Prim.Native.Nat.{ℕ, _+_, _*_, _-_}
+use lib.ListN.{getD}
 use borrow.Author.Tests.{eq-eqb, ne-eqb}
 use borrow.Author.Needs.{needs}
-use Rattle.ground.specs.Choice.{pick}
 use Rattle.ground.specs.Put.{between}
 use Rattle.table_rows.specs.declared.rows.Text.{Text}
 use Rattle.table_rows.specs.Rows.{text}
 use Rattle.tables.specs.Back.{textIn}
 use Rattle.tree_rule.specs.declared.TreeCounts.{TreeCounts}
-use Rattle.tree_rule.specs.declared.Token.{Token}
 use Rattle.tree_rule.specs.declared.Token.the-variants.{Other, MemberName, Descriptor, SourceLine}
 use Rattle.tree_rule.specs.Words.{wordAt}
 use Rattle.tree_rule.specs.Files.{treeCounts, countsIn, namesStart, bytesStart, fileLength, tokenBy, tokenRow, nameRow, bytesIn, nameText}
