@@ -13,7 +13,22 @@ use Rattle.tree_rule.specs.declared.TreeCounts.{TreeCounts}
 use Rattle.tree_rule.specs.declared.RowCheck.the-variants.{Fine}
 use Rattle.tree_rule.specs.Words.{sumFrom}
 use Rattle.tree_rule.specs.Files.{countsIn, fileLength, tokensStart, parentAt, tokenCountAt, nameAt}
-use Rattle.tree_rule.specs.Checks.{allFine, lengthAgrees, rootFine, parentLower, faultyParent, countsSum, tokenRowFine, faultyToken, nameInside, faultyName, nameUtf8, faultyText, checksPass, wellFormedFile}
+use Rattle.tree_rule.specs.Checks.{
+  allFine,
+  lengthAgrees,
+  rootFine,
+  parentLower,
+  faultyParent,
+  countsSum,
+  tokenRowFine,
+  faultyToken,
+  nameInside,
+  faultyName,
+  nameUtf8,
+  faultyText,
+  checksPass,
+  wellFormedFile,
+}
 use Rattle.tree_rule.specs.Theorems.{FormedBy, FormedTree}
 use Rattle.tree_rule.proofs.RowLaws.{fine-each, each-fine, fine-told}
 

@@ -5,3 +5,4 @@ pub mod Formed
 pub mod Reading
 pub mod ReadWritten
 pub mod WrittenRead
+pub mod Writing

@@ -1,10 +1,10 @@
 -- Rows by their numbers: lists, sums, and the first faulty one. Assumes nothing.
-use mathlib.Core.Path.{_≡_, refl, _∙_, ap}
+use mathlib.Core.Path.{_≡_, refl}
 use mathlib.Core.Bool.{Bool, true, false}
 use mathlib.Core.List.{_++_}
 use mathlib.Core.Logic.{_⊎_, inl, inr}
 use Prim.Native.Nat.{ℕ, zero, suc, _+_, _-_, _≤_, _<_}
-use native.Mathlib.Nat.{not-suc-le-zero, add-zero}
+use native.Mathlib.Nat.{not-suc-le-zero}
 use native.Mathlib.Omega.{arith}
 use lib.ListN.{length, getD, take, drop}
 use Rattle.ground.specs.Choice.{pick}
@@ -78,12 +78,6 @@ module _ (f : ℕ → ℕ) where
   -- a sum of fewer is no greater
   pub sum-less : (i n m : ℕ) → n ≤ m → sumFrom f i n ≤ sumFrom f i m
   sum-less i n m h = let e : m ≡ n + (m - n) = omega arith in rw e (rw (sum-append i n (m - n)) (omega arith))
-
-  pub sum-suc : (i n : ℕ) → sumFrom f i (suc n) ≡ sumFrom f i n + f (i + n)
-  unfolding sumFrom
-  sum-suc i n =
-      let e : suc n ≡ n + 1 = omega arith in
-      ap (sumFrom f i) e ∙ sum-append i n 1 ∙ ap (λ x. sumFrom f i n + x) (add-zero (f (i + n)))
 
 -- The first faulty row.
 module _ (p : ℕ → Bool) where

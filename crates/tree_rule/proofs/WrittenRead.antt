@@ -11,7 +11,31 @@ use Rattle.ground.specs.Join.{join}
 use Rattle.ground.proofs.Cases.{clash}
 use Rattle.tree_rule.specs.declared.TreeCounts.{TreeCounts}
 use Rattle.tree_rule.specs.Words.{wordAt, wordBytes, listFrom, sumFrom}
-use Rattle.tree_rule.specs.Files.{countsIn, tokensStart, namesStart, bytesStart, parentAt, tokenCountAt, tokenBy, tokenAt, nameAt, bytesIn, parentBy, nodesFrom, treeBy, readTree, allTokens, parentWord, nodeBytes, threeWords, tokenBytes, nameBytes, countBytes, countsOf, writtenTree}
+use Rattle.tree_rule.specs.Files.{
+  countsIn,
+  tokensStart,
+  namesStart,
+  bytesStart,
+  parentAt,
+  tokenCountAt,
+  tokenBy,
+  tokenAt,
+  nameAt,
+  bytesIn,
+  parentBy,
+  nodesFrom,
+  treeBy,
+  readTree,
+  allTokens,
+  parentWord,
+  nodeBytes,
+  threeWords,
+  tokenBytes,
+  nameBytes,
+  countBytes,
+  countsOf,
+  writtenTree,
+}
 use Rattle.tree_rule.specs.Checks.{tokenFine}
 use Rattle.tree_rule.specs.Theorems.{FormedBy, FormedTree}
 use Rattle.tree_rule.proofs.WordLaws.{word-part}

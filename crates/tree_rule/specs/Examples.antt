@@ -108,7 +108,8 @@ whole = spoilt counts root child grandchild token name
 abbrev checked : List ℕ → List Bool
 checked f =
     let c = countsIn f in
-    lengthAgrees c f ∷ rootFine c f ∷ allFine (faultyParent c f) ∷ countsSum c f ∷ allFine (faultyToken c f) ∷ allFine (faultyName c f) ∷
+    lengthAgrees c f ∷ rootFine c f ∷ allFine (faultyParent c f) ∷ countsSum c f ∷ allFine (faultyToken c f) ∷ allFine
+    (faultyName c f) ∷
     allFine (faultyText c f) ∷ []
 
 -- one check fails, by its place in that order from 0, and the others pass
