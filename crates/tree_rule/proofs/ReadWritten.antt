@@ -34,10 +34,10 @@ use Rattle.tree_rule.specs.Files.{
   readTree,
   allTokens,
   parentWord,
-  nodeBytes,
+  nodeRowBytes,
   threeWords,
-  tokenBytes,
-  nameBytes,
+  tokenRowBytes,
+  nameRowBytes,
   countBytes,
   countsOf,
   writtenTree,
@@ -117,13 +117,13 @@ module _ (f : List ℕ) where
       tokenRow f at ≡ tokenBy kind a b
   by-words at kind a b r p q h e = let w = three-read at kind a b r p q h e in rw (w .0, w .1, w .2)
 
-  pub token-read : (at : ℕ) (t : Token) (r : List ℕ) → TokenFits t → drop at f ≡ tokenBytes t ++ r → tokenRow f at ≡ t
+  pub token-read : (at : ℕ) (t : Token) (r : List ℕ) → TokenFits t → drop at f ≡ tokenRowBytes t ++ r → tokenRow f at ≡ t
   token-read at (Other a b) r p e = by-words at 0 a b r (omega arith) (p .0) (p .1) e
   token-read at (MemberName a b) r p e = by-words at 1 a b r (omega arith) (p .0) (p .1) e
   token-read at (Descriptor a b) r p e = by-words at 2 a b r (omega arith) (p .0) (p .1) e
   token-read at (SourceLine a b) r p e = by-words at 3 a b r (omega arith) (p .0) (p .1) e
 
-  pub name-read : (at : ℕ) (n : Text) (r : List ℕ) → NameFits n → drop at f ≡ nameBytes n ++ r → nameRow f at ≡ n
+  pub name-read : (at : ℕ) (n : Text) (r : List ℕ) → NameFits n → drop at f ≡ nameRowBytes n ++ r → nameRow f at ≡ n
   name-read at n r p e = let w = two-read at (n .place) (n .length) r (p .0) (p .1) e in rw (w .0, w .1)
 
 pub two-length : (x y : ℕ) → length (wordBytes x ++ wordBytes y) ≡ 8
@@ -134,16 +134,16 @@ three-length : (x y z : ℕ) → length (threeWords x y z) ≡ 12
 unfolding wordBytes
 three-length x y z = refl
 
-pub token-length : (t : Token) → length (tokenBytes t) ≡ 12
+pub token-length : (t : Token) → length (tokenRowBytes t) ≡ 12
 token-length (Other a b) = three-length 0 a b
 token-length (MemberName a b) = three-length 1 a b
 token-length (Descriptor a b) = three-length 2 a b
 token-length (SourceLine a b) = three-length 3 a b
 
-pub node-length : (n : Node) → length (nodeBytes n) ≡ 8
+pub node-length : (n : Node) → length (nodeRowBytes n) ≡ 8
 node-length n = two-length (parentWord (n .parent)) (length (n .tokens))
 
-pub name-length : (n : Text) → length (nameBytes n) ≡ 8
+pub name-length : (n : Text) → length (nameRowBytes n) ≡ 8
 name-length n = two-length (n .place) (n .length)
 
 -- a parent
@@ -161,40 +161,41 @@ module _ (c : TreeCounts) (f : List ℕ) where
   tokensFrom t n = listFrom (tokenAt c f) t n
 
   tokens-read : (l : List Token) (t : ℕ) (r : List ℕ) → Every TokenFits l →
-      drop (tokensStart c + 12 * t) f ≡ join (map tokenBytes l) ++ r →
+      drop (tokensStart c + 12 * t) f ≡ join (map tokenRowBytes l) ++ r →
       tokensFrom t (length l) ≡ l
-  tokens-read l t r p e = rows-read tokenBytes 12 (tokensStart c) f token-length tokenRow TokenFits (token-read f) l t r p e
+  tokens-read l t r p e = rows-read tokenRowBytes 12 (tokensStart c) f token-length tokenRow TokenFits (token-read f) l t r p e
 
-  tokens-past : (l : List Token) (t : ℕ) (r : List ℕ) → drop (tokensStart c + 12 * t) f ≡ join (map tokenBytes l) ++ r →
+  tokens-past : (l : List Token) (t : ℕ) (r : List ℕ) → drop (tokensStart c + 12 * t) f ≡ join (map tokenRowBytes l) ++ r →
       drop (tokensStart c + 12 * (t + length l)) f ≡ r
-  tokens-past l t r e = rows-past tokenBytes 12 (tokensStart c) f token-length l t r e
+  tokens-past l t r e = rows-past tokenRowBytes 12 (tokensStart c) f token-length l t r e
 
   pub nodes-read : (ns : List Node) (i t : ℕ) (r q : List ℕ) → Every (λ n. ParentFits (n .parent)) ns →
       Every TokenFits (allTokens ns) →
-      Word (length (allTokens ns)) → drop (16 + 8 * i) f ≡ join (map nodeBytes ns) ++ r →
-      drop (tokensStart c + 12 * t) f ≡ join (map tokenBytes (allTokens ns)) ++ q → nodesFrom c f i t (length ns) ≡ ns
+      Word (length (allTokens ns)) → drop (16 + 8 * i) f ≡ join (map nodeRowBytes ns) ++ r →
+      drop (tokensStart c + 12 * t) f ≡ join (map tokenRowBytes (allTokens ns)) ++ q → nodesFrom c f i t (length ns) ≡ ns
   unfolding nodesFrom allTokens join
   nodes-read [] i t r q ps ts h e g = refl
   nodes-read (n ∷ ns) i t r q (every-one p ps) ts h e g =
-      let first : drop (16 + 8 * i) f ≡ nodeBytes n ++ (join (map nodeBytes ns) ++ r) = e
-      ∙ append-assoc (nodeBytes n) (join (map nodeBytes ns)) r in
+      let first : drop (16 + 8 * i) f ≡ nodeRowBytes n ++ (join (map nodeRowBytes ns) ++ r) = e
+      ∙ append-assoc (nodeRowBytes n) (join (map nodeRowBytes ns)) r in
       let fits : Word (length (n .tokens)) = omega (arith, length-append (n .tokens) (allTokens ns)) in
-      let words = two-read f (16 + 8 * i) (parentWord (n .parent)) (length (n .tokens)) (join (map nodeBytes ns) ++ r)
+      let words = two-read f (16 + 8 * i) (parentWord (n .parent)) (length (n .tokens)) (join (map nodeRowBytes ns) ++ r)
       (parent-word (n .parent) p) fits first in
       let parent : parentBy (parentAt f i) ≡ n .parent = ap parentBy (words .0) ∙ parent-again (n .parent) p in
       let more : 16 + 8 * suc i ≡ 16 + 8 * i + 8 = omega arith in
-      let next : drop (16 + 8 * suc i) f ≡ join (map nodeBytes ns) ++ r =
+      let next : drop (16 + 8 * suc i) f ≡ join (map nodeRowBytes ns) ++ r =
       ap (λ k. drop k f) more ∙ sym (drop-drop 8 (16 + 8 * i) f) ∙ ap (drop 8) first
-      ∙ drop-at (nodeBytes n) (join (map nodeBytes ns) ++ r) 8 (node-length n) in
-      let split : drop (tokensStart c + 12 * t) f ≡ join (map tokenBytes (n .tokens)) ++ (join (map tokenBytes (allTokens ns)) ++ q) =
-      g ∙ ap (λ l. l ++ q) (ap join (map-append tokenBytes (n .tokens) (allTokens ns))
-      ∙ join-append (map tokenBytes (n .tokens)) (map tokenBytes (allTokens ns)))
-      ∙ append-assoc (join (map tokenBytes (n .tokens))) (join (map tokenBytes (allTokens ns))) q in
+      ∙ drop-at (nodeRowBytes n) (join (map nodeRowBytes ns) ++ r) 8 (node-length n) in
+      let split : drop (tokensStart c + 12 * t) f ≡ join (map tokenRowBytes (n .tokens)) ++
+      (join (map tokenRowBytes (allTokens ns)) ++ q) =
+      g ∙ ap (λ l. l ++ q) (ap join (map-append tokenRowBytes (n .tokens) (allTokens ns))
+      ∙ join-append (map tokenRowBytes (n .tokens)) (map tokenRowBytes (allTokens ns)))
+      ∙ append-assoc (join (map tokenRowBytes (n .tokens))) (join (map tokenRowBytes (allTokens ns))) q in
       let tokens : tokensFrom t (tokenCountAt f i) ≡ n .tokens =
       ap (tokensFrom t) (words .1)
-      ∙ tokens-read (n .tokens) t (join (map tokenBytes (allTokens ns)) ++ q) (every-front (n .tokens) (allTokens ns) ts) split in
-      let onward : drop (tokensStart c + 12 * (t + length (n .tokens))) f ≡ join (map tokenBytes (allTokens ns)) ++ q =
-      tokens-past (n .tokens) t (join (map tokenBytes (allTokens ns)) ++ q) split in
+      ∙ tokens-read (n .tokens) t (join (map tokenRowBytes (allTokens ns)) ++ q) (every-front (n .tokens) (allTokens ns) ts) split in
+      let onward : drop (tokensStart c + 12 * (t + length (n .tokens))) f ≡ join (map tokenRowBytes (allTokens ns)) ++ q =
+      tokens-past (n .tokens) t (join (map tokenRowBytes (allTokens ns)) ++ q) split in
       let rest : nodesFrom c f (suc i) (t + tokenCountAt f i) (length ns) ≡ ns =
       ap (λ k. nodesFrom c f (suc i) (t + k) (length ns)) (words .1) ∙ nodes-read ns (suc i) (t + length (n .tokens)) r q ps
       (every-back (n .tokens) (allTokens ns) ts) (omega (arith, length-append (n .tokens) (allTokens ns))) next onward in
@@ -238,13 +239,13 @@ module _ (f : List ℕ) (c : TreeCounts) (r : List ℕ) (e : f ≡ countBytes c 
 -- The whole.
 module _ (t : Tree) where
   abbrev nodePart : List ℕ
-  nodePart = join (map nodeBytes (t .nodes))
+  nodePart = join (map nodeRowBytes (t .nodes))
 
   abbrev tokenPart : List ℕ
-  tokenPart = join (map tokenBytes (allTokens (t .nodes)))
+  tokenPart = join (map tokenRowBytes (allTokens (t .nodes)))
 
   abbrev namePart : List ℕ
-  namePart = join (map nameBytes (t .names))
+  namePart = join (map nameRowBytes (t .names))
 
   abbrev f : List ℕ
   f = writtenTree t
@@ -258,18 +259,18 @@ module _ (t : Tree) where
   at-tokens : drop (tokensStart c + 12 * 0) f ≡ tokenPart ++ (namePart ++ t .bytes)
   at-tokens =
       let z : tokensStart c + 12 * 0 ≡ 16 + 8 * (0 + length (t .nodes)) = omega arith in
-      ap (λ n. drop n f) z ∙ rows-past nodeBytes 8 16 f node-length (t .nodes) 0 (tokenPart ++ (namePart ++ t .bytes)) at-nodes
+      ap (λ n. drop n f) z ∙ rows-past nodeRowBytes 8 16 f node-length (t .nodes) 0 (tokenPart ++ (namePart ++ t .bytes)) at-nodes
 
   at-names : drop (namesStart c + 8 * 0) f ≡ namePart ++ t .bytes
   at-names =
       let z : namesStart c + 8 * 0 ≡ tokensStart c + 12 * (0 + length (allTokens (t .nodes))) = omega arith in
       ap (λ n. drop n f) z
-      ∙ rows-past tokenBytes 12 (tokensStart c) f token-length (allTokens (t .nodes)) 0 (namePart ++ t .bytes) at-tokens
+      ∙ rows-past tokenRowBytes 12 (tokensStart c) f token-length (allTokens (t .nodes)) 0 (namePart ++ t .bytes) at-tokens
 
   at-bytes : drop (bytesStart c) f ≡ t .bytes
   at-bytes =
       let z : bytesStart c ≡ namesStart c + 8 * (0 + length (t .names)) = omega arith in
-      ap (λ n. drop n f) z ∙ rows-past nameBytes 8 (namesStart c) f name-length (t .names) 0 (t .bytes) at-names
+      ap (λ n. drop n f) z ∙ rows-past nameRowBytes 8 (namesStart c) f name-length (t .names) 0 (t .bytes) at-names
 
   bytes-read : bytesIn c f ≡ t .bytes
   bytes-read = rw at-bytes (take-all (fileLength c - bytesStart c) (t .bytes) (omega arith))
@@ -283,5 +284,5 @@ module _ (t : Tree) where
       nodes-read c f (t .nodes) 0 0 (tokenPart ++ (namePart ++ t .bytes)) (namePart ++ t .bytes) (w .parents) (w .tokens)
       (w .token-count) at-nodes at-tokens in
       let names : listFrom (nameAt c f) 0 (length (t .names)) ≡ t .names =
-      rows-read nameBytes 8 (namesStart c) f name-length nameRow NameFits (name-read f) (t .names) 0 (t .bytes) (w .names) at-names in
+      rows-read nameRowBytes 8 (namesStart c) f name-length nameRow NameFits (name-read f) (t .names) 0 (t .bytes) (w .names) at-names in
       ap (λ k. treeBy k f) counts ∙ rw (nodes, names, bytes-read)

@@ -27,7 +27,7 @@ use Rattle.tree_rule.specs.Files.{
   tokenAt,
   nameAt,
   bytesIn,
-  nameText,
+  textAt,
   parentBy,
   nodesFrom,
   treeBy,
@@ -82,7 +82,7 @@ module _ (c : TreeCounts) (f : List ℕ) where
       let b : 0 + sumFrom (tokenCountAt f) 0 i ≡ sumFrom (tokenCountAt f) 0 i = omega arith in
       nodes-at 0 0 (c .nodes) i z h ∙ rw (a, b)
 
-  pub name-at : (n : ℕ) → n < c .names → nameIn (treeBy c f) n ≡ nameText c f n
+  pub name-at : (n : ℕ) → n < c .names → nameIn (treeBy c f) n ≡ textAt c f n
   name-at n h = let a : 0 + n ≡ n = omega arith in
       ap (textIn (bytesIn c f)) (list-at (nameAt c f) 0 (c .names) n (text 0 0) h ∙ ap (nameAt c f) a)
 
@@ -107,7 +107,7 @@ module _ (c : TreeCounts) (f : List ℕ) where
 
     -- their texts are those of the tree
     pub raw-text : (i : ℕ) {raw display : ℕ} → i < c .tokens → tokenAt c f i ≡ Descriptor raw display →
-        nameIn (treeBy c f) raw ≡ nameText c f raw
+        nameIn (treeBy c f) raw ≡ textAt c f raw
     raw-text i {raw} {display} h e =
         let below : NamesBelow (c .names) (Descriptor raw display) = rw e at (token-names i h) in
         name-at raw (below .0)

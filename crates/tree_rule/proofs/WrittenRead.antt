@@ -28,10 +28,10 @@ use Rattle.tree_rule.specs.Files.{
   readTree,
   allTokens,
   parentWord,
-  nodeBytes,
+  nodeRowBytes,
   threeWords,
-  tokenBytes,
-  nameBytes,
+  tokenRowBytes,
+  nameRowBytes,
   countBytes,
   countsOf,
   writtenTree,
@@ -67,12 +67,12 @@ parent-kept w = go (eqb w 4294967295) refl
     go false e = rw e
 
 -- a token of one of the four kinds is written as it stood
-token-kept : (names kind a b : ℕ) → tokenFine names kind a b ≡ true → tokenBytes (tokenBy kind a b) ≡ threeWords kind a b
+token-kept : (names kind a b : ℕ) → tokenFine names kind a b ≡ true → tokenRowBytes (tokenBy kind a b) ≡ threeWords kind a b
 token-kept names kind a b e = go (eqb kind 0) refl (eqb kind 1) refl (eqb kind 2) refl (eqb kind 3) refl
   where
     go : (p : Bool) → eqb kind 0 ≡ p → (q : Bool) → eqb kind 1 ≡ q → (r : Bool) → eqb kind 2 ≡ r → (s : Bool) →
         eqb kind 3 ≡ s →
-        tokenBytes (tokenBy kind a b) ≡ threeWords kind a b
+        tokenRowBytes (tokenBy kind a b) ≡ threeWords kind a b
     go true g q h r i s j = rw (eqb-true kind 0 g)
     go false g true h r i s j = rw (eqb-true kind 1 h)
     go false g false h true i s j = rw (eqb-true kind 2 i)
@@ -110,7 +110,7 @@ module _ (c : TreeCounts) (f : List ℕ) where
   nodes-length i t zero = refl
   nodes-length i t (suc n) = rw (nodes-length (suc i) (t + tokenCountAt f i) n)
 
-  nodes-written : (i t n : ℕ) → map nodeBytes (nodesFrom c f i t n) ≡ listFrom nodeWords i n
+  nodes-written : (i t n : ℕ) → map nodeRowBytes (nodesFrom c f i t n) ≡ listFrom nodeWords i n
   unfolding nodesFrom listFrom
   nodes-written i t zero = refl
   nodes-written i t (suc n) =
@@ -126,7 +126,7 @@ module _ (c : TreeCounts) (f : List ℕ) where
 
   -- The stretches of a well-formed file.
   module _ (small : (i : ℕ) → getD f i 0 < 256) (k : FormedBy c f) where
-    node-stretch : drop 16 f ≡ join (map nodeBytes (nodesFrom c f 0 0 (c .nodes))) ++ drop (tokensStart c) f
+    node-stretch : drop 16 f ≡ join (map nodeRowBytes (nodesFrom c f 0 0 (c .nodes))) ++ drop (tokensStart c) f
     node-stretch =
         let z : 16 + 8 * 0 ≡ 16 = omega arith in
         let y : 16 + 8 * (0 + c .nodes) ≡ tokensStart c = omega arith in
@@ -136,11 +136,11 @@ module _ (c : TreeCounts) (f : List ℕ) where
         ap (λ n. drop n f) (sym z) ∙ cut ∙ ap (λ n. join (listFrom nodeWords 0 (c .nodes)) ++ drop n f) y
         ∙ ap (λ l. join l ++ drop (tokensStart c) f) (sym (nodes-written 0 0 (c .nodes)))
 
-    token-stretch : drop (tokensStart c) f ≡ join (map tokenBytes (listFrom (tokenAt c f) 0 (c .tokens))) ++ drop (namesStart c) f
+    token-stretch : drop (tokensStart c) f ≡ join (map tokenRowBytes (listFrom (tokenAt c f) 0 (c .tokens))) ++ drop (namesStart c) f
     token-stretch =
         let z : tokensStart c + 12 * 0 ≡ tokensStart c = omega arith in
         let y : tokensStart c + 12 * (0 + c .tokens) ≡ namesStart c = omega arith in
-        let h : ℕ → List ℕ = λ i. tokenBytes (tokenAt c f i) in
+        let h : ℕ → List ℕ = λ i. tokenRowBytes (tokenAt c f i) in
         let cut : drop (tokensStart c + 12 * 0) f ≡ join (listFrom h 0 (c .tokens)) ++ drop (tokensStart c + 12 * (0 + c .tokens)) f =
         rows-cut h f (λ i. tokensStart c + 12 * i) 0 (c .tokens)
         (λ i l. let next : tokensStart c + 12 * suc i ≡ tokensStart c + 12 * i + 12 = omega arith in
@@ -148,19 +148,19 @@ module _ (c : TreeCounts) (f : List ℕ) where
         rw next (three-cut f small at (omega (arith, k .size)) ∙ ap (λ b. b ++ drop (at + 12) f)
         (sym (token-kept (c .names) (wordAt f at) (wordAt f (at + 4)) (wordAt f (at + 8)) (k .tokens i (omega arith)))))) in
         ap (λ n. drop n f) (sym z) ∙ cut ∙ ap (λ n. join (listFrom h 0 (c .tokens)) ++ drop n f) y
-        ∙ ap (λ l. join l ++ drop (namesStart c) f) (sym (map-list tokenBytes (tokenAt c f) 0 (c .tokens)))
+        ∙ ap (λ l. join l ++ drop (namesStart c) f) (sym (map-list tokenRowBytes (tokenAt c f) 0 (c .tokens)))
 
-    name-stretch : drop (namesStart c) f ≡ join (map nameBytes (listFrom (nameAt c f) 0 (c .names))) ++ drop (bytesStart c) f
+    name-stretch : drop (namesStart c) f ≡ join (map nameRowBytes (listFrom (nameAt c f) 0 (c .names))) ++ drop (bytesStart c) f
     name-stretch =
         let z : namesStart c + 8 * 0 ≡ namesStart c = omega arith in
         let y : namesStart c + 8 * (0 + c .names) ≡ bytesStart c = omega arith in
-        let h : ℕ → List ℕ = λ i. nameBytes (nameAt c f i) in
+        let h : ℕ → List ℕ = λ i. nameRowBytes (nameAt c f i) in
         let cut : drop (namesStart c + 8 * 0) f ≡ join (listFrom h 0 (c .names)) ++ drop (namesStart c + 8 * (0 + c .names)) f =
         rows-cut h f (λ i. namesStart c + 8 * i) 0 (c .names) (λ i l. let next : namesStart c + 8 * suc i ≡ namesStart c + 8 * i + 8 =
         omega arith in
         rw next (two-cut f small (namesStart c + 8 * i) (omega (arith, k .size)))) in
         ap (λ n. drop n f) (sym z) ∙ cut ∙ ap (λ n. join (listFrom h 0 (c .names)) ++ drop n f) y
-        ∙ ap (λ l. join l ++ drop (bytesStart c) f) (sym (map-list nameBytes (nameAt c f) 0 (c .names)))
+        ∙ ap (λ l. join l ++ drop (bytesStart c) f) (sym (map-list nameRowBytes (nameAt c f) 0 (c .names)))
 
     pub counts-kept : countsOf (treeBy c f) ≡ c
     counts-kept =
@@ -177,8 +177,8 @@ module _ (c : TreeCounts) (f : List ℕ) where
     all-tokens = nodes-tokens 0 0 (c .nodes) ∙ ap (listFrom (tokenAt c f) 0) (k .sums)
 
     -- what stands behind the counts
-    pub body-kept : drop 16 f ≡ join (map nodeBytes (treeBy c f .nodes)) ++
-        (join (map tokenBytes (allTokens (treeBy c f .nodes))) ++ (join (map nameBytes (treeBy c f .names)) ++ bytesIn c f))
+    pub body-kept : drop 16 f ≡ join (map nodeRowBytes (treeBy c f .nodes)) ++
+        (join (map tokenRowBytes (allTokens (treeBy c f .nodes))) ++ (join (map nameRowBytes (treeBy c f .names)) ++ bytesIn c f))
     body-kept = rw (all-tokens, bytes-rest c f (k .size), ← name-stretch, ← token-stretch) node-stretch
 
 head-kept : (f : List ℕ) → ((i : ℕ) → getD f i 0 < 256) → 16 ≤ length f → f ≡ countBytes (countsIn f) ++ drop 16 f
@@ -190,7 +190,7 @@ head-kept f small h =
 pub written-read : (f : List ℕ) → ((i : ℕ) → getD f i 0 < 256) → FormedTree f → writtenTree (readTree f) ≡ f
 written-read f small k =
     let c : TreeCounts = countsIn f in
-    ap (λ n. countBytes n ++ (join (map nodeBytes (treeBy c f .nodes)) ++
-    (join (map tokenBytes (allTokens (treeBy c f .nodes))) ++ (join (map nameBytes (treeBy c f .names)) ++ bytesIn c f))))
+    ap (λ n. countBytes n ++ (join (map nodeRowBytes (treeBy c f .nodes)) ++
+    (join (map tokenRowBytes (allTokens (treeBy c f .nodes))) ++ (join (map nameRowBytes (treeBy c f .names)) ++ bytesIn c f))))
     (counts-kept c f small k)
     ∙ ap (λ l. countBytes c ++ l) (sym (body-kept c f small k)) ∙ sym (head-kept f small (omega (arith, k .size)))

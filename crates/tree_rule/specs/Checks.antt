@@ -11,7 +11,7 @@ use Rattle.tree_rule.specs.declared.TreeCounts.{TreeCounts}
 use Rattle.tree_rule.specs.declared.RowCheck.{RowCheck}
 use Rattle.tree_rule.specs.declared.RowCheck.the-variants.{Fine, Faulty}
 use Rattle.tree_rule.specs.Words.{wordAt, sumFrom}
-use Rattle.tree_rule.specs.Files.{countsIn, fileLength, tokensStart, parentAt, tokenCountAt, nameAt, nameText}
+use Rattle.tree_rule.specs.Files.{countsIn, fileLength, tokensStart, parentAt, tokenCountAt, nameAt, textAt}
 
 -- the first of `n` rows, from row `i` on, of which `fine` does not hold
 unfoldable pub firstFaulty : (ℕ → Bool) → ℕ → ℕ → RowCheck
@@ -66,7 +66,7 @@ faultyName c f = firstFaulty (nameInside c f) 0 (c .names)
 
 -- "and UTF-8"
 abbrev pub nameUtf8 : TreeCounts → List ℕ → ℕ → Bool
-nameUtf8 c f i = isUtf8 (nameText c f i)
+nameUtf8 c f i = isUtf8 (textAt c f i)
 
 abbrev pub faultyText : TreeCounts → List ℕ → RowCheck
 faultyText c f = firstFaulty (nameUtf8 c f) 0 (c .names)

@@ -71,8 +71,8 @@ nameAt c f i = nameRow f (namesStart c + 8 * i)
 abbrev pub bytesIn : TreeCounts → List ℕ → List ℕ
 bytesIn c f = between f (bytesStart c) (fileLength c)
 
-abbrev pub nameText : TreeCounts → List ℕ → ℕ → List ℕ
-nameText c f i = textIn (bytesIn c f) (nameAt c f i)
+abbrev pub textAt : TreeCounts → List ℕ → ℕ → List ℕ
+textAt c f i = textIn (bytesIn c f) (nameAt c f i)
 
 -- Reading. It answers any bytes: what a file that fails a check is read to, nobody asks.
 
@@ -102,20 +102,20 @@ abbrev pub parentWord : Parent → ℕ
 parentWord noParent = 0xFFFFFFFF
 parentWord (parentRow p) = p
 
-abbrev pub nodeBytes : Node → List ℕ
-nodeBytes n = wordBytes (parentWord (n .parent)) ++ wordBytes (length (n .tokens))
+abbrev pub nodeRowBytes : Node → List ℕ
+nodeRowBytes n = wordBytes (parentWord (n .parent)) ++ wordBytes (length (n .tokens))
 
 abbrev pub threeWords : ℕ → ℕ → ℕ → List ℕ
 threeWords x y z = wordBytes x ++ (wordBytes y ++ wordBytes z)
 
-abbrev pub tokenBytes : Token → List ℕ
-tokenBytes (Other a b) = threeWords 0 a b
-tokenBytes (MemberName raw display) = threeWords 1 raw display
-tokenBytes (Descriptor raw display) = threeWords 2 raw display
-tokenBytes (SourceLine raw display) = threeWords 3 raw display
+abbrev pub tokenRowBytes : Token → List ℕ
+tokenRowBytes (Other a b) = threeWords 0 a b
+tokenRowBytes (MemberName raw display) = threeWords 1 raw display
+tokenRowBytes (Descriptor raw display) = threeWords 2 raw display
+tokenRowBytes (SourceLine raw display) = threeWords 3 raw display
 
-abbrev pub nameBytes : Text → List ℕ
-nameBytes n = wordBytes (n .place) ++ wordBytes (n .length)
+abbrev pub nameRowBytes : Text → List ℕ
+nameRowBytes n = wordBytes (n .place) ++ wordBytes (n .length)
 
 abbrev pub countBytes : TreeCounts → List ℕ
 countBytes c = wordBytes (c .nodes) ++ (wordBytes (c .tokens) ++ (wordBytes (c .names) ++ wordBytes (c .bytes)))
@@ -127,4 +127,5 @@ countsOf t = treeCounts (length (t .nodes)) (length (allTokens (t .nodes))) (len
 abbrev pub writtenTree : Tree → List ℕ
 writtenTree t =
     countBytes (countsOf t) ++
-    (join (map nodeBytes (t .nodes)) ++ (join (map tokenBytes (allTokens (t .nodes))) ++ (join (map nameBytes (t .names)) ++ t .bytes)))
+    (join (map nodeRowBytes (t .nodes)) ++
+    (join (map tokenRowBytes (allTokens (t .nodes))) ++ (join (map nameRowBytes (t .names)) ++ t .bytes)))

@@ -66,12 +66,12 @@ abbrev pub ownerBy : Place → Owner
 ownerBy (At i) = TokenAt i
 ownerBy Nowhere = Given
 
-abbrev pub signatureBy : ℕ → Place → Owner → NodeSignature
-signatureBy member (At descriptor) owner = Present member descriptor owner
-signatureBy member Nowhere owner = Absent
+abbrev pub signatureWith : ℕ → Place → Owner → NodeSignature
+signatureWith member (At descriptor) owner = Present member descriptor owner
+signatureWith member Nowhere owner = Absent
 
 abbrev pub signatureFor : (ℕ → List ℕ) → List Token → Place → NodeSignature
-signatureFor name ts (At member) = signatureBy member (descriptorPlace member ts) (ownerBy (ownerPlace name member ts))
+signatureFor name ts (At member) = signatureWith member (descriptorPlace member ts) (ownerBy (ownerPlace name member ts))
 signatureFor name ts Nowhere = Absent
 
 -- the signature of a node with these tokens, by places among them

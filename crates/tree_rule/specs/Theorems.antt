@@ -11,7 +11,7 @@ use Rattle.tree_rule.specs.declared.Token.{Token}
 use Rattle.tree_rule.specs.declared.Token.the-variants.{Other, MemberName, Descriptor, SourceLine}
 use Rattle.tree_rule.specs.Words.{sumFrom}
 use Rattle.tree_rule.specs.Trees.{Parent, noParent, parentRow, Tree}
-use Rattle.tree_rule.specs.Files.{countsIn, fileLength, tokensStart, parentAt, tokenCountAt, nameAt, nameText, allTokens}
+use Rattle.tree_rule.specs.Files.{countsIn, fileLength, tokensStart, parentAt, tokenCountAt, nameAt, textAt, allTokens}
 use Rattle.tree_rule.specs.Checks.{tokenRowFine}
 
 -- What the checks say, as plain facts: a file with these counts is well formed.
@@ -23,7 +23,7 @@ pub record FormedBy (c : TreeCounts) (f : List ℕ) : Type 0 where
   pub sums : sumFrom (tokenCountAt f) 0 (c .nodes) ≡ c .tokens
   pub tokens : (i : ℕ) → i < c .tokens → tokenRowFine c f (tokensStart c + 12 * i) ≡ true
   pub inside : (i : ℕ) → i < c .names → nameAt c f i .place + nameAt c f i .length ≤ c .bytes
-  pub utf8 : (i : ℕ) → i < c .names → isUtf8 (nameText c f i) ≡ true
+  pub utf8 : (i : ℕ) → i < c .names → isUtf8 (textAt c f i) ≡ true
 
 -- what the check of texts rests on: names inside the name bytes
 pub record NamesLie (c : TreeCounts) (f : List ℕ) : Type 0 where

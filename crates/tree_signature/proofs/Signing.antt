@@ -30,7 +30,7 @@ use Rattle.tree_rule.specs.Signatures.{
   descriptorPlace,
   ownerPlace,
   ownerBy,
-  signatureBy,
+  signatureWith,
   signatureFor,
   nodeSignature,
   ownerFrom,
@@ -118,7 +118,7 @@ module _ (c : TreeCounts) (f : List ℕ) (first count : ℕ) where
             pub member-fits : Fits w64 (first + m)
             member-fits = let j = member-inside in record { fits = omega (arith, k .size) }
 
-        signed-member : signed ≡ signatureFrom first (signatureBy m (descriptorPlace m ts) (ownerBy (ownerPlace name m ts)))
+        signed-member : signed ≡ signatureFrom first (signatureWith m (descriptorPlace m ts) (ownerBy (ownerPlace name m ts)))
         signed-member = ap (λ x. signatureFrom first (signatureFor name ts x)) (sym member-found ∙ h)
 
         module _ {q : Place} (k : q ≡ firstToken (ofKind 2) (m + 1) (listFrom (rowOf f (a + 12 * first)) (m + 1) (count - (m + 1)))) where
@@ -132,7 +132,7 @@ module _ (c : TreeCounts) (f : List ℕ) (first count : ℕ) where
           pub no-descriptor : q ≡ Nowhere → Absent ≡ signed
           no-descriptor l =
               sym (signed-member
-              ∙ ap (λ x. signatureFrom first (signatureBy m x (ownerBy (ownerPlace name m ts)))) (sym descriptor-found ∙ l))
+              ∙ ap (λ x. signatureFrom first (signatureWith m x (ownerBy (ownerPlace name m ts)))) (sym descriptor-found ∙ l))
 
           module _ {d : ℕ} (l : q ≡ At d) where
             descriptor-inside : d < count
@@ -155,7 +155,7 @@ module _ (c : TreeCounts) (f : List ℕ) (first count : ℕ) where
                 ap (tokenAt c f) z)
                 ∙ sym (list-take (tokenAt c f) first count m (let j = member-inside in omega arith)) in
                 sym (signed-member
-                ∙ ap (λ x. signatureFrom first (signatureBy m x (ownerBy (ownerPlace name m ts)))) (sym descriptor-found ∙ l)
+                ∙ ap (λ x. signatureFrom first (signatureWith m x (ownerBy (ownerPlace name m ts)))) (sym descriptor-found ∙ l)
                 ∙ ap (Present (first + m) (first + d)) (sym (u
                 ∙ ap (λ x. ownerFrom first (ownerBy (lastToken (isOwner name) 0 x))) before)))
 

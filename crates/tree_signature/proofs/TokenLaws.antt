@@ -12,7 +12,7 @@ use Rattle.tree_rule.specs.declared.TreeCounts.{TreeCounts}
 use Rattle.tree_rule.specs.declared.Token.{Token}
 use Rattle.tree_rule.specs.declared.Token.the-variants.{Other, MemberName, Descriptor, SourceLine}
 use Rattle.tree_rule.specs.Trees.{nameIn}
-use Rattle.tree_rule.specs.Files.{fileLength, tokensStart, tokenRow, tokenAt, nameText, treeBy}
+use Rattle.tree_rule.specs.Files.{fileLength, tokensStart, tokenRow, tokenAt, textAt, treeBy}
 use Rattle.tree_rule.specs.Signatures.{opens, isOwner, namesMethod}
 use Rattle.tree_rule.specs.Theorems.{FormedBy, NamesBelow}
 use Rattle.tree_rule.proofs.Reading.{token-names, raw-text}
@@ -54,7 +54,7 @@ module _ (opening : Bool) (c : TreeCounts) (f : List ℕ) (i : ℕ) {a : ℕ} (e
     of-line h = ap (describedAs opening name) (sym (here ∙ h))
 
     module _ (h : t ≡ Descriptor x y) (k : FormedBy c f) (l : i < c .tokens) where
-      pub of-descriptor : {s : List ℕ} → s ≡ nameText c f x → {b : Bool} → b ≡ startsAs opening s →
+      pub of-descriptor : {s : List ℕ} → s ≡ textAt c f x → {b : Bool} → b ≡ startsAs opening s →
           b ≡ describedAs opening name (tokenAt c f i)
       of-descriptor w o = o ∙ ap (startsAs opening) (w ∙ sym (raw-text c f k i l (here ∙ h)))
           ∙ ap (describedAs opening name) (sym (here ∙ h))

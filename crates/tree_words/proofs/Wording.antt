@@ -12,7 +12,7 @@ use Rattle.tables.specs.Back.{textIn}
 use Rattle.tree_rule.specs.declared.TreeCounts.{TreeCounts}
 use Rattle.tree_rule.specs.declared.Token.the-variants.{Other, MemberName, Descriptor, SourceLine}
 use Rattle.tree_rule.specs.Words.{wordAt}
-use Rattle.tree_rule.specs.Files.{treeCounts, countsIn, namesStart, bytesStart, fileLength, tokenBy, tokenRow, nameRow, bytesIn, nameText}
+use Rattle.tree_rule.specs.Files.{treeCounts, countsIn, namesStart, bytesStart, fileLength, tokenBy, tokenRow, nameRow, bytesIn, textAt}
 
 -- A number: four bytes.
 pub word-told : (f : List ℕ) (at : ℕ) {a b c d : ℕ} → a ≡ getD f at 0 → b ≡ getD f (at + 1) 0 →
@@ -61,7 +61,7 @@ pub ruleset rows = (name-row-told, member-told, descriptor-told, line-told, othe
 module _ (c : TreeCounts) (f : List ℕ) (i : ℕ) where
   pub name-told : {a : ℕ} → a ≡ namesStart c → {n : Text} → n ≡ nameRow f (a + 8 * i) → {b : List ℕ} →
       b ≡ bytesIn c f → {t : List ℕ} → t ≡ textIn b n →
-      t ≡ nameText c f i
+      t ≡ textAt c f i
   name-told e {n} g h k = k ∙ ap (λ x. textIn x n) h ∙ ap (textIn (bytesIn c f)) (g ∙ ap (λ x. nameRow f (x + 8 * i)) e)
 
 pub ruleset naming = (name-told, needs)

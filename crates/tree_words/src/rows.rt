@@ -9,7 +9,7 @@ ghost use mathlib.Core.Path.{_≡_};
 ghost use Prim.Native.Nat.{_+_, _*_, _≤_, _<_};
 ghost use lib.ListN.{length};
 ghost use Rattle.tree_rule.specs.Words.{wordAt};
-ghost use Rattle.tree_rule.specs.Files.{nodesStart, fileLength, parentAt, tokenCountAt, tokenRow, nameRow, nameText};
+ghost use Rattle.tree_rule.specs.Files.{nodesStart, fileLength, parentAt, tokenCountAt, tokenRow, nameRow, textAt};
 
 fn wide(b: u8) -> u32
     ensures { λ r. ⌜ (r ≡ b) × (b < 256) ⌝ }
@@ -76,7 +76,7 @@ pub fn name_row(tree: &[u8], at: usize) -> Text
 // The text of a name. Of one that reaches past the name bytes, what stands among them.
 pub fn name_text(tree: &[u8], counts: TreeCounts, name: usize) -> &[u8]
     requires { ⌜ (fileLength counts ≤ length (now tree)) × (name < counts .names) ⌝ }
-    ensures { λ r. ⌜ now r ≡ nameText counts (now (tree .entry)) name ⌝ }
+    ensures { λ r. ⌜ now r ≡ textAt counts (now (tree .entry)) name ⌝ }
 {
     let row = name_row(tree, names_start(counts) + 8 * name);
     text_in(name_bytes(tree, counts), row)
