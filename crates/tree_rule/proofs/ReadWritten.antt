@@ -8,6 +8,7 @@ use lib.ListN.{length, drop, length-append}
 use lib.Seq.{drop-drop, drop-at, take-all}
 use borrow.Author.Tests.{ne-eqb}
 use Rattle.ground.specs.Join.{join}
+use Rattle.ground.proofs.Joins.{join-append}
 use Rattle.table_rows.specs.declared.rows.Text.{Text}
 use Rattle.tree_rule.specs.declared.TreeCounts.{TreeCounts}
 use Rattle.tree_rule.specs.declared.Token.{Token}
@@ -44,16 +45,6 @@ use Rattle.tree_rule.specs.Files.{
 }
 use Rattle.tree_rule.specs.Theorems.{Word, ParentFits, TokenFits, NameFits, Every, every-none, every-one, Writable}
 use Rattle.tree_rule.proofs.WordLaws.{word-written, past-word}
-
--- Texts one after the other.
-pub join-append : (a b : List (List ℕ)) → join (a ++ b) ≡ join a ++ join b
-unfolding join
-join-append [] b = refl
-join-append (x ∷ a) b = rw (join-append a b, append-assoc)
-
-pub map-append : {A : Type 0} (enc : A → List ℕ) (a b : List A) → map enc (a ++ b) ≡ map enc a ++ map enc b
-map-append enc [] b = refl
-map-append enc (x ∷ a) b = rw (map-append enc a b)
 
 every-front : {A : Type 0} {P : A → Type 0} (a b : List A) → Every P (a ++ b) → Every P a
 every-front [] b e = every-none
@@ -188,8 +179,7 @@ module _ (c : TreeCounts) (f : List ℕ) where
       ∙ drop-at (nodeRowBytes n) (join (map nodeRowBytes ns) ++ r) 8 (node-length n) in
       let split : drop (tokensStart c + 12 * t) f ≡ join (map tokenRowBytes (n .tokens)) ++
       (join (map tokenRowBytes (allTokens ns)) ++ q) =
-      g ∙ ap (λ l. l ++ q) (ap join (map-append tokenRowBytes (n .tokens) (allTokens ns))
-      ∙ join-append (map tokenRowBytes (n .tokens)) (map tokenRowBytes (allTokens ns)))
+      g ∙ ap (λ l. l ++ q) (join-append tokenRowBytes (n .tokens) (allTokens ns))
       ∙ append-assoc (join (map tokenRowBytes (n .tokens))) (join (map tokenRowBytes (allTokens ns))) q in
       let tokens : tokensFrom t (tokenCountAt f i) ≡ n .tokens =
       ap (tokensFrom t) (words .1)
