@@ -1,6 +1,5 @@
-// The checks of a tree file, in document 01's order, for refusal 12. `well_formed_tree` takes any bytes; each check by itself requires
-// that the
-// checks before it which it rests on have passed.
+// The checks of a tree file, in document 01's order, for refusal 12. `well_formed_tree` takes any bytes; a check by itself requires that
+// the checks which it rests on have passed.
 mod names;
 mod nodes;
 mod tokens;

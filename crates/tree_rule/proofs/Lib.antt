@@ -6,3 +6,4 @@ pub mod Reading
 pub mod ReadWritten
 pub mod WrittenRead
 pub mod Writing
+pub mod Sound

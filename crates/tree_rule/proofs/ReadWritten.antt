@@ -57,7 +57,7 @@ every-back (x ∷ a) b (every-one p e) = every-back a b e
 -- Rows of `w` bytes from the place `base` on, that are read one by one.
 module _ {A : Type 0} (enc : A → List ℕ) (w base : ℕ) (f : List ℕ) (size : (x : A) → length (enc x) ≡ w) where
   -- behind the first row
-  rows-next : (i : ℕ) (x : A) (l : List A) (r : List ℕ) → drop (base + w * i) f ≡ join (map enc (x ∷ l)) ++ r →
+  pub rows-next : (i : ℕ) (x : A) (l : List A) (r : List ℕ) → drop (base + w * i) f ≡ join (map enc (x ∷ l)) ++ r →
       (drop (base + w * i) f ≡ enc x ++ (join (map enc l) ++ r)) × (drop (base + w * suc i) f ≡ join (map enc l) ++ r)
   unfolding join
   rows-next i x l r e =
@@ -95,7 +95,7 @@ module _ (f : List ℕ) where
       (word-written f at x (wordBytes y ++ r) p first, word-written f (at + 4) y r q second)
 
   -- three of them
-  three-read : (at x y z : ℕ) (r : List ℕ) → Word x → Word y → Word z → drop at f ≡ threeWords x y z ++ r →
+  pub three-read : (at x y z : ℕ) (r : List ℕ) → Word x → Word y → Word z → drop at f ≡ threeWords x y z ++ r →
       (wordAt f at ≡ x) × (wordAt f (at + 4) ≡ y) × (wordAt f (at + 8) ≡ z)
   three-read at x y z r p q h e =
       let first : drop at f ≡ wordBytes x ++ ((wordBytes y ++ wordBytes z) ++ r) = e
@@ -246,7 +246,7 @@ module _ (t : Tree) where
   at-nodes : drop (16 + 8 * 0) f ≡ nodePart ++ (tokenPart ++ (namePart ++ t .bytes))
   at-nodes = after-counts f c (nodePart ++ (tokenPart ++ (namePart ++ t .bytes))) refl
 
-  at-tokens : drop (tokensStart c + 12 * 0) f ≡ tokenPart ++ (namePart ++ t .bytes)
+  pub at-tokens : drop (tokensStart c + 12 * 0) f ≡ tokenPart ++ (namePart ++ t .bytes)
   at-tokens =
       let z : tokensStart c + 12 * 0 ≡ 16 + 8 * (0 + length (t .nodes)) = omega arith in
       ap (λ n. drop n f) z ∙ rows-past nodeRowBytes 8 16 f node-length (t .nodes) 0 (tokenPart ++ (namePart ++ t .bytes)) at-nodes
@@ -265,14 +265,20 @@ module _ (t : Tree) where
   bytes-read : bytesIn c f ≡ t .bytes
   bytes-read = rw at-bytes (take-all (fileLength c - bytesStart c) (t .bytes) (omega arith))
 
-  pub read-written : Writable t → readTree (writtenTree t) ≡ t
-  read-written w =
-      let counts : countsIn f ≡ c =
+  -- its counts are those at the head of its file
+  pub counts-again : Writable t → countsIn f ≡ c
+  counts-again w =
       counts-read f c (nodePart ++ (tokenPart ++ (namePart ++ t .bytes))) refl (w .node-count) (w .token-count) (w .name-count)
-      (w .byte-count) in
+      (w .byte-count)
+
+  pub tree-again : Writable t → treeBy (countsOf t) (writtenTree t) ≡ t
+  tree-again w =
       let nodes : nodesFrom c f 0 0 (length (t .nodes)) ≡ t .nodes =
       nodes-read c f (t .nodes) 0 0 (tokenPart ++ (namePart ++ t .bytes)) (namePart ++ t .bytes) (w .parents) (w .tokens)
       (w .token-count) at-nodes at-tokens in
       let names : listFrom (nameAt c f) 0 (length (t .names)) ≡ t .names =
       rows-read nameRowBytes 8 (namesStart c) f name-length nameRow NameFits (name-read f) (t .names) 0 (t .bytes) (w .names) at-names in
-      ap (λ k. treeBy k f) counts ∙ rw (nodes, names, bytes-read)
+      rw (nodes, names, bytes-read)
+
+  pub read-written : Writable t → readTree (writtenTree t) ≡ t
+  read-written w = ap (λ k. treeBy k f) (counts-again w) ∙ tree-again w

@@ -1,7 +1,7 @@
 -- Rows by their numbers: lists, sums, and the first faulty one. Assumes nothing.
 use mathlib.Core.Path.{_≡_, refl}
 use mathlib.Core.Bool.{Bool, true, false}
-use mathlib.Core.List.{_++_}
+use mathlib.Core.List.{List, [], _∷_, _++_}
 use mathlib.Core.Logic.{_⊎_, inl, inr}
 use Prim.Native.Nat.{ℕ, zero, suc, _+_, _-_, _≤_, _<_}
 use native.Mathlib.Nat.{not-suc-le-zero}
@@ -13,7 +13,7 @@ use Rattle.tree_rule.specs.declared.RowCheck.{RowCheck}
 use Rattle.tree_rule.specs.declared.RowCheck.the-variants.{Fine, Faulty}
 use Rattle.tree_rule.specs.Words.{listFrom, sumFrom}
 use Rattle.tree_rule.specs.Checks.{firstFaulty, allFine}
-use Rattle.tree_rule.specs.Theorems.{FaultyRow}
+use Rattle.tree_rule.specs.Theorems.{Every, every-none, every-one, FaultyRow}
 
 -- Lists.
 module _ {A : Type 0} (f : ℕ → A) where
@@ -64,6 +64,19 @@ module _ {A : Type 0} (f : ℕ → A) where
         list-same g (suc i) (suc j) n (λ k h. let c : suc i + k ≡ i + suc k = omega arith in
             let d : suc j + k ≡ j + suc k = omega arith in rw (c, d) (e (suc k) (omega arith))),
       )
+
+-- Every element, by its number.
+pub every-at : {A : Type 0} {P : A → Type 0} (z : A) (l : List A) → Every P l → (i : ℕ) → i < length l → P (getD l i z)
+every-at z [] e i h = absurd (not-suc-le-zero h)
+every-at z (x ∷ l) (every-one p e) zero h = p
+every-at z (x ∷ l) (every-one p e) (suc i) h = every-at z l e i (omega arith)
+
+pub every-row : {A : Type 0} (P : A → Type 0) (g : ℕ → A) (i n : ℕ) → ((k : ℕ) → i ≤ k → k < i + n → P (g k)) →
+    Every P (listFrom g i n)
+unfolding listFrom
+every-row P g i zero h = every-none
+every-row P g i (suc n) h =
+    every-one (h i (omega arith) (omega arith)) (every-row P g (suc i) n (λ k l u. h k (omega arith) (omega arith)))
 
 -- Sums.
 module _ (f : ℕ → ℕ) where

@@ -34,14 +34,9 @@ use Rattle.tree_rule.specs.Theorems.{
   Writable,
 }
 use Rattle.tree_rule.proofs.WordLaws.{word-small}
-use Rattle.tree_rule.proofs.RowLaws.{list-length}
+use Rattle.tree_rule.proofs.RowLaws.{list-length, every-row}
 use Rattle.tree_rule.proofs.Reading.{bytes-count}
 use Rattle.tree_rule.proofs.WrittenRead.{nodes-length, nodes-tokens}
-
-every-list : {A : Type 0} (P : A → Type 0) (g : ℕ → A) → ((k : ℕ) → P (g k)) → (i n : ℕ) → Every P (listFrom g i n)
-unfolding listFrom
-every-list P g h i zero = every-none
-every-list P g h i (suc n) = every-one (h i) (every-list P g h (suc i) n)
 
 parent-fits : (w : ℕ) → Word w → ParentFits (parentBy w)
 parent-fits w h = go (eqb w 4294967295) refl
@@ -85,6 +80,6 @@ module _ (f : List ℕ) (small : (i : ℕ) → getD f i 0 < 256) where
         name-count = rw (list-length (nameAt c f) 0 (c .names)) (word 8);
         byte-count = rw (bytes-count c f (k .size)) (word 12);
         parents = nodes-fit c 0 0 (c .nodes);
-        tokens = rw tokens (every-list TokenFits (tokenAt c f) (token-at-fits c) 0 (c .tokens));
-        names = every-list NameFits (nameAt c f) (λ i. (word _, word _)) 0 (c .names);
+        tokens = rw tokens (every-row TokenFits (tokenAt c f) 0 (c .tokens) (λ i l h. token-at-fits c i));
+        names = every-row NameFits (nameAt c f) 0 (c .names) (λ i l h. (word _, word _));
       }

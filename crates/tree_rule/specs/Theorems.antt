@@ -2,15 +2,16 @@
 use mathlib.Core.Path.{_≡_}
 use mathlib.Core.Bool.{Bool, true, false}
 use mathlib.Core.List.{List, [], _∷_}
-use Prim.Native.Nat.{ℕ, _+_, _*_, _≤_, _<_}
-use lib.ListN.{length}
+use Prim.Native.Nat.{ℕ, zero, suc, _+_, _*_, _≤_, _<_}
+use lib.ListN.{length, getD}
 use Rattle.table_rows.specs.declared.rows.Text.{Text}
+use Rattle.tables.specs.Back.{textIn}
 use Rattle.tables.specs.Check.{isUtf8}
 use Rattle.tree_rule.specs.declared.TreeCounts.{TreeCounts}
 use Rattle.tree_rule.specs.declared.Token.{Token}
 use Rattle.tree_rule.specs.declared.Token.the-variants.{Other, MemberName, Descriptor, SourceLine}
 use Rattle.tree_rule.specs.Words.{sumFrom}
-use Rattle.tree_rule.specs.Trees.{Parent, noParent, parentRow, Tree}
+use Rattle.tree_rule.specs.Trees.{Parent, noParent, parentRow, Node, Tree}
 use Rattle.tree_rule.specs.Files.{countsIn, fileLength, tokensStart, parentAt, tokenCountAt, nameAt, textAt, allTokens}
 use Rattle.tree_rule.specs.Checks.{tokenRowFine}
 
@@ -78,3 +79,22 @@ pub record FaultyRow (p : ℕ → Bool) (i n k : ℕ) : Type 0 where
   pub below : k < i + n
   pub fails : p k ≡ false
   pub before : (j : ℕ) → i ≤ j → j < k → p j ≡ true
+
+-- What the checks say of the tree itself: the tree of a file that passes them is sound, and the file of a sound tree passes them.
+
+-- "row 0's parent is FFFFFFFF, any other's a lower row"
+abbrev pub ParentSound : ℕ → Parent → Type 0
+ParentSound zero noParent = 0 ≤ 0
+ParentSound zero (parentRow p) = ⊥
+ParentSound (suc i) noParent = ⊥
+ParentSound (suc i) (parentRow p) = p < suc i
+
+abbrev pub noNode : Node
+noNode = record { parent = noParent; tokens = [] }
+
+pub record SoundTree (t : Tree) : Type 0 where
+  pub some : 1 ≤ length (t .nodes)
+  pub parents : (i : ℕ) → i < length (t .nodes) → ParentSound i (getD (t .nodes) i noNode .parent)
+  pub tokens : Every (NamesBelow (length (t .names))) (allTokens (t .nodes))
+  pub inside : Every (λ n. n .place + n .length ≤ length (t .bytes)) (t .names)
+  pub utf8 : Every (λ n. isUtf8 (textIn (t .bytes) n) ≡ true) (t .names)

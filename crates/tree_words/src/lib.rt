@@ -1,6 +1,5 @@
 // The words of a tree file: numbers, counts, rows, and the texts of names. Functions that read at a place require that what they read
-// lies in
-// the file; those that place stretches take any counts.
+// lies in the file; those that say where a stretch starts take any counts.
 mod layout;
 mod rows;
 
