@@ -1,29 +1,22 @@
 -- The nodes and names of a tree that was read, by their rows in the file. Assumes nothing.
-use mathlib.Core.Path.{_≡_, refl, sym, _∙_, ap}
-use mathlib.Core.Bool.{Bool, true, false}
+use mathlib.Core.Path.{_≡_, sym, _∙_, ap}
 use mathlib.Core.List.{List}
-use Prim.Native.Nat.{ℕ, zero, suc, _+_, _*_, _-_, _≤_, _<_}
+use Prim.Native.Nat.{ℕ, zero, suc, _+_, _-_, _≤_, _<_}
 use native.Mathlib.Nat.{not-suc-le-zero}
 use native.Mathlib.Omega.{arith}
-use lib.Dec.{eqb, ltb}
 use lib.ListN.{length, getD, take, drop, length-drop}
-use borrow.Author.Tests.{ltb-true, eqb-true}
-use Rattle.ground.specs.Choice.{both}
-use Rattle.ground.proofs.Cases.{both-left, both-right}
 use Rattle.ground.proofs.Parts.{take-rest}
 use Rattle.table_rows.specs.Rows.{text}
 use Rattle.tables.specs.Back.{textIn}
 use Rattle.tree_rule.specs.declared.TreeCounts.{TreeCounts}
 use Rattle.tree_rule.specs.declared.Token.the-variants.{Descriptor}
-use Rattle.tree_rule.specs.Words.{wordAt, listFrom, sumFrom}
+use Rattle.tree_rule.specs.Words.{listFrom, sumFrom}
 use Rattle.tree_rule.specs.Trees.{Node, nameIn}
 use Rattle.tree_rule.specs.Files.{
-  tokensStart,
   bytesStart,
   fileLength,
   parentAt,
   tokenCountAt,
-  tokenBy,
   tokenAt,
   nameAt,
   bytesIn,
@@ -32,25 +25,8 @@ use Rattle.tree_rule.specs.Files.{
   nodesFrom,
   treeBy,
 }
-use Rattle.tree_rule.specs.Checks.{tokenFine}
 use Rattle.tree_rule.specs.Theorems.{FormedBy, NamesBelow}
 use Rattle.tree_rule.proofs.RowLaws.{list-at, sum-append, sum-less}
-
--- a token that passes its check
-names-below : (names kind a b : ℕ) → tokenFine names kind a b ≡ true → NamesBelow names (tokenBy kind a b)
-names-below names kind a b e = go (eqb kind 0) refl (eqb kind 1) refl (eqb kind 2) refl (eqb kind 3) refl
-  where
-    pair : both (ltb a names) (ltb b names) ≡ true → (a < names) × (b < names)
-    pair g = (ltb-true a names (both-left (ltb a names) (ltb b names) g), ltb-true b names (both-right (ltb a names) (ltb b names) g))
-
-    go : (p : Bool) → eqb kind 0 ≡ p → (q : Bool) → eqb kind 1 ≡ q → (r : Bool) → eqb kind 2 ≡ r → (s : Bool) →
-        eqb kind 3 ≡ s →
-        NamesBelow names (tokenBy kind a b)
-    go true w q x r y s z = rw (eqb-true kind 0 w) (omega arith)
-    go false w true x r y s z = rw x (pair (rw (w, x) at e))
-    go false w false x true y s z = rw (x, y) (pair (rw (w, x, y) at e))
-    go false w false x false y true z = rw (x, y, z) (omega arith)
-    go false w false x false y false z = rw (x, y, z) (omega arith)
 
 -- the name bytes of a file whose length agrees are all that is left
 module _ (c : TreeCounts) (f : List ℕ) (e : length f ≡ fileLength c) where
@@ -99,15 +75,9 @@ module _ (c : TreeCounts) (f : List ℕ) where
         let same : tokenCountAt f (0 + i) ≡ tokenCountAt f i = ap (tokenCountAt f) a in
         omega (arith, k .sums)
 
-    -- the names of a token are there
-    pub token-names : (i : ℕ) → i < c .tokens → NamesBelow (c .names) (tokenAt c f i)
-    token-names i h =
-        let at : ℕ = tokensStart c + 12 * i in
-        names-below (c .names) (wordAt f at) (wordAt f (at + 4)) (wordAt f (at + 8)) (k .tokens i h)
-
-    -- their texts are those of the tree
+    -- the text of a token's raw name is that of the tree
     pub raw-text : (i : ℕ) {raw display : ℕ} → i < c .tokens → tokenAt c f i ≡ Descriptor raw display →
         nameIn (treeBy c f) raw ≡ textAt c f raw
     raw-text i {raw} {display} h e =
-        let below : NamesBelow (c .names) (Descriptor raw display) = rw e at (token-names i h) in
+        let below : NamesBelow (c .names) (Descriptor raw display) = rw e at (k .tokens i h) in
         name-at raw (below .0)

@@ -7,7 +7,7 @@ use native.Mathlib.Nat.{not-suc-le-zero, mul-zero, mul-suc}
 use native.Mathlib.Omega.{arith}
 use lib.Dec.{eqb}
 use lib.ListN.{length, getD, drop, length-append}
-use borrow.Author.Tests.{eqb-true, ne-eqb, lt-ltb}
+use borrow.Author.Tests.{eqb-true, ne-eqb}
 use Rattle.ground.specs.Join.{join}
 use Rattle.table_rows.specs.Rows.{text}
 use Rattle.tables.specs.Back.{textIn}
@@ -32,20 +32,20 @@ use Rattle.tree_rule.specs.Files.{
   readTree,
   allTokens,
   nodeRowBytes,
-  threeWords,
   tokenRowBytes,
   nameRowBytes,
   countsOf,
   writtenTree,
 }
-use Rattle.tree_rule.specs.Checks.{tokenFine, tokenRowFine, wellFormedFile}
+use Rattle.tree_rule.specs.Checks.{wellFormedFile}
 use Rattle.tree_rule.specs.Theorems.{FormedBy, FormedTree, NamesBelow, Word, TokenFits, Writable, ParentSound, noNode, SoundTree}
 use Rattle.tree_rule.proofs.WordLaws.{bytes-length, word-small}
 use Rattle.tree_rule.proofs.RowLaws.{list-length, list-at, every-at, every-row}
 use Rattle.tree_rule.proofs.Formed.{formed-file}
-use Rattle.tree_rule.proofs.Reading.{bytes-count, node-at, token-names}
+use Rattle.tree_rule.proofs.Reading.{bytes-count, node-at}
 use Rattle.tree_rule.proofs.ReadWritten.{
   three-read,
+  token-read,
   token-length,
   node-length,
   name-length,
@@ -78,7 +78,7 @@ module _ (f : List ℕ) (small : (i : ℕ) → getD f i 0 < 256) where
         some = rw nodes (k .some);
         parents = λ i h. rw (node-at c f i noNode (rw nodes at h)) (parent-sound k i (rw nodes at h));
         tokens = rw (names, tokens) (every-row (NamesBelow (c .names)) (tokenAt c f) 0 (c .tokens)
-            (λ i l h. token-names c f k i (omega arith)));
+            (λ i l h. k .tokens i (omega arith)));
         inside = every-row (λ n. n .place + n .length ≤ length (bytesIn c f)) (nameAt c f) 0 (c .names)
             (λ i l h. rw (bytes-count c f (k .size)) (k .inside i (omega arith)));
         utf8 = every-row (λ n. isUtf8 (textIn (bytesIn c f) n) ≡ true) (nameAt c f) 0 (c .names) (λ i l h. k .utf8 i (omega arith));
@@ -119,18 +119,13 @@ parent-low i w s = go (eqb w 4294967295) refl
     go true e = absurd (rw e at s)
     go false e = rw e at s
 
-module _ (f : List ℕ) (names at : ℕ) where
-  fine-by : (kind a b : ℕ) (r : List ℕ) → Word kind → Word a → Word b → drop at f ≡ threeWords kind a b ++ r →
-      tokenFine names kind a b ≡ true →
-      tokenFine names (wordAt f at) (wordAt f (at + 4)) (wordAt f (at + 8)) ≡ true
-  fine-by kind a b r p q h e t = let w = three-read f at kind a b r p q h e in rw (w .0, w .1, w .2) t
-
-  fine-row : (t : Token) (r : List ℕ) → TokenFits t → NamesBelow names t → drop at f ≡ tokenRowBytes t ++ r →
-      tokenFine names (wordAt f at) (wordAt f (at + 4)) (wordAt f (at + 8)) ≡ true
-  fine-row (Other a b) r p n e = fine-by 0 a b r (omega arith) (p .0) (p .1) e refl
-  fine-row (MemberName a b) r p n e = fine-by 1 a b r (omega arith) (p .0) (p .1) e (rw (lt-ltb a names (n .0), lt-ltb b names (n .1)))
-  fine-row (Descriptor a b) r p n e = fine-by 2 a b r (omega arith) (p .0) (p .1) e (rw (lt-ltb a names (n .0), lt-ltb b names (n .1)))
-  fine-row (SourceLine a b) r p n e = fine-by 3 a b r (omega arith) (p .0) (p .1) e refl
+-- the kind of a token that was written
+kind-written : (f : List ℕ) (at : ℕ) (t : Token) (r : List ℕ) → TokenFits t → drop at f ≡ tokenRowBytes t ++ r →
+    wordAt f at ≤ 3
+kind-written f at (Other a b) r p e = rw (three-read f at 0 a b r (omega arith) (p .0) (p .1) e .0) (omega arith)
+kind-written f at (MemberName a b) r p e = rw (three-read f at 1 a b r (omega arith) (p .0) (p .1) e .0) (omega arith)
+kind-written f at (Descriptor a b) r p e = rw (three-read f at 2 a b r (omega arith) (p .0) (p .1) e .0) (omega arith)
+kind-written f at (SourceLine a b) r p e = rw (three-read f at 3 a b r (omega arith) (p .0) (p .1) e .0) (omega arith)
 
 module _ (t : Tree) (w : Writable t) (s : SoundTree t) where
   abbrev g : List ℕ
@@ -161,15 +156,27 @@ module _ (t : Tree) (w : Writable t) (s : SoundTree t) where
       ap (nameAt d g) (sym z) ∙ sym (list-at (nameAt d g) 0 (length (t .names)) i (text 0 0) h)
       ∙ ap (λ x. getD (x .names) i (text 0 0)) again
 
-  token-again : (i : ℕ) → i < length (allTokens (t .nodes)) → tokenRowFine d g (tokensStart d + 12 * i) ≡ true
-  token-again i h =
-      let none : Token = Other 0 0 in
-      let z : 0 + i ≡ i = omega arith in
-      let row = rows-at tokenRowBytes 12 (tokensStart d) g token-length none (allTokens (t .nodes)) 0 i
-      (join (map nameRowBytes (t .names)) ++ t .bytes) (at-tokens t) h in
-      fine-row g (length (t .names)) (tokensStart d + 12 * i) (getD (allTokens (t .nodes)) i none) (row .0)
-      (every-at none (allTokens (t .nodes)) (w .tokens) i h) (every-at none (allTokens (t .nodes)) (s .tokens) i h)
-      (ap (λ k. drop (tokensStart d + 12 * k) g) (sym z) ∙ row .1)
+  -- the row of a token
+  module _ (i : ℕ) (h : i < length (allTokens (t .nodes))) where
+    abbrev token : Token
+    token = getD (allTokens (t .nodes)) i (Other 0 0)
+
+    token-row : (q : List ℕ) × (drop (tokensStart d + 12 * i) g ≡ tokenRowBytes token ++ q)
+    token-row =
+        let z : 0 + i ≡ i = omega arith in
+        rw z at (rows-at tokenRowBytes 12 (tokensStart d) g token-length (Other 0 0) (allTokens (t .nodes)) 0 i
+        (join (map nameRowBytes (t .names)) ++ t .bytes) (at-tokens t) h)
+
+    fits : TokenFits token
+    fits = every-at (Other 0 0) (allTokens (t .nodes)) (w .tokens) i h
+
+    kind-again : wordAt g (tokensStart d + 12 * i) ≤ 3
+    kind-again = kind-written g (tokensStart d + 12 * i) token (token-row .0) fits (token-row .1)
+
+    token-again : NamesBelow (length (t .names)) (tokenAt d g i)
+    token-again =
+        subst (NamesBelow (length (t .names))) (sym (token-read g (tokensStart d + 12 * i) token (token-row .0) fits (token-row .1)))
+        (every-at (Other 0 0) (allTokens (t .nodes)) (s .tokens) i h)
 
   formed-again : FormedBy d g
   formed-again =
@@ -181,6 +188,7 @@ module _ (t : Tree) (w : Writable t) (s : SoundTree t) where
         sums = sym (list-length (tokenAt d g) 0 (sumFrom (tokenCountAt g) 0 (d .nodes)))
             ∙ ap length (sym (nodes-tokens d g 0 0 (d .nodes)))
             ∙ ap (λ x. length (allTokens (x .nodes))) again;
+        kinds = kind-again;
         tokens = token-again;
         inside = λ i h. subst (λ n. n .place + n .length ≤ length (t .bytes)) (sym (name-again i h))
             (every-at (text 0 0) (t .names) (s .inside) i h);

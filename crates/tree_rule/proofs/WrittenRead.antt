@@ -6,9 +6,8 @@ use Prim.Native.Nat.{ℕ, zero, suc, _+_, _*_, _-_, _≤_, _<_}
 use native.Mathlib.Omega.{arith}
 use lib.Dec.{eqb}
 use lib.ListN.{length, getD, drop}
-use borrow.Author.Tests.{eqb-true}
+use borrow.Author.Tests.{eqb-true, eqb-false}
 use Rattle.ground.specs.Join.{join}
-use Rattle.ground.proofs.Cases.{clash}
 use Rattle.tree_rule.specs.declared.TreeCounts.{TreeCounts}
 use Rattle.tree_rule.specs.Words.{wordAt, wordBytes, listFrom, sumFrom}
 use Rattle.tree_rule.specs.Files.{
@@ -36,7 +35,6 @@ use Rattle.tree_rule.specs.Files.{
   countsOf,
   writtenTree,
 }
-use Rattle.tree_rule.specs.Checks.{tokenFine}
 use Rattle.tree_rule.specs.Theorems.{FormedBy, FormedTree}
 use Rattle.tree_rule.proofs.WordLaws.{word-part}
 use Rattle.tree_rule.proofs.RowLaws.{list-length, list-append}
@@ -67,17 +65,17 @@ parent-kept w = go (eqb w 4294967295) refl
     go false e = rw e
 
 -- a token of one of the four kinds is written as it stood
-token-kept : (names kind a b : ℕ) → tokenFine names kind a b ≡ true → tokenRowBytes (tokenBy kind a b) ≡ threeWords kind a b
-token-kept names kind a b e = go (eqb kind 0) refl (eqb kind 1) refl (eqb kind 2) refl (eqb kind 3) refl
+token-kept : (kind a b : ℕ) → kind ≤ 3 → tokenRowBytes (tokenBy kind a b) ≡ threeWords kind a b
+token-kept kind a b e = go (eqb kind 1) refl (eqb kind 2) refl (eqb kind 3) refl
   where
-    go : (p : Bool) → eqb kind 0 ≡ p → (q : Bool) → eqb kind 1 ≡ q → (r : Bool) → eqb kind 2 ≡ r → (s : Bool) →
-        eqb kind 3 ≡ s →
+    go : (q : Bool) → eqb kind 1 ≡ q → (r : Bool) → eqb kind 2 ≡ r → (s : Bool) → eqb kind 3 ≡ s →
         tokenRowBytes (tokenBy kind a b) ≡ threeWords kind a b
-    go true g q h r i s j = rw (eqb-true kind 0 g)
-    go false g true h r i s j = rw (eqb-true kind 1 h)
-    go false g false h true i s j = rw (eqb-true kind 2 i)
-    go false g false h false i true j = rw (eqb-true kind 3 j)
-    go false g false h false i false j = clash e (rw (g, h, i, j))
+    go true h r i s j = rw (eqb-true kind 1 h)
+    go false h true i s j = rw (eqb-true kind 2 i)
+    go false h false i true j = rw (eqb-true kind 3 j)
+    go false h false i false j =
+        let none : kind ≡ 0 = let x = eqb-false kind 1 h in let y = eqb-false kind 2 i in let z = eqb-false kind 3 j in omega arith in
+        rw none
 
 module _ (f : List ℕ) (small : (i : ℕ) → getD f i 0 < 256) where
   pub two-cut : (at : ℕ) → at + 8 ≤ length f →
@@ -146,7 +144,7 @@ module _ (c : TreeCounts) (f : List ℕ) where
         (λ i l. let next : tokensStart c + 12 * suc i ≡ tokensStart c + 12 * i + 12 = omega arith in
         let at : ℕ = tokensStart c + 12 * i in
         rw next (three-cut f small at (omega (arith, k .size)) ∙ ap (λ b. b ++ drop (at + 12) f)
-        (sym (token-kept (c .names) (wordAt f at) (wordAt f (at + 4)) (wordAt f (at + 8)) (k .tokens i (omega arith)))))) in
+        (sym (token-kept (wordAt f at) (wordAt f (at + 4)) (wordAt f (at + 8)) (k .kinds i (omega arith)))))) in
         ap (λ n. drop n f) (sym z) ∙ cut ∙ ap (λ n. join (listFrom h 0 (c .tokens)) ++ drop n f) y
         ∙ ap (λ l. join l ++ drop (namesStart c) f) (sym (map-list tokenRowBytes (tokenAt c f) 0 (c .tokens)))
 

@@ -10,10 +10,16 @@ use Rattle.tables.specs.Check.{isUtf8}
 use Rattle.tree_rule.specs.declared.TreeCounts.{TreeCounts}
 use Rattle.tree_rule.specs.declared.Token.{Token}
 use Rattle.tree_rule.specs.declared.Token.the-variants.{Other, MemberName, Descriptor, SourceLine}
-use Rattle.tree_rule.specs.Words.{sumFrom}
+use Rattle.tree_rule.specs.Words.{wordAt, sumFrom}
 use Rattle.tree_rule.specs.Trees.{Parent, noParent, parentRow, Node, Tree}
-use Rattle.tree_rule.specs.Files.{countsIn, fileLength, tokensStart, parentAt, tokenCountAt, nameAt, textAt, allTokens}
-use Rattle.tree_rule.specs.Checks.{tokenRowFine}
+use Rattle.tree_rule.specs.Files.{countsIn, fileLength, tokensStart, parentAt, tokenCountAt, tokenAt, nameAt, textAt, allTokens}
+
+-- The names of a token are rows.
+abbrev pub NamesBelow : ℕ → Token → Type 0
+NamesBelow names (Other a b) = 0 ≤ 0
+NamesBelow names (MemberName raw display) = (raw < names) × (display < names)
+NamesBelow names (Descriptor raw display) = (raw < names) × (display < names)
+NamesBelow names (SourceLine raw display) = 0 ≤ 0
 
 -- What the checks say, as plain facts: a file with these counts is well formed.
 pub record FormedBy (c : TreeCounts) (f : List ℕ) : Type 0 where
@@ -22,7 +28,8 @@ pub record FormedBy (c : TreeCounts) (f : List ℕ) : Type 0 where
   pub root : parentAt f 0 ≡ 4294967295
   pub lower : (i : ℕ) → 1 ≤ i → i < c .nodes → parentAt f i < i
   pub sums : sumFrom (tokenCountAt f) 0 (c .nodes) ≡ c .tokens
-  pub tokens : (i : ℕ) → i < c .tokens → tokenRowFine c f (tokensStart c + 12 * i) ≡ true
+  pub kinds : (i : ℕ) → i < c .tokens → wordAt f (tokensStart c + 12 * i) ≤ 3
+  pub tokens : (i : ℕ) → i < c .tokens → NamesBelow (c .names) (tokenAt c f i)
   pub inside : (i : ℕ) → i < c .names → nameAt c f i .place + nameAt c f i .length ≤ c .bytes
   pub utf8 : (i : ℕ) → i < c .names → isUtf8 (textAt c f i) ≡ true
 
@@ -33,13 +40,6 @@ pub record NamesLie (c : TreeCounts) (f : List ℕ) : Type 0 where
 
 abbrev pub FormedTree : List ℕ → Type 0
 FormedTree f = FormedBy (countsIn f) f
-
--- The names of a token are rows.
-abbrev pub NamesBelow : ℕ → Token → Type 0
-NamesBelow names (Other a b) = 0 ≤ 0
-NamesBelow names (MemberName raw display) = (raw < names) × (display < names)
-NamesBelow names (Descriptor raw display) = (raw < names) × (display < names)
-NamesBelow names (SourceLine raw display) = 0 ≤ 0
 
 -- Every number of a tree can be written in 32 bits.
 abbrev pub Word : ℕ → Type 0

@@ -15,7 +15,7 @@ use Rattle.tree_rule.specs.Trees.{nameIn}
 use Rattle.tree_rule.specs.Files.{fileLength, tokensStart, tokenRow, tokenAt, textAt, treeBy}
 use Rattle.tree_rule.specs.Signatures.{opens, isOwner, namesMethod}
 use Rattle.tree_rule.specs.Theorems.{FormedBy, NamesBelow}
-use Rattle.tree_rule.proofs.Reading.{token-names, raw-text}
+use Rattle.tree_rule.proofs.Reading.{raw-text}
 use Rattle.tree_signature.specs.inner.Tokens.{startsAs, describedAs}
 
 -- A text.
@@ -64,7 +64,7 @@ pub raw-there : (c : TreeCounts) (f : List ℕ) (i : ℕ) {a : ℕ} → a ≡ to
     {x y : ℕ} → t ≡ Descriptor x y → FormedBy c f → i < c .tokens → x < c .names
 raw-there c f i e g {x} {y} h k l =
     let same : tokenAt c f i ≡ Descriptor x y = sym (g ∙ ap (λ n. tokenRow f (n + 12 * i)) e) ∙ h in
-    let below : NamesBelow (c .names) (Descriptor x y) = rw same at (token-names c f k i l) in
+    let below : NamesBelow (c .names) (Descriptor x y) = rw same at (k .tokens i l) in
     below .0
 
 -- its row lies in the file
