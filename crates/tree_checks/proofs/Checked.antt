@@ -35,7 +35,7 @@ use Rattle.tree_rule.specs.Checks.{
   nameInside,
   nameUtf8,
 }
-use Rattle.tree_rule.specs.Theorems.{NamesLie}
+use Rattle.tree_checks.specs.inner.Lie.{NamesLie}
 use Rattle.tree_rule.proofs.Reading.{bytes-count}
 
 -- The length.

@@ -25,7 +25,7 @@ use Rattle.tree_rule.specs.Checks.{
   checksPass,
   wellFormedFile,
 }
-use Rattle.tree_rule.specs.Theorems.{NamesLie}
+use Rattle.tree_checks.specs.inner.Lie.{NamesLie}
 use Rattle.tree_rule.proofs.RowLaws.{fine-told, fine-each}
 
 -- fewer bytes than the counts take

@@ -15,7 +15,7 @@ ghost use Rattle.tables.specs.Back.{textIn};
 ghost use Rattle.tables.specs.Check.{isUtf8};
 ghost use Rattle.tree_rule.specs.Files.{fileLength, bytesIn};
 ghost use Rattle.tree_rule.specs.Checks.{faultyName, faultyText};
-ghost use Rattle.tree_rule.specs.Theorems.{NamesLie};
+ghost use Rattle.tree_checks.specs.inner.Lie.{NamesLie};
 
 fn ends_inside(name: Text, bytes: u32) -> bool
     ensures { λ r. ⌜ r ≡ leb (name .place + name .length) bytes ⌝ }

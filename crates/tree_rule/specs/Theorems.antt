@@ -33,11 +33,6 @@ pub record FormedBy (c : TreeCounts) (f : List ℕ) : Type 0 where
   pub inside : (i : ℕ) → i < c .names → nameAt c f i .place + nameAt c f i .length ≤ c .bytes
   pub utf8 : (i : ℕ) → i < c .names → isUtf8 (textAt c f i) ≡ true
 
--- what the check of texts rests on: names inside the name bytes
-pub record NamesLie (c : TreeCounts) (f : List ℕ) : Type 0 where
-  pub size : length f ≡ fileLength c
-  pub lie : (i : ℕ) → i < c .names → nameAt c f i .place + nameAt c f i .length ≤ c .bytes
-
 abbrev pub FormedTree : List ℕ → Type 0
 FormedTree f = FormedBy (countsIn f) f
 
