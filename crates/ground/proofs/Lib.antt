@@ -4,4 +4,5 @@ pub mod Table
 pub mod Fill
 pub mod PutLaws
 pub mod Parts
+pub mod Joins
 pub mod Stretch

@@ -26,7 +26,8 @@ use Rattle.tables.specs.Back.{readBack}
 use Rattle.load_raw_types.specs.inner.Marks.{markOf, chained, Indexed, indexSize}
 use Rattle.load_raw_types.proofs.Indexing.{indexed-none, indexed-class, read-back-class}
 use Rattle.load_rule.specs.Classes.{classIn, classesOf, classText, classPool, classRow, classRows}
-use Rattle.load_rule.proofs.Appended.{join-more, join-append, rows-length, rows-more}
+use Rattle.ground.proofs.Joins.{join-more, join-append}
+use Rattle.load_rule.proofs.Appended.{rows-length, rows-more}
 use Rattle.load_classes.specs.declared.names.ClassNames.{ClassNames}
 use Rattle.load_classes.specs.declared.names.ClassLine.{ClassLine}
 use Rattle.load_classes.specs.declared.names.ClassLine.the-variants.{Names, Other}

@@ -32,7 +32,8 @@ use Rattle.load_rule.specs.Loading.{mostText}
 use Rattle.load_rule.specs.Fates.{noFates, plus, one, classLine, faultsFrom, scanOf}
 use Rattle.load_rule.specs.Members.{Entry, Under, under, underAfter, entryIn, entriesFrom, entryText, entryPool, entryRow, entryRows}
 use Rattle.load_rule.proofs.Tally.{fate-class}
-use Rattle.load_rule.proofs.Appended.{join-more, join-append, rows-length, rows-more}
+use Rattle.ground.proofs.Joins.{join-more, join-append}
+use Rattle.load_rule.proofs.Appended.{rows-length, rows-more}
 use Rattle.load_scan.specs.inner.Bounds.{Within}
 use Rattle.load_scan.proofs.Stepping.{step-fits, step-bounds, step-told, passed-told, step-ended, step-faulty}
 use Rattle.load_scan.proofs.Scanning.{Scanning, scan-end, scanned-more}

@@ -1,22 +1,11 @@
 -- Rows and pool of classes and members, one more at the end. Assumes nothing.
 use mathlib.Core.Path.{_≡_, refl, sym, _∙_, ap}
-use mathlib.Core.List.{List, [], _∷_, _++_, map, append-assoc, append-nil}
+use mathlib.Core.List.{List, [], _∷_, _++_, map}
 use Prim.Native.Nat.{ℕ, suc, _+_}
 use native.Mathlib.Nat.{add-assoc, add-zero}
 use lib.ListN.{length, length-append}
 use Rattle.ground.specs.Join.{join}
 use Rattle.load_rule.specs.Laid.{rowsFrom}
-
--- texts joined one after the other
-pub join-more : {A : Type 0} (f : A → List ℕ) (xs : List A) (x : A) → join (map f (xs ++ (x ∷ []))) ≡ join (map f xs) ++ f x
-unfolding join
-join-more f [] x = append-nil (f x)
-join-more f (y ∷ xs) x = ap (λ l. f y ++ l) (join-more f xs x) ∙ sym (append-assoc (f y) (join (map f xs)) (f x))
-
-pub join-append : {A : Type 0} (f : A → List ℕ) (xs ys : List A) → join (map f (xs ++ ys)) ≡ join (map f xs) ++ join (map f ys)
-unfolding join
-join-append f [] ys = refl
-join-append f (x ∷ xs) ys = ap (λ l. f x ++ l) (join-append f xs ys) ∙ sym (append-assoc (f x) (join (map f xs)) (join (map f ys)))
 
 -- Rows.
 module _ {A : Type 0} (row : ℕ → A → List ℕ) (text : A → List ℕ) where

@@ -26,7 +26,7 @@ use Rattle.descriptor.specs.Raw.{rawTypeOf}
 use Rattle.load_raw_types.specs.inner.Marks.{Indexed}
 use Rattle.load_raw_types.proofs.Indexing.{read-back-put, indexed-put}
 use Rattle.load_rule.specs.Members.{argumentTypes, typesDescriptor}
-use Rattle.load_rule.proofs.Appended.{join-more, join-append}
+use Rattle.ground.proofs.Joins.{join-more, join-append}
 
 -- nothing is written yet
 pub written-nothing : (d : List ℕ) (at : ℕ) → at ≤ length d → Written at d at [] d

@@ -1,0 +1,17 @@
+-- Texts joined one after the other. Assumes nothing.
+use mathlib.Core.Path.{_≡_, refl, sym, _∙_, ap}
+use mathlib.Core.List.{List, [], _∷_, _++_, map, append-assoc, append-nil}
+use Prim.Native.Nat.{ℕ}
+use Rattle.ground.specs.Join.{join}
+
+module _ {A : Type 0} (f : A → List ℕ) where
+  -- one more at the end
+  pub join-more : (xs : List A) (x : A) → join (map f (xs ++ (x ∷ []))) ≡ join (map f xs) ++ f x
+  unfolding join
+  join-more [] x = append-nil (f x)
+  join-more (y ∷ xs) x = ap (λ l. f y ++ l) (join-more xs x) ∙ sym (append-assoc (f y) (join (map f xs)) (f x))
+
+  pub join-append : (xs ys : List A) → join (map f (xs ++ ys)) ≡ join (map f xs) ++ join (map f ys)
+  unfolding join
+  join-append [] ys = refl
+  join-append (x ∷ xs) ys = ap (λ l. f x ++ l) (join-append xs ys) ∙ sym (append-assoc (f x) (join (map f xs)) (join (map f ys)))

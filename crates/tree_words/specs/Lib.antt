@@ -1,0 +1,1 @@
+-- The words of tree files: contracts cite the rules of tree_rule.
