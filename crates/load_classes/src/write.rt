@@ -20,11 +20,7 @@ pub enum Classes {
 }
 
 // The class rows of a text, and their descriptors from the start of the pool on.
-pub fn write_classes(
-    text: &[u8],
-    classes: &mut [ClassRow],
-    pool: &mut [u8],
-) -> Classes
+pub fn write_classes(text: &[u8], classes: &mut [ClassRow], pool: &mut [u8]) -> Classes
     requires { ⌜ (length (now classes) ≤ mostClasses) × (length (now pool) ≤ mostPool) ⌝ }
     ensures { λ r.
         ⌜ ClassesBy r (lines (now (text .entry))) (now (classes .entry)) (now (pool .entry)) (now (classes .exit)) (now (pool .exit)) ⌝ }
