@@ -7,7 +7,7 @@ use Prim.Native.Nat.{ℕ, _+_, _≤_, _<_}
 use native.Mathlib.Nat.{zero-add}
 use native.Mathlib.Omega.{arith}
 use lib.Dec.{eqb, ltb}
-use lib.ListN.{length, take, length-append}
+use lib.ListN.{length, take, replicate, length-append}
 use borrow.Author.Needs.{needs}
 use Rattle.ground.specs.Choice.{pick}
 use Rattle.ground.specs.Put.{put}
@@ -18,7 +18,8 @@ use Rattle.table_pool.specs.declared.write.Wrote.the-variants.{Done}
 use Rattle.table_pool.specs.inner.Wrote.{Written}
 use Rattle.table_pool.proofs.Writes.{written-length, wrote-then}
 use Rattle.tables.specs.Back.{readBack}
-use Rattle.load_raw_types.specs.inner.Behind.{Below}
+use Rattle.table_index.proofs.Filing.{no-index}
+use Rattle.load_raw_types.specs.inner.Behind.{Below, Indexed}
 use Rattle.load_rule.specs.declared.Fates.{Fates}
 use Rattle.load_rule.specs.declared.Scan.{Scan}
 use Rattle.load_rule.specs.declared.Scan.the-variants as scan
@@ -155,3 +156,9 @@ module _ (ls : List (List ℕ)) (c : List (List ℕ)) (p : List ℕ) (k : Classe
 
 pub ruleset into =
     (into-few-rows, into-short-pool, into-count, into-below, into-few, into-pool, into-short, into-short-scan, into-faulty, into-names, into-all, scan-counted, prefix-whole, needs)
+
+-- Few classes: no table of that size, and no index.
+pub few-indexed : {rows : List (List ℕ)} {pool : List ℕ} {at : ℕ} → Below rows pool at → Indexed rows pool (replicate 1 0) at
+few-indexed b = record { below = b; finds = no-index (λ e. absurd (omega arith)) }
+
+pub ruleset few-filled = (few-indexed, needs)

@@ -70,7 +70,7 @@ fn accepted(fates: Fates, end: usize) -> Load
 }
 
 // The members of a text, once all class rows are known: `classes` are these, with their descriptors in the pool before the place `used`.
-fn fill_members(
+fn fill_indexed(
     text: &[u8],
     classes: &[ClassRow],
     members: &mut [MemberRow],
@@ -89,6 +89,32 @@ fn fill_members(
     let mut index = [0u16; INDEX];
     index_classes(&mut index, Side::Display, classes, pool);
     write_members(text, classes, &index, members, pool, used)
+}
+
+// So many class rows are asked one by one faster than by an index.
+const FEW: usize = 8;
+
+fn fill_members(
+    text: &[u8],
+    classes: &[ClassRow],
+    members: &mut [MemberRow],
+    pool: &mut [u8],
+    used: usize,
+) -> Filled
+    requires { ⌜ (length (now text) ≤ mostText)
+        × (length (now classes) ≤ mostClasses)
+        × (length (now pool) ≤ mostPool)
+        × Below (now classes) (now pool) used ⌝ }
+    ensures { λ r.
+        let cs = readBack (now (classes .entry)) (now (pool .entry)) in
+        ⌜ FilledBy r (lines (now (text .entry))) cs used (now (members .entry)) (now (pool .entry)) (now (members .exit))
+        (now (pool .exit)) ⌝ }
+{
+    if FEW < classes.len() {
+        return fill_indexed(text, classes, members, pool, used);
+    }
+    let none = [0u16; 1];
+    write_members(text, classes, &none, members, pool, used)
 }
 
 // Rows and pool of a text. Where they are too few, what is left in them is the caller's to clear.

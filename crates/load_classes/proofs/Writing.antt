@@ -37,7 +37,8 @@ use Rattle.table_rows.specs.Rows.{mostClasses, mostPool}
 use Rattle.load_rule.specs.Laid.{rowsFrom}
 
 -- the classes `done` are written
-pub record Rows (done : List Pair) (c : List (List ℕ)) (p : List ℕ) (count q : ℕ) (c₁ : List (List ℕ)) (p₁ : List ℕ) : Type 0 where
+pub record Rows (done : List Pair) (c : List (List ℕ)) (p : List ℕ) (count q : ℕ)
+    (c₁ : List (List ℕ)) (p₁ : List ℕ) : Type 0 where
   pub counted : count ≡ length done
   pub room : count ≤ length c
   pub rows : c₁ ≡ put c 0 (classRows 0 done)
@@ -92,7 +93,8 @@ module _ {done : List Pair} {c : List (List ℕ)} {p : List ℕ} {count at : ℕ
         }
 
 -- what is written up to the place `at` of the text, and what is left
-pub record Writing (s : List ℕ) (c : List (List ℕ)) (p : List ℕ) (at count q : ℕ) (c₁ : List (List ℕ)) (p₁ : List ℕ) : Type 0 where
+pub record Writing (s : List ℕ) (c : List (List ℕ)) (p : List ℕ) (at count q : ℕ)
+    (c₁ : List (List ℕ)) (p₁ : List ℕ) : Type 0 where
   pub most : length c ≤ mostClasses
   pub same-rows : length c₁ ≡ length c
   pub same-pool : length p₁ ≡ length p

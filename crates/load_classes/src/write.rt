@@ -23,7 +23,8 @@ pub enum Classes {
 pub fn write_classes(text: &[u8], classes: &mut [ClassRow], pool: &mut [u8]) -> Classes
     requires { ⌜ (length (now classes) ≤ mostClasses) × (length (now pool) ≤ mostPool) ⌝ }
     ensures { λ r.
-        ⌜ ClassesBy r (lines (now (text .entry))) (now (classes .entry)) (now (pool .entry)) (now (classes .exit)) (now (pool .exit)) ⌝ }
+        let ls = lines (now (text .entry)) in
+        ⌜ ClassesBy r ls (now (classes .entry)) (now (pool .entry)) (now (classes .exit)) (now (pool .exit)) ⌝ }
 {
     let mut at = 0;
     let mut count = 0;

@@ -44,7 +44,8 @@ rows-alike (row ∷ rows) d d₁ f g =
     let again : readBack rows d₁ ≡ readBack rows d = rows-alike rows d d₁ (λ i h. f (suc i) (omega arith)) (λ i h. g (suc i) (omega arith)) in
     ap (λ x. x ∷ readBack rows d₁) c ∙ ap (λ l. pairOf d row ∷ l) again
 
-module _ {rows : List (List ℕ)} {pool : List ℕ} {at : ℕ} (x : Below rows pool at) {q : ℕ} {b pool₁ : List ℕ} (w : Written q pool at b pool₁) where
+module _ {rows : List (List ℕ)} {pool : List ℕ} {at : ℕ} (x : Below rows pool at)
+    {q : ℕ} {b pool₁ : List ℕ} (w : Written q pool at b pool₁) where
   -- what is written behind the classes leaves them
   read-back-below : readBack rows pool₁ ≡ readBack rows pool
   read-back-below =
@@ -103,19 +104,22 @@ module _ {q : ℕ} {pool : List ℕ} {at : ℕ} (r d : List ℕ) {pool₁ : List
       ∙ take-at d (drop (at + length (r ++ d)) pool) (length d) refl
 
   module _ {rows : List (List ℕ)} (x : Below rows pool at) where
-    pub read-back-class : readBack (rows ++ (rowAt at r d ∷ [])) pool₁ ≡ readBack rows pool ++ (record { raw = r; display = d } ∷ [])
+    pub read-back-class :
+        readBack (rows ++ (rowAt at r d ∷ [])) pool₁ ≡ readBack rows pool ++ (record { raw = r; display = d } ∷ [])
     read-back-class =
         let pair : pairOf pool₁ (rowAt at r d) ≡ record { raw = r; display = d } =
         ap (λ y. record { raw = y; display = textIn pool₁ (text (at + length r) (length d)) }) raw-there
         ∙ ap (λ y. record { raw = r; display = y }) display-there in
         map-append (pairOf pool₁) rows (rowAt at r d ∷ [])
-        ∙ ap (λ l. l ++ (pairOf pool₁ (rowAt at r d) ∷ [])) (read-back-below x w) ∙ ap (λ y. readBack rows pool ++ (y ∷ [])) pair
+        ∙ ap (λ l. l ++ (pairOf pool₁ (rowAt at r d) ∷ [])) (read-back-below x w)
+        ∙ ap (λ y. readBack rows pool ++ (y ∷ [])) pair
 
     after : q ≡ at + length r + length d
     after = let e = w .past in let n = length-append r d in omega arith
 
     -- a row is one of those before, or the new one
-    module _ (P : ℕ → List ℕ → Type 0) (old : (i : ℕ) → i < length rows → P i (getD rows i [])) (new : P (length rows) (rowAt at r d)) where
+    module _ (P : ℕ → List ℕ → Type 0) (old : (i : ℕ) → i < length rows → P i (getD rows i []))
+        (new : P (length rows) (rowAt at r d)) where
       each-row : (i : ℕ) → i < length (rows ++ (rowAt at r d ∷ [])) → P i (getD (rows ++ (rowAt at r d ∷ [])) i [])
       each-row i h = go (le-or-lt (length rows) i)
         where

@@ -92,7 +92,8 @@ most-trans (x ∷ s) [] c e f = clash e refl
 most-trans (x ∷ s) (y ∷ t) [] e f = clash f refl
 most-trans (x ∷ s) (y ∷ t) (z ∷ u) e f = go (most-trans s t u) (way x y) (way y z)
   where
-    go : (atMost s t ≡ true → atMost t u ≡ true → atMost s u ≡ true) → Way x y → Way y z → atMost (x ∷ s) (z ∷ u) ≡ true
+    go : (atMost s t ≡ true → atMost t u ≡ true → atMost s u ≡ true) → Way x y → Way y z →
+        atMost (x ∷ s) (z ∷ u) ≡ true
     go again (more h) w = clash e (most-more x y s t h)
     go again (less h) (more k) = clash f (most-more y z t u k)
     go again (even h) (more k) = clash f (most-more y z t u k)

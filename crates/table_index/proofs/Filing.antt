@@ -14,9 +14,11 @@ use mir.Syntax.{w16, w64}
 use borrow.Author.Tests.{eqb-true, eqb-false}
 use borrow.Author.Needs.{needs}
 use Rattle.table_rows.specs.Rows.{mostClasses}
+use Rattle.tables.specs.declared.search.Side.{Side}
 use Rattle.table_index.specs.inner.Heads.{headOf, countWith, countBelow}
 use Rattle.table_index.specs.inner.Shelves.{Ranked, Shelf, Bound, Inserted}
-use Rattle.table_index.specs.inner.Index.{headsAt, startsAt, endsAt, marksAt, indexSize, ShelfAt, Filed, Shelved}
+use Rattle.table_index.specs.inner.Index.{headsAt, startsAt, endsAt, marksAt, indexSize, ShelfAt, Filed, Shelved, ShelvedClasses}
+use Rattle.table_index.specs.inner.Index.{IndexBy}
 use Rattle.table_index.proofs.Comparing.{Way, less, even, more, way}
 use Rattle.table_index.proofs.Heads.{head-inside, count-here, count-other, count-rises, count-room, shelf-inside, shelf-before}
 use Rattle.table_index.proofs.Shelving.{shelf-same, shelf-other, shelf-more, ranked-wider}
@@ -144,7 +146,8 @@ module _ {n : ℕ} {keys : List (List ℕ)} {ms index : List ℕ} {k : ℕ} (x :
               (λ m u v. rows m (omega arith) ∙ y .front m (omega arith))
               (shelf-other (λ q. z (sym own ∙ q)) (x .shelves g l))
 
-          shelves-more : (g : ℕ) → g < n → Shelf keys ms done (k + 1) g (countBelow ms g n) (countBelow ms g n + countWith ms g (k + 1))
+          shelves-more : (g : ℕ) → g < n →
+              Shelf keys ms done (k + 1) g (countBelow ms g n) (countBelow ms g n + countWith ms g (k + 1))
           shelves-more g l = go (eqb f g) refl
             where
               go : (o : Bool) → eqb f g ≡ o →
@@ -184,7 +187,8 @@ pub ruleset filing =
     (head-place, head-place-fits, row-few, head-few, shelf-size, shelf-ranked, end-few, place-inside, row-shelved, row-length, needs)
 
 -- Where a shelf starts and ends.
-pub shelf-told : (index : List ℕ) (f : ℕ) {a b : ℕ} → a ≡ getD index (startsAt + f) 0 → b ≡ getD index (endsAt + f) 0 → ShelfAt index f a b
+pub shelf-told : (index : List ℕ) (f : ℕ) {a b : ℕ} → a ≡ getD index (startsAt + f) 0 → b ≡ getD index (endsAt + f) 0 →
+    ShelfAt index f a b
 shelf-told index f e d = record { starts = e; ends = d }
 
 pub ruleset shelf-places = (shelf-told, needs)
@@ -214,7 +218,16 @@ pub place-told : {keys : List (List ℕ)} {order : List ℕ} {a b : ℕ} (row : 
     Bound keys order a b t p → Bound keys order a b (getD keys row []) p
 place-told row e b = rw e at b
 
-pub ruleset places = (place-told, needs)
+pub place-empty : {keys : List (List ℕ)} {order : List ℕ} {n a b : ℕ} (row : ℕ) → Ranked keys order n a b → a ≡ b →
+    Bound keys order a b (getD keys row []) a
+place-empty row r e = record {
+  after = omega arith;
+  before = omega arith;
+  below = λ i h l. absurd (omega arith);
+  above = λ i h l. absurd (omega arith);
+}
+
+pub ruleset places = (place-told, place-empty, needs)
 
 -- All rows.
 module _ {n : ℕ} {keys : List (List ℕ)} {ms index : List ℕ} {k : ℕ} (x : Shelved n keys ms index k) where
@@ -231,4 +244,13 @@ pub made-length : {n : ℕ} {keys : List (List ℕ)} {ms index new : List ℕ} {
     Shelved n keys ms new k → length new ≡ length index
 made-length e x = x .size ∙ sym (ap length e ∙ length-replicate {A = ℕ} indexSize 0)
 
-pub ruleset making = (grouped-size, grouped-rows, laid-shelved, made-length, needs)
+pub made-index : (side : Side) (rows : List (List ℕ)) (pool index : List ℕ) → ShelvedClasses side rows pool index (length rows) →
+    IndexBy side rows pool index
+made-index side rows pool index x = record { shelved = λ e. x }
+
+pub ruleset making = (grouped-size, grouped-rows, laid-shelved, made-length, made-index, needs)
+
+-- No table of that size.
+pub no-index : {side : Side} {rows : List (List ℕ)} {pool index : List ℕ} → (length index ≡ indexSize → ⊥) →
+    IndexBy side rows pool index
+no-index n = record { shelved = λ e. absurd (n e) }

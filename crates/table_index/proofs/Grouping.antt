@@ -23,7 +23,8 @@ use Rattle.table_index.proofs.Heads.{first-inside, first-here, first-ot
 use Rattle.table_index.proofs.Heads.{count-zero, count-here, count-other, count-inside}
 
 -- A part of the table after one number was written.
-pub ends-inside : (index : List ℕ) (i v : ℕ) {f : ℕ} → length index ≡ indexSize → f < mostClasses → endsAt + f < length (set index i v)
+pub ends-inside : (index : List ℕ) (i v : ℕ) {f : ℕ} → length index ≡ indexSize → f < mostClasses →
+    endsAt + f < length (set index i v)
 ends-inside index i v e h = let s = length-set index i v in omega arith
 
 pub ruleset joining = (ends-inside, needs)
@@ -38,7 +39,8 @@ no-first : (ms : List ℕ) (m : ℕ) → _≡_ {A = ℕ} 0 (firstWith ms m 0)
 unfolding firstWith
 no-first ms m = refl
 
-pub grouped-none : (ms : List ℕ) {n : ℕ} {index : List ℕ} → index ≡ replicate indexSize 0 → n ≤ mostClasses → Grouped n ms index 0
+pub grouped-none : (ms : List ℕ) {n : ℕ} {index : List ℕ} → index ≡ replicate indexSize 0 → n ≤ mostClasses →
+    Grouped n ms index 0
 grouped-none ms {n} {index} e few = record {
   few = few;
   inside = omega arith;
@@ -168,7 +170,8 @@ module _ (keys : List (List ℕ)) {n k : ℕ} {index : List ℕ} (g : Grouped n 
               kept (marksAt + m) (λ y. v (omega arith)) ∙ g .firsts m l
               ∙ sym (first-other (marksOf keys) m k (λ y. v (told ∙ y)))
 
-      pub new-grouped : {new : List ℕ} → new ≡ joined (set index (marksAt + mark) (k + 1)) k k → Grouped n (marksOf keys) new (k + 1)
+      pub new-grouped : {new : List ℕ} → new ≡ joined (set index (marksAt + mark) (k + 1)) k k →
+          Grouped n (marksOf keys) new (k + 1)
       new-grouped y =
           let w = g .few in
           rw y
@@ -215,7 +218,8 @@ module _ (keys : List (List ℕ)) {n k : ℕ} {index : List ℕ} (g : Grouped n 
           rw y
           (joined-grouped n (marksOf keys) index k (first - 1) (g .few) h (g .size) own numbers-old (g .heads) (g .counts) (add-one k))
 
-pub joined-length : (index : List ℕ) (i v : ℕ) {new : List ℕ} (k f : ℕ) → new ≡ joined (set index i v) k f → length new ≡ length index
+pub joined-length : (index : List ℕ) (i v : ℕ) {new : List ℕ} (k f : ℕ) → new ≡ joined (set index i v) k f →
+    length new ≡ length index
 joined-length index i v k f e =
     ap length e ∙ length-set (set (set index i v) (headsAt + k) f) (endsAt + f) (getD (set index i v) (endsAt + f) 0 + 1)
     ∙ length-set (set index i v) (headsAt + k) f ∙ length-set index i v
@@ -239,7 +243,8 @@ pub ruleset grouping = (
 pub grouped-all : {n : ℕ} {ms index : List ℕ} {k : ℕ} → Grouped n ms index k → n ≤ k → Grouped n ms index n
 grouped-all {n} {k = k} g h = let i = g .inside in let z : k ≡ n = omega arith in rw z at g
 
-pub zeros-length : {n : ℕ} {ms index new : List ℕ} {k : ℕ} → index ≡ replicate indexSize 0 → Grouped n ms new k → length new ≡ length index
+pub zeros-length : {n : ℕ} {ms index new : List ℕ} {k : ℕ} → index ≡ replicate indexSize 0 → Grouped n ms new k →
+    length new ≡ length index
 zeros-length e g = g .size ∙ sym (ap length e ∙ length-replicate {A = ℕ} indexSize 0)
 
 pub ruleset grouping-all = (grouped-none, grouped-all, zeros-length, needs)

@@ -57,7 +57,8 @@ module _ (ms : List ℕ) where
   head-told zero r h = absurd (omega arith)
   head-told (suc k) r h = go (le-or-lt k r) (head-told k r)
     where
-      go : (k ≤ r) ⊎ (r < k) → (r < k → firstWith ms (getD ms r 0) k ≡ headOf ms r + 1) → firstWith ms (getD ms r 0) (suc k) ≡ headOf ms r + 1
+      go : (k ≤ r) ⊎ (r < k) → (r < k → firstWith ms (getD ms r 0) k ≡ headOf ms r + 1) →
+          firstWith ms (getD ms r 0) (suc k) ≡ headOf ms r + 1
       go (inl l) again = let z : k ≡ r = omega arith in rw z (own-number r)
       go (inr l) again = rw (add-one) (first-stays (getD ms r 0) k (headOf ms r) (again l ∙ add-one (headOf ms r)))
 

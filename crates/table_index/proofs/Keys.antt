@@ -35,7 +35,8 @@ text-told side rows pool r e f g =
 pub ruleset row-texts = (text-told, needs)
 
 -- Only the descriptors count: a pool that holds the same ones at the same places has the same index.
-texts-alike : (f g : List ℕ → List ℕ) (rows : List (List ℕ)) → ((i : ℕ) → i < length rows → f (getD rows i []) ≡ g (getD rows i [])) →
+texts-alike : (f g : List ℕ → List ℕ) (rows : List (List ℕ)) →
+    ((i : ℕ) → i < length rows → f (getD rows i []) ≡ g (getD rows i [])) →
     map f rows ≡ map g rows
 texts-alike f g [] e = refl
 texts-alike f g (row ∷ rows) e =
@@ -49,6 +50,7 @@ unfolding keysOf
 keys-alike side rows pool pool₁ e =
     texts-alike (λ row. textIn pool₁ (textOn side (unpackClass row))) (λ row. textIn pool (textOn side (unpackClass row))) rows e
 
-pub index-kept : (side : Side) (rows : List (List ℕ)) (pool pool₁ index : List ℕ) → keysOf side rows pool₁ ≡ keysOf side rows pool →
+pub index-kept : (side : Side) (rows : List (List ℕ)) (pool pool₁ index : List ℕ) →
+    keysOf side rows pool₁ ≡ keysOf side rows pool →
     IndexBy side rows pool index → IndexBy side rows pool₁ index
-index-kept side rows pool pool₁ index e x = rw e x
+index-kept side rows pool pool₁ index e x = record { shelved = λ z. rw e (x .shelved z) }

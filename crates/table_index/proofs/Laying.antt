@@ -40,11 +40,13 @@ rows-rise : (index : List ℕ) (f g : ℕ) → f ≤ g → rowsBefore index f �
 rows-rise index f zero h = let z : f ≡ 0 = omega arith in rw z (omega arith)
 rows-rise index f (suc g) h = go (le-or-lt f g) (rows-rise index f g)
   where
-    go : (f ≤ g) ⊎ (g < f) → (f ≤ g → rowsBefore index f ≤ rowsBefore index g) → rowsBefore index f ≤ rowsBefore index (suc g)
+    go : (f ≤ g) ⊎ (g < f) → (f ≤ g → rowsBefore index f ≤ rowsBefore index g) →
+        rowsBefore index f ≤ rowsBefore index (suc g)
     go (inl l) again = let i = again l in let s = rows-next index g in omega arith
     go (inr l) again = let z : f ≡ suc g = omega arith in rw z (omega arith)
 
-pub laid-starts : {index : List ℕ} {n : ℕ} → length index ≡ indexSize → n ≤ mostClasses → rowsBefore index n ≤ mostClasses →
+pub laid-starts : {index : List ℕ} {n : ℕ} → length index ≡ indexSize → n ≤ mostClasses →
+    rowsBefore index n ≤ mostClasses →
     Laid index n index 0 0
 laid-starts {index} e few b = record {
   few = few;

@@ -18,13 +18,14 @@ use Rattle.tables.specs.declared.search.Side.{Side}
 use Rattle.tables.specs.declared.search.Found.{Found}
 use Rattle.tables.specs.declared.search.Found.the-variants.{Row, Unknown}
 use Rattle.tables.specs.Search.{hasName, lastWith}
-use Rattle.tables.proofs.Searching.{Scanning, scanning-from, scanning-found, scanning-ends}
+use Rattle.tables.proofs.Searching.{Scanning, scanning-from, scanning-starts, scanning-ends, scanning-inside, scanning-found}
+use Rattle.tables.proofs.Searching.{scanning-more}
 use Rattle.table_index.specs.inner.Order.{atMost}
 use Rattle.table_index.specs.inner.Marks.{markCount, markFrom, markOf, marksOf}
 use Rattle.table_index.specs.inner.Keys.{keysOf}
 use Rattle.table_index.specs.inner.Heads.{firstWith, headOf}
 use Rattle.table_index.specs.inner.Shelves.{keyAt, Ranked, Seat, Shelf, Bound, LastSeat, LastOn}
-use Rattle.table_index.specs.inner.Index.{marksAt, indexSize, ShelfAt, IndexBy}
+use Rattle.table_index.specs.inner.Index.{marksAt, indexSize, ShelfAt, ShelvedClasses, IndexBy}
 use Rattle.table_index.proofs.Comparing.{Way, less, even, more, way, most-refl, most-equal}
 use Rattle.table_index.proofs.Marking.{mark-below, mark-is}
 use Rattle.table_index.proofs.Keys.{key-is}
@@ -53,12 +54,14 @@ module _ (side : Side) (rows : List (List ℕ)) (pool name : List ℕ) where
       go false e = refl
       go true e = absurd (n (same-equal (getD (keysOf side rows pool) i []) name e))
 
-  none-at-all : ((i : ℕ) → i < length rows → getD (keysOf side rows pool) i [] ≡ name → ⊥) → Unknown ≡ lastWith side rows pool name
+  none-at-all : ((i : ℕ) → i < length rows → getD (keysOf side rows pool) i [] ≡ name → ⊥) →
+      Unknown ≡ lastWith side rows pool name
   none-at-all n =
       scanning-ends (scanning-from (hasName side pool name) rows 0 (omega arith) (λ i h l. refuted i (n i l))) (omega arith)
 
   last-one : (r : ℕ) → r < length rows → getD (keysOf side rows pool) r [] ≡ name →
-      ((i : ℕ) → r < i → i < length rows → getD (keysOf side rows pool) i [] ≡ name → ⊥) → Row r ≡ lastWith side rows pool name
+      ((i : ℕ) → r < i → i < length rows → getD (keysOf side rows pool) i [] ≡ name → ⊥) →
+      Row r ≡ lastWith side rows pool name
   last-one r h e n =
       let z : r + 1 - 1 ≡ r = omega arith in
       let k : Scanning (hasName side pool name) rows (r + 1) =
@@ -66,6 +69,15 @@ module _ (side : Side) (rows : List (List ℕ)) (pool name : List ℕ) where
       let here : hasName side pool name (getD rows (r + 1 - 1) []) ≡ true =
       rw z (row-has r ∙ ap (λ s. same s name) e ∙ same-refl name) in
       rw z at (scanning-found k (omega arith) here)
+
+-- All rows, from the last one on.
+pub scanned-row : (side : Side) (rows : List (List ℕ)) (pool name : List ℕ) (i : ℕ) {t : List ℕ} →
+    t ≡ getD (keysOf side rows pool) i [] →
+    {b : Bool} → b ≡ same t name → {z : Bool} → b ≡ z → hasName side pool name (getD rows i []) ≡ z
+scanned-row side rows pool name i e f g = row-has side rows pool name i ∙ ap (λ s. same s name) (sym e) ∙ sym f ∙ g
+
+pub ruleset scanning-all =
+    (scanned-row, scanning-starts, scanning-ends, scanning-inside, scanning-found, scanning-more, needs)
 
 -- The last row of a shelf.
 module _ {keys : List (List ℕ)} {order : List ℕ} {n a b : ℕ} (r : Ranked keys order n a b) (t : List ℕ) where
@@ -155,8 +167,11 @@ pub ruleset last-of-shelf =
     (ranked-goes, only-place, only-row, only-last, none-before, last-sub, last-place, last-row, last-last, needs)
 
 -- The last row of all.
-module _ (side : Side) (rows : List (List ℕ)) (pool : List ℕ) {index : List ℕ} (x : IndexBy side rows pool index)
-    (name : List ℕ) {mark : ℕ} (e : mark ≡ markOf name) where
+module _ {side : Side} {rows : List (List ℕ)} {pool index : List ℕ} (found : IndexBy side rows pool index)
+    (size : length index ≡ indexSize) (name : List ℕ) {mark : ℕ} (e : mark ≡ markOf name) where
+  x : ShelvedClasses side rows pool index (length rows)
+  x = found .shelved size
+
   abbrev keys : List (List ℕ)
   keys = keysOf side rows pool
 
@@ -167,13 +182,10 @@ module _ (side : Side) (rows : List (List ℕ)) (pool : List ℕ) {index : List 
   below = let b = mark-below name in omega arith
 
   pub mark-place : marksAt + mark < length index
-  mark-place = let b = below in let s = x .size in omega arith
+  mark-place = let b = below in let s = size in omega arith
 
   pub mark-place-fits : Fits w64 (marksAt + mark)
   mark-place-fits = let b = below in omega arith
-
-  pub index-size : length index ≡ indexSize
-  index-size = x .size
 
   module _ {first : ℕ} (d : first ≡ getD index (marksAt + mark) 0) where
     -- a row with the name says what the table has for its mark
@@ -242,4 +254,4 @@ module _ (side : Side) (rows : List (List ℕ)) (pool : List ℕ) {index : List 
         search-last Unknown o = none-last o
 
 pub ruleset searching =
-    (mark-place, mark-place-fits, index-size, search-none, head-sub, head-few, search-ranked, search-last, needs)
+    (mark-place, mark-place-fits, search-none, head-sub, head-few, search-ranked, search-last, needs)

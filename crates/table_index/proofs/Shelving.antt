@@ -39,7 +39,8 @@ module _ {keys : List (List ℕ)} {old new : List ℕ} {k a b : ℕ} (size : len
   }
 
 -- there are more rows
-pub ranked-wider : {keys : List (List ℕ)} {order : List ℕ} {k n a b : ℕ} → k ≤ n → Ranked keys order k a b → Ranked keys order n a b
+pub ranked-wider : {keys : List (List ℕ)} {order : List ℕ} {k n a b : ℕ} → k ≤ n → Ranked keys order k a b →
+    Ranked keys order n a b
 ranked-wider h r = record {
   goes = r .goes;
   room = r .room;
@@ -86,7 +87,8 @@ module _ {keys : List (List ℕ)} {ms old new : List ℕ} {k f a b p : ℕ} (s :
       let o = s .ranked .only (i - 1) (omega arith) (omega arith) in
       omega arith
 
-  sorted-more : (i j : ℕ) → Way i p → Way j p → a ≤ i → i < j → j < b + 1 → atMost (keyAt keys new i) (keyAt keys new j) ≡ true
+  sorted-more : (i j : ℕ) → Way i p → Way j p → a ≤ i → i < j → j < b + 1 →
+      atMost (keyAt keys new i) (keyAt keys new j) ≡ true
   sorted-more i j (less h) (less g) c l m =
       let q = t .before in
       ap (λ y. atMost y (keyAt keys new j)) (key-front i h) ∙ ap (atMost (keyAt keys old i)) (key-front j g)

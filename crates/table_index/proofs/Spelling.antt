@@ -49,7 +49,8 @@ module _ (dots : Bool) (name : List ℕ) where
     up : suc (i - 1) ≡ i
     up = omega arith
 
-    pub byte-inner : i - 1 < length name → {x : ℕ} → x ≡ slashIf dots (getD name (i - 1) 0) → x ≡ getD (classPiece dots name) i 0
+    pub byte-inner : i - 1 < length name → {x : ℕ} → x ≡ slashIf dots (getD name (i - 1) 0) →
+        x ≡ getD (classPiece dots name) i 0
     byte-inner h e = e ∙ sym (inner-byte (i - 1) h) ∙ ap (λ j. getD (classPiece dots name) j 0) up
 
     pub byte-last : length name ≤ i - 1 → i < length name + 2 → 0x3B ≡ getD (classPiece dots name) i 0
@@ -110,7 +111,8 @@ module _ (a name : List ℕ) {form : NameForm} {o : Order} where
   pub named-whole : form ≡ Whole → o ≡ compared a name → o ≡ compared a (spelled form name)
   named-whole e f = f ∙ ap (λ s. compared a (spelled s name)) (sym e)
 
-  pub named-piece : {dots : Bool} → form ≡ Piece dots → o ≡ compared a (classPiece dots name) → o ≡ compared a (spelled form name)
+  pub named-piece : {dots : Bool} → form ≡ Piece dots → o ≡ compared a (classPiece dots name) →
+      o ≡ compared a (spelled form name)
   named-piece e f = f ∙ ap (λ s. compared a (spelled s name)) (sym e)
 
 pub ruleset naming = (named-whole, named-piece, needs)
@@ -171,7 +173,8 @@ module _ (text name : List ℕ) (dots : Bool) where
             alike = λ j l m. go j m (le-or-lt k j) l;
           }
             where
-              go : (j : ℕ) → j < length name → (k ≤ j) ⊎ (j < k) → k - 1 ≤ j → getD text (suc j) 0 ≡ slashIf dots (getD name j 0)
+              go : (j : ℕ) → j < length name → (k ≤ j) ⊎ (j < k) → k - 1 ≤ j →
+                  getD text (suc j) 0 ≡ slashIf dots (getD name j 0)
               go j m (inl l) q = a .alike j l m
               go j m (inr l) q =
                   let z : k - 1 ≡ j = omega arith in

@@ -15,7 +15,7 @@ ghost use lib.ListN.{length, getD};
 ghost use Rattle.table_rows.specs.Rows.{mostClasses};
 ghost use Rattle.table_index.specs.inner.Keys.{keysOf};
 ghost use Rattle.table_index.specs.inner.Shelves.{Ranked, Bound, Inserted};
-ghost use Rattle.table_index.specs.inner.Index.{indexSize, Filed, ShelvedClasses, IndexBy};
+ghost use Rattle.table_index.specs.inner.Index.{indexSize, Filed, ShelvedClasses};
 
 // A row at a place: what stands from there to `end` stands one place further.
 fn insert_at(index: &mut [u16], place: usize, end: usize, row: usize)
@@ -62,6 +62,10 @@ fn place_for(
         let keys = keysOf side (now (classes .entry)) (now (pool .entry)) in
         ⌜ Bound keys (now (index .entry)) start «end» (getD keys row []) r ⌝ }
 {
+    // Mostly no row has the mark yet.
+    if start == end {
+        return start;
+    }
     let text = row_text(side, classes, pool, row);
     upper_bound(
         index,
@@ -90,7 +94,9 @@ fn insert_row(index: &mut [u16], side: Side, classes: &[ClassRow], pool: &[u8], 
 // All rows.
 pub fn insert_rows(index: &mut [u16], side: Side, classes: &[ClassRow], pool: &[u8])
     requires { ⌜ ShelvedClasses side (now classes) (now pool) (now index) 0 ⌝ }
-    ensures { λ _. ⌜ IndexBy side (now (classes .entry)) (now (pool .entry)) (now (index .exit)) ⌝ }
+    ensures { λ _.
+        let rows = now (classes .entry) in
+        ⌜ ShelvedClasses side rows (now (pool .entry)) (now (index .exit)) (length rows) ⌝ }
 {
     let mut row = 0;
     while row < classes.len() {

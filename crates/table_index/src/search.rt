@@ -3,6 +3,7 @@ use crate::forms::NameForm;
 use crate::forms::compare_named;
 use crate::forms::is_named;
 use crate::marks::mark_of;
+use crate::parts::INDEX;
 use crate::parts::MARKS_AT;
 use crate::parts::shelf_at;
 use crate::parts::wide_number;
@@ -113,7 +114,23 @@ fn last_between(
     row_if_named(side, classes, pool, last, name, form)
 }
 
-// The last class row whose descriptor on one side is what the name stands for.
+// The same among all rows, which are asked from the last one on.
+fn last_scanned(side: Side, classes: &[ClassRow], pool: &[u8], name: &[u8], form: NameForm) -> Found
+    ensures { λ r. ⌜ r ≡ lastWith side (now (classes .entry)) (now (pool .entry)) (spelled form (now (name .entry))) ⌝ }
+{
+    let mut end = classes.len();
+    while 0 < end {
+        let at = end - 1;
+        if is_named(row_text(side, classes, pool, at), name, form) {
+            return Found::Row(at);
+        }
+        end = at;
+    }
+    Found::Unknown
+}
+
+// The last class row whose descriptor on one side is what the name stands for. Where few rows are to be searched the caller may save the
+// table, and give a shorter one.
 pub fn last_named(
     index: &[u16],
     side: Side,
@@ -125,6 +142,9 @@ pub fn last_named(
     requires { ⌜ IndexBy side (now classes) (now pool) (now index) ⌝ }
     ensures { λ r. ⌜ r ≡ lastWith side (now (classes .entry)) (now (pool .entry)) (spelled form (now (name .entry))) ⌝ }
 {
+    if index.len() != INDEX {
+        return last_scanned(side, classes, pool, name, form);
+    }
     let mark = mark_of(name, form);
     let first = wide_number(index[MARKS_AT + mark]);
     if first == 0 {

@@ -12,7 +12,8 @@ use Rattle.table_pool.specs.declared.write.TwoTexts.the-variants.{NoRoom}
 
 -- The class `k` is the row `count` of the rows `c`, and its descriptors stand in the pool `p` from the place `at` to the place `q`. With
 -- `₁`: after that.
-pub record EnteredClass (q : ℕ) (k : Pair) (count at : ℕ) (c : List (List ℕ)) (p : List ℕ) (c₁ : List (List ℕ)) (p₁ : List ℕ) : Type 0 where
+pub record EnteredClass (q : ℕ) (k : Pair) (count at : ℕ) (c : List (List ℕ)) (p : List ℕ)
+    (c₁ : List (List ℕ)) (p₁ : List ℕ) : Type 0 where
   pub written : Written q p at (classText k) p₁
   pub row : c₁ ≡ set c count (classRow at k)
 

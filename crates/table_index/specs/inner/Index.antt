@@ -91,6 +91,6 @@ abbrev pub ShelvedClasses : Side → List (List ℕ) → List ℕ → List ℕ �
 ShelvedClasses side rows pool index k =
     Shelved (length rows) (keysOf side rows pool) (marksOf (keysOf side rows pool)) index k
 
--- an index of all of them
-abbrev pub IndexBy : Side → List (List ℕ) → List ℕ → List ℕ → Type 0
-IndexBy side rows pool index = ShelvedClasses side rows pool index (length rows)
+-- A table of that size is an index of all of them. One of any other size is none: rows are asked one by one then.
+pub record IndexBy (side : Side) (rows : List (List ℕ)) (pool index : List ℕ) : Type 0 where
+  pub shelved : length index ≡ indexSize → ShelvedClasses side rows pool index (length rows)

@@ -6,7 +6,8 @@ use Rattle.load_classes.proofs.write.write_classes.Statement.{statement
 use Rattle.load_classes.proofs.write.write_classes.Tie as tie
 
 abbrev Inv-loop : tie.InvT-loop
-Inv-loop text classes₀ pool₀ at₀ count₀ end₀ classes pool at count end = Writing text classes₀ pool₀ at count «end» classes pool
+Inv-loop text classes₀ pool₀ at₀ count₀ end₀ classes pool at count end =
+    Writing text classes₀ pool₀ at count «end» classes pool
 
 abbrev μ-loop : tie.MeasureT-loop
 μ-loop text classes₀ pool₀ at₀ count₀ end₀ classes pool at count end = length text - at

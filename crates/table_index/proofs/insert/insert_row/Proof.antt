@@ -19,10 +19,9 @@ shelf-at-requires : tie.Need-shelf-at-requires
 shelf-at-requires c κs = search filing
 
 place-for-requires : tie.Need-place-for-requires
-place-for-requires c κs = (
-  shelf-ranked (c .before .before .before .before .before .before .before .pre .0) (c .before .before .before .before .before .before .before .pre .1) (c .before .before .before .wide-number .ensures) (c .before .shelf-at .ensures),
-  c .before .before .before .before .before .before .before .pre .1,
-)
+place-for-requires c κs =
+    let begun = c .before .before .before .before .before .before .before in
+    (shelf-ranked (begun .pre .0) (begun .pre .1) (c .before .before .before .wide-number .ensures) (c .before .shelf-at .ensures), begun .pre .1)
 
 file-row-requires : tie.Need-file-row-requires
 file-row-requires c κs = search filing

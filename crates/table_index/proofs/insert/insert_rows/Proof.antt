@@ -9,7 +9,8 @@ use Rattle.table_index.proofs.insert.insert_rows.Statement.{statement}
 use Rattle.table_index.proofs.insert.insert_rows.Tie as tie
 
 abbrev Inv-loop : tie.InvT-loop
-Inv-loop index₀ side classes pool row₀ index row = Shelved (length classes) (keysOf side classes pool) (marksOf (keysOf side classes pool)) index row
+Inv-loop index₀ side classes pool row₀ index row =
+    Shelved (length classes) (keysOf side classes pool) (marksOf (keysOf side classes pool)) index row
 
 abbrev μ-loop : tie.MeasureT-loop
 μ-loop index₀ side classes pool row₀ index row = length classes - row

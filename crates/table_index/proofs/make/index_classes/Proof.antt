@@ -11,7 +11,9 @@ lay-shelves-requires : tie.Need-lay-shelves-requires
 lay-shelves-requires c κs = search making
 
 insert-rows-requires : tie.Need-insert-rows-requires
-insert-rows-requires c κs = laid-shelved (c .before .before .before .before .before .before .before .group-rows .ensures) _ (c .before .before .before .lay-shelves .ensures)
+insert-rows-requires c κs =
+    let grouped = c .before .before .before .before .before .before .before .group-rows .ensures in
+    laid-shelved grouped _ (c .before .before .before .lay-shelves .ensures)
 
 same-length : tie.Need-same-length
 same-length c = search making

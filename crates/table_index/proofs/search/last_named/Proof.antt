@@ -3,6 +3,12 @@ use Rattle.table_index.proofs.Searching.{searching, search-ranked}
 use Rattle.table_index.proofs.search.last_named.Statement.{statement}
 use Rattle.table_index.proofs.search.last_named.Tie as tie
 
+last-scanned-requires : tie.Need-last-scanned-requires
+last-scanned-requires c κs = search searching
+
+returns : tie.Need-returns
+returns c = search searching
+
 mark-of-requires : tie.Need-mark-of-requires
 mark-of-requires c κs = search searching
 
@@ -18,8 +24,8 @@ shared-slice-read-wide-number c = search searching
 wide-number-requires : tie.Need-wide-number-requires
 wide-number-requires c κs = search searching
 
-returns : tie.Need-returns
-returns c = search searching
+returns-2 : tie.Need-returns-2
+returns-2 c = search searching
 
 sub-shelf-at : tie.Need-sub-shelf-at
 sub-shelf-at c = search searching
@@ -29,23 +35,28 @@ shelf-at-requires c κs = search searching
 
 last-between-requires : tie.Need-last-between-requires
 last-between-requires c κs =
-    search-ranked _ _ _ (c .before .before .before .before .before .before .before .before .pre) _ (c .before .before .before .before .mark-of .ensures) (c .before .before .wide-number .ensures) (c .before .if1 .left)
+    let begun = c .before .before .before .before .before .before .before .before .before in
+    let sized = c .before .before .before .before .before .if1 .left in
+    search-ranked (begun .pre) sized _ (c .before .before .before .before .mark-of .ensures) (c .before .before .wide-number .ensures)
+    (c .before .if2 .left)
     (c .shelf-at .ensures)
 
-returns-2 : tie.Need-returns-2
-returns-2 c = search searching
+returns-3 : tie.Need-returns-3
+returns-3 c = search searching
 
 pub last-named-spec : {M : Type 1} → statement M
 last-named-spec =
     tie.close
     (tie.spec
+    last-scanned-requires
+    returns
     mark-of-requires
     add-wide-number
     mul-wide-number
     shared-slice-read-wide-number
     wide-number-requires
-    returns
+    returns-2
     sub-shelf-at
     shelf-at-requires
     last-between-requires
-    returns-2)
+    returns-3)

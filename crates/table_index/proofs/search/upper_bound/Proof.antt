@@ -7,7 +7,8 @@ use Rattle.table_index.proofs.search.upper_bound.Statement.{statement}
 use Rattle.table_index.proofs.search.upper_bound.Tie as tie
 
 abbrev Inv-loop : tie.InvT-loop
-Inv-loop index side classes pool start end name form low₀ high₀ low high = Halving (keysOf side classes pool) index start «end» (spelled form name) low high
+Inv-loop index side classes pool start end name form low₀ high₀ low high =
+    Halving (keysOf side classes pool) index start «end» (spelled form name) low high
 
 abbrev μ-loop : tie.MeasureT-loop
 μ-loop index side classes pool start end name form low₀ high₀ low high = high - low
