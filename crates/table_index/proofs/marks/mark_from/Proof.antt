@@ -1,7 +1,8 @@
 -- `table_index::marks::mark_from` meets its contract, by the laws of Marking.
-use Rattle.table_index.proofs.Marking.{marking, Marked}
+use Rattle.table_index.proofs.Marking.{marking}
 use Prim.Native.Nat.{_-_}
 use lib.ListN.{length}
+use Rattle.table_index.specs.inner.Marks.{Marked}
 use Rattle.table_index.proofs.marks.mark_from.Statement.{statement}
 use Rattle.table_index.proofs.marks.mark_from.Tie as tie
 
@@ -11,20 +12,20 @@ Inv-loop start text mark₀ k₀ mark k = Marked start text mark k
 abbrev μ-loop : tie.MeasureT-loop
 μ-loop start text mark₀ k₀ mark k = length text - k
 
+mark-fours-requires : tie.Need-mark-fours-requires Inv-loop μ-loop
+mark-fours-requires c κs = search marking
+
 loop-holds : tie.Need-loop-holds Inv-loop μ-loop
 loop-holds c = search marking
-
-shared-slice-read-slash-for-dot : tie.Need-shared-slice-read-slash-for-dot Inv-loop μ-loop
-shared-slice-read-slash-for-dot c = search marking
-
-slash-for-dot-requires : tie.Need-slash-for-dot-requires Inv-loop μ-loop
-slash-for-dot-requires c κs = search marking
 
 mul-mark : tie.Need-mul-mark Inv-loop μ-loop
 mul-mark c = search marking
 
-cast-mark : tie.Need-cast-mark Inv-loop μ-loop
-cast-mark c = search marking
+shared-slice-read-wide-byte : tie.Need-shared-slice-read-wide-byte Inv-loop μ-loop
+shared-slice-read-wide-byte c = search marking
+
+wide-byte-requires : tie.Need-wide-byte-requires Inv-loop μ-loop
+wide-byte-requires c κs = search marking
 
 add-mark : tie.Need-add-mark Inv-loop μ-loop
 add-mark c = search marking
@@ -47,11 +48,11 @@ mark-from-spec =
     (tie.spec
     Inv-loop
     μ-loop
+    mark-fours-requires
     loop-holds
-    shared-slice-read-slash-for-dot
-    slash-for-dot-requires
     mul-mark
-    cast-mark
+    shared-slice-read-wide-byte
+    wide-byte-requires
     add-mark
     add-k
     loop-less
