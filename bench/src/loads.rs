@@ -92,6 +92,40 @@ fn synthetic(seed: u64, runs: u64) -> Result<(), Unequal> {
     Ok(())
 }
 
+const SMALL: &str = include_str!("../../examples/small.map");
+
+/// So many names that share one mark of the index: `Aa` and `BB` weigh the same where a byte counts 31 times the next.
+fn alike(count: usize) -> Vec<String> {
+    let half = |at: usize, bit: usize| if at >> bit & 1 == 1 { "BB" } else { "Aa" };
+    let name = |at: usize| (0..12).map(|bit| half(at, bit)).collect();
+    (0..count).map(name).collect()
+}
+
+/// So many classes with such names, and methods that name one after the other, up to the length.
+fn alike_mapping(count: usize, length: usize) -> String {
+    let names = alike(count);
+    let line = |(at, name): (usize, &String)| format!("{name} -> c{at}:\n");
+    let mut text: String = names.iter().enumerate().map(line).collect();
+    let mut at = 0;
+    let mut next = || {
+        // steps of a prime number reach every name
+        at = (at + 1_021) % count;
+        &names[at]
+    };
+    while text.len() + 128 < length {
+        text += &format!(" {} f({},{}) -> d\n", next(), next(), next());
+    }
+    text
+}
+
+/// Names that share one mark: no faster than others, and no slower than the original's hash maps.
+fn colliding(runs: u64) -> Result<(), Unequal> {
+    for (name, count) in [("512 alike", 512), ("4,096 alike", 4_096)] {
+        race(&alike_mapping(count, MEGABYTE), name, runs)?;
+    }
+    Ok(())
+}
+
 /// So many class lines, each with a name of its own.
 fn classes(count: usize) -> String {
     let line = |at: usize| format!("a.b.C{at} -> c{at}:\n");
@@ -144,6 +178,8 @@ pub fn run(seed: u64, runs: u64, path: Option<&Path>) -> Result<(), Unequal> {
     race::print_head("original");
     real(path, runs)?;
     synthetic(seed, runs)?;
+    race(SMALL, "small file", runs)?;
+    colliding(runs)?;
     if !timing::AT_HAND {
         println!("The original's source is not at hand, see run --source.");
     }

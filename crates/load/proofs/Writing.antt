@@ -7,7 +7,7 @@ use Prim.Native.Nat.{ℕ, _+_, _≤_, _<_}
 use native.Mathlib.Nat.{zero-add}
 use native.Mathlib.Omega.{arith}
 use lib.Dec.{eqb, ltb}
-use lib.ListN.{length, take, length-append}
+use lib.ListN.{length, take, replicate, length-append}
 use borrow.Author.Needs.{needs}
 use Rattle.ground.specs.Choice.{pick}
 use Rattle.ground.specs.Put.{put}
@@ -18,7 +18,8 @@ use Rattle.table_pool.specs.declared.write.Wrote.the-variants.{Done}
 use Rattle.table_pool.specs.inner.Wrote.{Written}
 use Rattle.table_pool.proofs.Writes.{written-length, wrote-then}
 use Rattle.tables.specs.Back.{readBack}
-use Rattle.load_raw_types.specs.inner.Marks.{Indexed}
+use Rattle.table_index.proofs.Filing.{no-index}
+use Rattle.load_raw_types.specs.inner.Behind.{Below, Indexed}
 use Rattle.load_rule.specs.declared.Fates.{Fates}
 use Rattle.load_rule.specs.declared.Scan.{Scan}
 use Rattle.load_rule.specs.declared.Scan.the-variants as scan
@@ -37,7 +38,7 @@ use Rattle.load_members.specs.declared.fill.Filled.the-variants as filled
 use Rattle.load_members.specs.inner.Filled.{Holding, Over, members, WrittenAll, CutShort, FilledBy}
 use Rattle.load.specs.inner.Into.{refusedOf, acceptedOf, IntoBy}
 use Rattle.load.proofs.Deciding.{decided, accepted-as, scan-counted}
-use Rattle.table_rows.specs.Rows.{mostPool}
+use Rattle.table_rows.specs.Rows.{mostClasses, mostPool}
 
 -- A refusal is no load.
 missing-refused : (a b d : Bool) → isLoaded (pick a loads.NoClasses (pick b loads.FewClassRows (pick d loads.FewMemberRows loads.ShortPool))) ≡ false
@@ -59,7 +60,7 @@ module _ (ls : List (List ℕ)) (c m : List (List ℕ)) (p : List ℕ) (c₁ m�
     full = λ t. clash t (ap isLoaded e ∙ refused-not (scanOf ls) (length c) (length m));
   }
 
-  module _ (k : Classes) (c₂ : List (List ℕ)) (p₂ i₁ : List ℕ) (w : ClassesBy k ls c p c₂ p₂ i₁) {s : Scan} (e : s ≡ scanOf ls) where
+  module _ (k : Classes) (c₂ : List (List ℕ)) (p₂ : List ℕ) (w : ClassesBy k ls c p c₂ p₂) {s : Scan} (e : s ≡ scanOf ls) where
     pub into-few-rows : k ≡ classes.FewRows → {r : Load} → r ≡ refusedOf s (length c) (length m) → IntoBy r ls c m p c₁ m₁ p₁
     into-few-rows f g = lacking (inl (rw f at w)) (g ∙ ap (λ x. refusedOf x (length c) (length m)) e)
 
@@ -69,8 +70,9 @@ module _ (ls : List (List ℕ)) (c m : List (List ℕ)) (p : List ℕ) (c₁ m�
         lacking (inr (inr (omega (arith, length-append (classPool (classesOf ls)) (entryPool (entriesOf ls)))))) (g ∙ ap (λ x. refusedOf x (length c) (length m)) e)
 
 -- Where all classes are written.
-module _ (ls : List (List ℕ)) (c : List (List ℕ)) (p : List ℕ) (k : Classes) (c₁ : List (List ℕ)) (p₁ i₁ : List ℕ) (w : ClassesBy k ls c p c₁ p₁ i₁) {count q : ℕ} (e : k ≡ classes.Written count q) where
-  at-them : ClassesAt count q ls c p c₁ p₁ i₁
+module _ (ls : List (List ℕ)) (c : List (List ℕ)) (p : List ℕ) (k : Classes) (c₁ : List (List ℕ)) (p₁ : List ℕ) (w : ClassesBy k ls c p c₁ p₁)
+    {count q : ℕ} (e : k ≡ classes.Written count q) where
+  at-them : ClassesAt count q ls c p c₁ p₁
   at-them = rw e at w
 
   size : length (classRows 0 (classesOf ls)) ≡ count
@@ -85,8 +87,14 @@ module _ (ls : List (List ℕ)) (c : List (List ℕ)) (p : List ℕ) (k : Classe
       let n : length c₁ ≡ length c = ap length (at-them .rows) ∙ length-put c 0 (classRows 0 (classesOf ls)) fits in
       omega (arith, at-them .counted, at-them .room)
 
-  pub into-indexed : Indexed (take count c₁) p₁ i₁ q
-  into-indexed = rw rows-are (at-them .indexed)
+  pub into-below : Below (take count c₁) p₁ q
+  into-below = rw rows-are (at-them .below)
+
+  pub into-few : length c ≤ mostClasses → length (take count c₁) ≤ mostClasses
+  into-few h =
+      let n = ap length rows-are in
+      let r = rows-length classRow classText 0 (classesOf ls) in
+      omega (arith, at-them .room)
 
   back-is : readBack (take count c₁) p₁ ≡ classesOf ls
   back-is = ap (λ x. readBack x p₁) rows-are ∙ at-them .back
@@ -147,4 +155,10 @@ module _ (ls : List (List ℕ)) (c : List (List ℕ)) (p : List ℕ) (k : Classe
           }
 
 pub ruleset into =
-    (into-few-rows, into-short-pool, into-count, into-indexed, into-pool, into-short, into-short-scan, into-faulty, into-names, into-all, scan-counted, prefix-whole, needs)
+    (into-few-rows, into-short-pool, into-count, into-below, into-few, into-pool, into-short, into-short-scan, into-faulty, into-names, into-all, scan-counted, prefix-whole, needs)
+
+-- Few classes: no table of that size, and no index.
+pub few-indexed : {rows : List (List ℕ)} {pool : List ℕ} {at : ℕ} → Below rows pool at → Indexed rows pool (replicate 1 0) at
+few-indexed b = record { below = b; finds = no-index (λ e. absurd (omega arith)) }
+
+pub ruleset few-filled = (few-indexed, needs)

@@ -13,7 +13,6 @@ use Rattle.table_pool.specs.inner.Wrote.{TwoAt, TwoBy}
 use Rattle.table_pool.proofs.Writes.{two-no-first, two-no-second, two-done, two-told, two-none}
 use Rattle.table_rows.specs.declared.rows.Text.{Text}
 use Rattle.table_rows.specs.Rows.{text, packClass, mostPool}
-use Rattle.load_raw_types.specs.inner.Marks.{markOf, chained}
 use Rattle.load_rule.specs.Classes.{classText, classRow}
 use Rattle.load_classes.specs.declared.names.ClassNames.{ClassNames}
 use Rattle.table_pool.specs.declared.write.TwoTexts.{TwoTexts}
@@ -24,7 +23,7 @@ use Rattle.load_classes.specs.inner.Entries.{EnteredClass}
 -- Two descriptors, one after the other.
 pub ruleset pairing = (two-no-first, two-no-second, two-done, needs)
 
--- The row and the mark.
+-- The row.
 module _ (at m q : ℕ) {raw display : Text} (a : raw ≡ text at (m - at)) (b : display ≡ text m (q - m)) where
   pub row-of-texts : {row : List ℕ} → row ≡ packClass (record { raw = raw; display = display }) →
       row ≡ packClass (record { raw = text at (m - at); display = text m (q - m) })
@@ -57,12 +56,10 @@ module _ (d : List ℕ) (at : ℕ) (l : List ℕ) (ns : ClassNames) (r : TwoText
     enter-inside h = let p = there .written .past in let o = there .written .room in omega arith
 
     pub enter-done : {row : List ℕ} → row ≡ packClass (record { raw = text at (m - at); display = text m (q - m) }) →
-        (c : List (List ℕ)) (i : List ℕ) (count : ℕ) {i₁ : List ℕ} → i₁ ≡ chained i (markOf (classDescriptor (between l (ns .display .start) (ns .display .«end»)))) count →
-        EnteredClass q (classNamed l ns) count at c i d (set c count row) i₁ d₁
-    enter-done f c i count g = record {
+        (c : List (List ℕ)) (count : ℕ) → EnteredClass q (classNamed l ns) count at c d (set c count row) d₁
+    enter-done f c count = record {
       written = there .written;
       row = ap (set c count) (f ∙ row-same at m q (classNamed l ns) (there .second) (there .next));
-      marked = g;
     }
 
 pub ruleset entering = (enter-none, enter-first, enter-second, enter-inside, enter-done, needs)

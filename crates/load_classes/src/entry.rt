@@ -1,6 +1,5 @@
-// One class: its descriptors in the pool, its row, and its mark in the index.
+// One class: its descriptors in the pool, and its row.
 use crate::names::ClassNames;
-use load_raw_types::mark_class;
 use table_pool::TwoTexts;
 use table_pool::Wrote;
 use table_pool::put_class;
@@ -14,10 +13,9 @@ ghost use lib.ListN.{length};
 ghost use Rattle.text_places.specs.Spans.{Lies};
 ghost use Rattle.table_pool.specs.Names.{classDescriptor};
 ghost use Rattle.table_pool.specs.inner.Wrote.{TwoBy};
-ghost use Rattle.table_rows.specs.Rows.{text, packClass, mostClasses, mostPool};
+ghost use Rattle.table_rows.specs.Rows.{text, packClass, mostPool};
 ghost use Rattle.load_classes.specs.inner.Entries.{EnteredClassBy};
 ghost use Rattle.load_classes.specs.inner.Names.{classNamed};
-ghost use Rattle.load_raw_types.specs.inner.Marks.{indexSize};
 
 // "each class row's raw then display"
 fn put_pair(pool: &mut [u8], at: usize, raw: &[u8], display: &[u8]) -> TwoTexts
@@ -51,7 +49,6 @@ fn class_row(at: usize, middle: usize, next: usize) -> ClassRow
 // A class line by its names: the class of the row `count`, with its descriptors from the place `at` on.
 pub fn enter_class(
     classes: &mut [ClassRow],
-    index: &mut [u16],
     pool: &mut [u8],
     count: usize,
     at: usize,
@@ -59,14 +56,12 @@ pub fn enter_class(
     names: ClassNames,
 ) -> Wrote
     requires { ⌜ (count < length (now classes))
-        × (count < mostClasses)
-        × (length (now index) ≡ indexSize)
         × (length (now pool) ≤ mostPool)
         × Lies (names .display) (length (now line))
         × Lies (names .raw) (length (now line)) ⌝ }
     ensures { λ r.
-        ⌜ EnteredClassBy r (classNamed (now (line .entry)) names) count at (now (classes .entry)) (now (index .entry))
-        (now (pool .entry)) (now (classes .exit)) (now (index .exit)) (now (pool .exit)) ⌝ }
+        ⌜ EnteredClassBy r (classNamed (now (line .entry)) names) count at (now (classes .entry)) (now (pool .entry))
+        (now (classes .exit)) (now (pool .exit)) ⌝ }
 {
     let start = names.raw.start;
     let end = names.raw.end;
@@ -80,6 +75,5 @@ pub fn enter_class(
         return Wrote::NoRoom;
     };
     classes[count] = class_row(at, middle, next);
-    mark_class(index, &line[first..last], count);
     Wrote::Done(next)
 }

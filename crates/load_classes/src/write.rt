@@ -6,12 +6,10 @@ use table_pool::Wrote;
 use table_rows::ClassRow;
 use text_places::NextLine;
 use text_places::next_line;
-ghost use mathlib.Core.Path.{_≡_};
 ghost use Prim.Native.Nat.{_≤_};
-ghost use lib.ListN.{length, replicate};
+ghost use lib.ListN.{length};
 ghost use Rattle.text_places.specs.Lines.{lines};
 ghost use Rattle.load_classes.specs.inner.Written.{ClassesBy};
-ghost use Rattle.load_raw_types.specs.inner.Marks.{indexSize};
 ghost use Rattle.table_rows.specs.Rows.{mostClasses, mostPool};
 
 pub enum Classes {
@@ -21,17 +19,12 @@ pub enum Classes {
     ShortPool,
 }
 
-// The class rows of a text, their descriptors from the start of the pool on, and the index of their display descriptors.
-pub fn write_classes(
-    text: &[u8],
-    classes: &mut [ClassRow],
-    index: &mut [u16],
-    pool: &mut [u8],
-) -> Classes
-    requires { ⌜ (now index ≡ replicate indexSize 0) × (length (now classes) ≤ mostClasses) × (length (now pool) ≤ mostPool) ⌝ }
+// The class rows of a text, and their descriptors from the start of the pool on.
+pub fn write_classes(text: &[u8], classes: &mut [ClassRow], pool: &mut [u8]) -> Classes
+    requires { ⌜ (length (now classes) ≤ mostClasses) × (length (now pool) ≤ mostPool) ⌝ }
     ensures { λ r.
-        ⌜ ClassesBy r (lines (now (text .entry))) (now (classes .entry)) (now (pool .entry)) (now (classes .exit)) (now (pool .exit))
-        (now (index .exit)) ⌝ }
+        let ls = lines (now (text .entry)) in
+        ⌜ ClassesBy r ls (now (classes .entry)) (now (pool .entry)) (now (classes .exit)) (now (pool .exit)) ⌝ }
 {
     let mut at = 0;
     let mut count = 0;
@@ -53,7 +46,7 @@ pub fn write_classes(
         if classes.len() <= count {
             return Classes::FewRows;
         }
-        let Wrote::Done(after) = enter_class(classes, index, pool, count, end, line, names) else {
+        let Wrote::Done(after) = enter_class(classes, pool, count, end, line, names) else {
             return Classes::ShortPool;
         };
         at = next;

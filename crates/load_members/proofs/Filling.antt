@@ -21,7 +21,7 @@ use Rattle.ground.specs.Join.{join}
 use Rattle.table_pool.proofs.Writes.{written-length, wrote-then, wrote-as}
 use Rattle.table_rows.specs.Rows.{packMember, mostPool}
 use Rattle.tables.specs.Back.{readBack}
-use Rattle.load_raw_types.specs.inner.Marks.{Indexed}
+use Rattle.load_raw_types.specs.inner.Behind.{Indexed}
 use Rattle.load_raw_types.proofs.Indexing.{read-back-put, indexed-put}
 use Rattle.load_rule.specs.declared.Fate.{Fate}
 use Rattle.load_rule.specs.declared.Fates.{Fates}
@@ -94,7 +94,7 @@ filling-starts s rows index used m₀ p₀ h most x g e = rw (g, e) (record {
   };
   done = [];
   split = refl;
-  held = record { room = omega arith; rows = sym (put-nothing m₀ 0); texts = written-nothing p₀ used (x .room) };
+  held = record { room = omega arith; rows = sym (put-nothing m₀ 0); texts = written-nothing p₀ used (x .below .room) };
   counts = refl;
   classes = refl;
   indexed = x;

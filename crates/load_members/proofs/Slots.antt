@@ -15,7 +15,7 @@ use Rattle.text_places.specs.declared.spans.Span.{Span}
 use Rattle.text_places.specs.Spans.{Lies}
 use Rattle.table_rows.specs.Rows.{packMember, mostPool}
 use Rattle.tables.specs.Back.{readBack}
-use Rattle.load_raw_types.specs.inner.Marks.{Indexed}
+use Rattle.load_raw_types.specs.inner.Behind.{Indexed}
 use Rattle.load_rule.specs.Comments.{residualIn}
 use Rattle.load_texts.specs.declared.texts.MemberLine.{MemberLine}
 use Rattle.load_texts.specs.declared.texts.Places.{Places}

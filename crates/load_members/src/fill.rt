@@ -17,7 +17,7 @@ ghost use Rattle.text_places.specs.Lines.{lines};
 ghost use Rattle.table_rows.specs.Rows.{mostPool};
 ghost use Rattle.tables.specs.Back.{readBack};
 ghost use Rattle.load_rule.specs.Loading.{mostText};
-ghost use Rattle.load_raw_types.specs.inner.Marks.{Indexed};
+ghost use Rattle.load_raw_types.specs.inner.Behind.{Indexed};
 ghost use Rattle.load_members.specs.inner.Filled.{FilledBy};
 
 pub enum Filled {

@@ -17,7 +17,7 @@ use Rattle.load_raw_types.specs.declared.types.Stretch.{Stretch}
 use Rattle.load_raw_types.specs.declared.types.Stretch.the-variants as stretches
 use Rattle.load_raw_types.specs.declared.types.Stretch.the-variants.{More, Last}
 use Rattle.table_pool.specs.inner.Named.{classPiece}
-use Rattle.load_raw_types.specs.inner.Marks.{Indexed}
+use Rattle.load_raw_types.specs.inner.Behind.{Indexed}
 use Rattle.load_raw_types.specs.inner.Stretches.{insidePiece, outsidePiece, Stretched, InsideBy, OutsideBy}
 use Rattle.load_raw_types.proofs.Indexing.{indexed-put, read-back-put}
 
@@ -52,7 +52,7 @@ module _ {rows : List (List ℕ)} {pool₀ index : List ℕ} {at : ℕ} (x : Ind
   going-starts dots text = record {
     inside = omega arith;
     size = refl;
-    left = record { done = []; written = record { past = omega arith; room = let r = x .room in omega arith; is = sym (put-nothing pool₀ at) }; decides = refl };
+    left = record { done = []; written = record { past = omega arith; room = let r = x .below .room in omega arith; is = sym (put-nothing pool₀ at) }; decides = refl };
   }
 
   module _ {dots : Bool} {text pool : List ℕ} {start next : ℕ} (k : Going rows pool₀ at dots text pool start next) where

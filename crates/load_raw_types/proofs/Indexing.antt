@@ -1,10 +1,10 @@
--- The index while a pool is written: behind the classes, and one class more. Assumes nothing.
+-- The classes and their index while a pool is written: behind the classes, and one class more. Assumes nothing.
 use mathlib.Core.Path.{_≡_, refl, sym, _∙_, ap}
 use mathlib.Core.List.{List, [], _∷_, _++_, map, append-assoc}
 use mathlib.Core.Logic.{_⊎_, inl, inr}
 use Prim.Native.Nat.{ℕ, zero, suc, _+_, _-_, _≤_, _<_}
 use native.Mathlib.Omega.{arith}
-use lib.ListN.{length, getD, take, drop, replicate, length-append, length-replicate, List·getD-append}
+use lib.ListN.{length, getD, take, drop, length-append, List·getD-append}
 use lib.Seq.{take-take, drop-drop, take-at, drop-at, getD-at, length-take-le}
 use Rattle.ground.specs.Put.{put}
 use Rattle.ground.proofs.Cases.{le-or-lt}
@@ -12,11 +12,12 @@ use Rattle.ground.proofs.Parts.{drop-take}
 use Rattle.table_pool.specs.inner.Wrote.{Written}
 use Rattle.table_pool.proofs.Writes.{written-length}
 use Rattle.table_rows.specs.declared.rows.Text.{Text}
-use Rattle.table_rows.specs.Rows.{text, packClass, unpackClass, mostClasses}
+use Rattle.table_rows.specs.Rows.{text, packClass, unpackClass}
+use Rattle.tables.specs.declared.search.Side.the-variants.{Display}
 use Rattle.tables.specs.Back.{textIn, pairOf, readBack}
-use Rattle.load_raw_types.specs.inner.Marks.{markOf, rowMark, lastBelow, chained, Indexed, indexSize}
-use Rattle.load_raw_types.proofs.Marking.{mark-below}
-use Rattle.load_raw_types.proofs.Chains.{last-same, no-row, chained-size, starts-more, links-more}
+use Rattle.table_index.specs.inner.Index.{IndexBy}
+use Rattle.table_index.proofs.Keys.{keys-alike, index-kept}
+use Rattle.load_raw_types.specs.inner.Behind.{Below, Indexed}
 
 -- A text that ends at the place `at` or before is one of the first `at` bytes.
 text-of-prefix : (d : List ℕ) (at place size : ℕ) → place + size ≤ at → take size (drop place d) ≡ take size (drop place (take at d))
@@ -43,57 +44,41 @@ rows-alike (row ∷ rows) d d₁ f g =
     let again : readBack rows d₁ ≡ readBack rows d = rows-alike rows d d₁ (λ i h. f (suc i) (omega arith)) (λ i h. g (suc i) (omega arith)) in
     ap (λ x. x ∷ readBack rows d₁) c ∙ ap (λ l. pairOf d row ∷ l) again
 
-module _ {rows : List (List ℕ)} {pool index : List ℕ} {at : ℕ} (x : Indexed rows pool index at) where
-  -- for a search alone
-  pub indexed-all : Indexed rows pool index (length pool)
-  indexed-all = record {
-    room = omega arith;
-    raw-below = λ i h. let a = x .raw-below i h in let b = x .room in omega arith;
-    display-below = λ i h. let a = x .display-below i h in let b = x .room in omega arith;
-    size = x .size;
-    few = x .few;
-    starts = x .starts;
-    links = x .links;
+module _ {rows : List (List ℕ)} {pool : List ℕ} {at : ℕ} (x : Below rows pool at)
+    {q : ℕ} {b pool₁ : List ℕ} (w : Written q pool at b pool₁) where
+  -- what is written behind the classes leaves them
+  read-back-below : readBack rows pool₁ ≡ readBack rows pool
+  read-back-below =
+      rows-alike rows pool pool₁ (λ i h. text-put w (unpackClass (getD rows i []) .raw) (x .raw-below i h))
+      (λ i h. text-put w (unpackClass (getD rows i []) .display) (x .display-below i h))
+
+  below-put : Below rows pool₁ q
+  below-put = record {
+    room = let a = w .past in let r = w .room in let n = written-length w in omega arith;
+    raw-below = λ i h. let a = x .raw-below i h in let e = w .past in omega arith;
+    display-below = λ i h. let a = x .display-below i h in let e = w .past in omega arith;
   }
 
-  module _ {q : ℕ} {b pool₁ : List ℕ} (w : Written q pool at b pool₁) where
-    -- what is written behind the classes leaves them
-    pub read-back-put : readBack rows pool₁ ≡ readBack rows pool
-    read-back-put =
-        rows-alike rows pool pool₁ (λ i h. text-put w (unpackClass (getD rows i []) .raw) (x .raw-below i h)) (λ i h. text-put w (unpackClass (getD rows i []) .display) (x .display-below i h))
+module _ {rows : List (List ℕ)} {pool index : List ℕ} {at : ℕ} (x : Indexed rows pool index at) where
+  -- for a search alone
+  pub indexed-finds : IndexBy Display rows pool index
+  indexed-finds = x .finds
 
-    same-marks : (i : ℕ) → i < length rows → rowMark rows pool i ≡ rowMark rows pool₁ i
-    same-marks i h = sym (ap markOf (text-put w (unpackClass (getD rows i []) .display) (x .display-below i h)))
+  module _ {q : ℕ} {b pool₁ : List ℕ} (w : Written q pool at b pool₁) where
+    pub read-back-put : readBack rows pool₁ ≡ readBack rows pool
+    read-back-put = read-back-below (x .below) w
 
     pub indexed-put : Indexed rows pool₁ index q
     indexed-put = record {
-      room = let a = w .past in let r = w .room in let n = written-length w in omega arith;
-      raw-below = λ i h. let a = x .raw-below i h in let e = w .past in omega arith;
-      display-below = λ i h. let a = x .display-below i h in let e = w .past in omega arith;
-      size = x .size;
-      few = x .few;
-      starts = λ h l. x .starts h l ∙ last-same (rowMark rows pool) (rowMark rows pool₁) h (length rows) same-marks;
-      links = λ i l.
-          x .links i l ∙ ap (λ h. lastBelow (rowMark rows pool) h i) (same-marks i l)
-          ∙ last-same (rowMark rows pool) (rowMark rows pool₁) (rowMark rows pool₁ i) i (λ j k. same-marks j (omega arith));
+      below = below-put (x .below) w;
+      finds = index-kept Display rows pool pool₁ index
+          (keys-alike Display rows pool pool₁ (λ i h. text-put w (unpackClass (getD rows i []) .display) (x .below .display-below i h)))
+          (x .finds);
     }
 
 -- No class.
-zeros : (n h : ℕ) → _≡_ {A = ℕ} (getD (replicate n 0) h 0) 0
-zeros zero h = refl
-zeros (suc n) zero = refl
-zeros (suc n) (suc h) = zeros n h
-
-pub indexed-none : (pool : List ℕ) (at : ℕ) → at ≤ length pool → Indexed [] pool (replicate indexSize 0) at
-indexed-none pool at h = record {
-  room = h;
-  raw-below = λ i l. absurd (omega arith);
-  display-below = λ i l. absurd (omega arith);
-  size = length-replicate {A = ℕ} indexSize 0;
-  few = omega arith;
-  starts = λ m l. zeros indexSize m ∙ sym (no-row (rowMark [] pool) m);
-  links = λ i l. absurd (omega arith);
-}
+pub below-none : (pool : List ℕ) (at : ℕ) → at ≤ length pool → Below [] pool at
+below-none pool at h = record { room = h; raw-below = λ i l. absurd (omega arith); display-below = λ i l. absurd (omega arith) }
 
 map-append : {A B : Type 0} (f : A → B) (a b : List A) → map f (a ++ b) ≡ map f a ++ map f b
 map-append f [] b = refl
@@ -118,18 +103,23 @@ module _ {q : ℕ} {pool : List ℕ} {at : ℕ} (r d : List ℕ) {pool₁ : List
       ap (take (length d)) (sym (drop-drop (length r) at pool₁) ∙ ap (drop (length r)) written-there ∙ drop-at r (d ++ drop (at + length (r ++ d)) pool) (length r) refl)
       ∙ take-at d (drop (at + length (r ++ d)) pool) (length d) refl
 
-  module _ {rows : List (List ℕ)} {index : List ℕ} (x : Indexed rows pool index at) where
-    pub read-back-class : readBack (rows ++ (rowAt at r d ∷ [])) pool₁ ≡ readBack rows pool ++ (record { raw = r; display = d } ∷ [])
+  module _ {rows : List (List ℕ)} (x : Below rows pool at) where
+    pub read-back-class :
+        readBack (rows ++ (rowAt at r d ∷ [])) pool₁ ≡ readBack rows pool ++ (record { raw = r; display = d } ∷ [])
     read-back-class =
         let pair : pairOf pool₁ (rowAt at r d) ≡ record { raw = r; display = d } =
-        ap (λ y. record { raw = y; display = textIn pool₁ (text (at + length r) (length d)) }) raw-there ∙ ap (λ y. record { raw = r; display = y }) display-there in
-        map-append (pairOf pool₁) rows (rowAt at r d ∷ []) ∙ ap (λ l. l ++ (pairOf pool₁ (rowAt at r d) ∷ [])) (read-back-put x w) ∙ ap (λ y. readBack rows pool ++ (y ∷ [])) pair
+        ap (λ y. record { raw = y; display = textIn pool₁ (text (at + length r) (length d)) }) raw-there
+        ∙ ap (λ y. record { raw = r; display = y }) display-there in
+        map-append (pairOf pool₁) rows (rowAt at r d ∷ [])
+        ∙ ap (λ l. l ++ (pairOf pool₁ (rowAt at r d) ∷ [])) (read-back-below x w)
+        ∙ ap (λ y. readBack rows pool ++ (y ∷ [])) pair
 
     after : q ≡ at + length r + length d
     after = let e = w .past in let n = length-append r d in omega arith
 
     -- a row is one of those before, or the new one
-    module _ (P : ℕ → List ℕ → Type 0) (old : (i : ℕ) → i < length rows → P i (getD rows i [])) (new : P (length rows) (rowAt at r d)) where
+    module _ (P : ℕ → List ℕ → Type 0) (old : (i : ℕ) → i < length rows → P i (getD rows i []))
+        (new : P (length rows) (rowAt at r d)) where
       each-row : (i : ℕ) → i < length (rows ++ (rowAt at r d ∷ [])) → P i (getD (rows ++ (rowAt at r d ∷ [])) i [])
       each-row i h = go (le-or-lt (length rows) i)
         where
@@ -140,29 +130,15 @@ module _ {q : ℕ} {pool : List ℕ} {at : ℕ} (r d : List ℕ) {pool₁ : List
               rw (← e, getD-at rows (rowAt at r d) [] [] (length rows) refl) new
           go (inr l) = rw (List·getD-append rows (rowAt at r d ∷ []) [] i l) (old i l)
 
-    new-mark : rowMark (rows ++ (rowAt at r d ∷ [])) pool₁ (length rows) ≡ markOf d
-    new-mark = ap (λ row. markOf (textIn pool₁ (unpackClass row .display))) (getD-at rows (rowAt at r d) [] [] (length rows) refl) ∙ ap markOf display-there
-
-    -- the rows before keep their marks
-    old-marks : (i : ℕ) → i < length rows → rowMark rows pool i ≡ rowMark (rows ++ (rowAt at r d ∷ [])) pool₁ i
-    old-marks i h =
-        sym (ap (λ row. markOf (textIn pool₁ (unpackClass row .display))) (List·getD-append rows (rowAt at r d ∷ []) [] i h)
-        ∙ ap markOf (text-put w (unpackClass (getD rows i []) .display) (x .display-below i h)))
-
-    pub indexed-class : length rows < mostClasses → Indexed (rows ++ (rowAt at r d ∷ [])) pool₁ (chained index (markOf d) (length rows)) q
-    indexed-class few =
-        let put-there = indexed-put x w in
+    pub below-class : Below (rows ++ (rowAt at r d ∷ [])) pool₁ q
+    below-class =
+        let put-there = below-put x w in
         let e = after in
-        let n = length-append rows (rowAt at r d ∷ []) in
-        let before-it : ℕ → ℕ = rowMark rows pool in
-        let with-it : ℕ → ℕ = rowMark (rows ++ (rowAt at r d ∷ [])) pool₁ in
-        let one-more : length (rows ++ (rowAt at r d ∷ [])) ≡ suc (length rows) = omega arith in
         record {
           room = put-there .room;
-          raw-below = each-row (λ i row. unpackClass row .raw .place + unpackClass row .raw .length ≤ q) (put-there .raw-below) (omega arith);
-          display-below = each-row (λ i row. unpackClass row .display .place + unpackClass row .display .length ≤ q) (put-there .display-below) (omega arith);
-          size = chained-size index (markOf d) (length rows) (x .size);
-          few = omega arith;
-          starts = λ h l. rw one-more (starts-more index (markOf d) (length rows) (x .size) before-it with-it old-marks new-mark (mark-below d) few (x .starts) h l);
-          links = λ i l. links-more index (markOf d) (length rows) (x .size) before-it with-it old-marks new-mark (mark-below d) few (x .starts) (x .links) i (omega arith);
+          raw-below =
+              each-row (λ i row. unpackClass row .raw .place + unpackClass row .raw .length ≤ q) (put-there .raw-below) (omega arith);
+          display-below =
+              each-row (λ i row. unpackClass row .display .place + unpackClass row .display .length ≤ q) (put-there .display-below)
+              (omega arith);
         }

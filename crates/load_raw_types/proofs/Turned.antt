@@ -30,10 +30,10 @@ use Rattle.tables.specs.declared.search.Found.the-variants.{Row, Unknown}
 use Rattle.tables.specs.Search.{lastDisplay}
 use Rattle.tables.proofs.Searching.{display-found, display-unknown}
 use Rattle.table_pool.specs.inner.Named.{nameBytes, classPiece}
-use Rattle.load_raw_types.specs.inner.Marks.{Indexed}
+use Rattle.load_raw_types.specs.inner.Behind.{Indexed}
 use Rattle.load_raw_types.specs.inner.Stretches.{insidePiece, outsidePiece, Stretched}
 use Rattle.load_raw_types.proofs.Pieces.{piece-whole, piece-first, plain-first, plain-all}
-use Rattle.load_raw_types.proofs.Indexing.{indexed-all}
+use Rattle.load_raw_types.proofs.Indexing.{indexed-finds}
 
 -- One piece.
 module _ (rows : List (List ℕ)) (pool p : List ℕ) (r : Found) (f : r ≡ lastDisplay rows pool p) where
@@ -43,7 +43,7 @@ module _ (rows : List (List ℕ)) (pool p : List ℕ) (r : Found) (f : r ≡ las
   pub found-below : {index : List ℕ} {at : ℕ} → Indexed rows pool index at → {i : ℕ} → r ≡ Row i →
       {c : Class} → c ≡ unpackClass (getD rows i []) → {a n : ℕ} → a ≡ c .raw .place → n ≡ c .raw .length → a + n ≤ at
   found-below x {i} e z g h =
-      let b = x .raw-below i (found-inside e) in
+      let b = x .below .raw-below i (found-inside e) in
       let p = ap (λ y. y .raw .place) z in
       let q = ap (λ y. y .raw .length) z in
       omega arith
@@ -57,7 +57,7 @@ module _ (rows : List (List ℕ)) (pool p : List ℕ) (r : Found) (f : r ≡ las
   pub unknown-put : r ≡ Unknown → (t : Wrote) (at : ℕ) (d : List ℕ) → WroteBy t pool at p d → WroteBy t pool at (lookOr p (back (readBack rows pool) p)) d
   unknown-put e t at d w = wrote-as t pool at d (ap (lookOr p) (sym (display-unknown rows pool p (sym f ∙ e)))) w
 
-pub ruleset turning-one = (indexed-all, found-inside, found-below, found-put, unknown-put, needs)
+pub ruleset turning-one = (indexed-finds, found-inside, found-below, found-put, unknown-put, needs)
 
 rest-of : (text : List ℕ) (at n m : ℕ) → at + n ≡ m → drop n (drop at text) ≡ drop m text
 rest-of text at n m e = drop-drop n at text ∙ ap (λ k. drop k text) e

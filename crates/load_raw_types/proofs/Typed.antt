@@ -31,7 +31,7 @@ use Rattle.descriptor.proofs.Typing.{type-order, type-inside}
 use Rattle.tables.specs.Back.{readBack}
 use Rattle.descriptor.specs.Raw.{rawTypeOf}
 use Rattle.table_pool.specs.inner.Named.{nameBytes, classPiece}
-use Rattle.load_raw_types.specs.inner.Marks.{Indexed}
+use Rattle.load_raw_types.specs.inner.Behind.{Indexed}
 use Rattle.descriptor.proofs.Turning.{stays-step}
 use Rattle.load_raw_types.proofs.Indexing.{indexed-put, read-back-put}
 

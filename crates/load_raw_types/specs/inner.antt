@@ -1,4 +1,3 @@
 -- Words of inner contracts: no rule cites them.
-pub mod Marks
+pub mod Behind
 pub mod Stretches
-pub mod Examples

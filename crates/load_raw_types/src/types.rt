@@ -1,8 +1,8 @@
 // Raw descriptors of display types. The descriptor of the display type is written nowhere: its pieces are found in the type's own text.
-use crate::search::last_class;
-use crate::search::wide;
 use descriptor::Base;
 use descriptor::type_shape;
+use table_index::NameForm;
+use table_index::last_named;
 use table_pool::Wrote;
 use table_pool::put_bytes;
 use table_pool::put_closed;
@@ -12,6 +12,7 @@ use table_pool::put_piece;
 use table_rows::ClassRow;
 use table_rows::unpack_class;
 use tables::Found;
+use tables::Side;
 use text_places::Place;
 use text_places::first_byte;
 ghost use mathlib.Core.Path.{_≡_};
@@ -25,8 +26,14 @@ ghost use Rattle.table_pool.specs.inner.Wrote.{WroteBy};
 ghost use Rattle.tables.specs.Back.{readBack};
 ghost use Rattle.descriptor.specs.Raw.{rawTypeOf};
 ghost use Rattle.table_pool.specs.inner.Named.{classPiece};
-ghost use Rattle.load_raw_types.specs.inner.Marks.{Indexed};
+ghost use Rattle.load_raw_types.specs.inner.Behind.{Indexed};
 ghost use Rattle.load_raw_types.specs.inner.Stretches.{InsideBy, OutsideBy};
+
+fn wide(x: u32) -> usize
+    ensures { λ r. ⌜ r ≡ x ⌝ }
+{
+    x as usize
+}
 
 // One class piece, turned to raw.
 fn put_raw_piece(
@@ -43,7 +50,8 @@ fn put_raw_piece(
         ⌜ WroteBy r (now (pool .entry)) at
         (lookOr (classPiece dots (now (name .entry))) (back cs (classPiece dots (now (name .entry))))) (now (pool .exit)) ⌝ }
 {
-    match last_class(classes, pool, index, name, dots) {
+    let form = NameForm::Piece(dots);
+    match last_named(index, Side::Display, classes, pool, name, form) {
         Found::Row(row) => {
             let class = unpack_class(classes[row]);
             let place = wide(class.raw.place);

@@ -27,7 +27,7 @@ use Rattle.table_pool.specs.inner.Wrote.{WroteBy, TwoAt, TwoBy}
 use Rattle.table_pool.proofs.Writes.{written-length, wrote-told, wrote-then, wrote-as, two-no-first, two-no-second, two-done, two-told, two-none}
 use Rattle.tables.specs.Back.{readBack}
 use Rattle.descriptor.specs.Raw.{rawTypeOf}
-use Rattle.load_raw_types.specs.inner.Marks.{Indexed}
+use Rattle.load_raw_types.specs.inner.Behind.{Indexed}
 use Rattle.load_raw_types.proofs.Indexing.{read-back-put}
 use Rattle.load_rule.specs.Comments.{residualIn}
 use Rattle.load_rule.specs.Members.{ownerOf, typesDescriptor}

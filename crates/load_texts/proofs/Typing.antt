@@ -23,7 +23,7 @@ use Rattle.table_pool.specs.inner.Wrote.{Written, WroteBy}
 use Rattle.table_pool.proofs.Writes.{written-length, wrote-told, wrote-none, wrote-then, none-then, wrote-as}
 use Rattle.tables.specs.Back.{readBack}
 use Rattle.descriptor.specs.Raw.{rawTypeOf}
-use Rattle.load_raw_types.specs.inner.Marks.{Indexed}
+use Rattle.load_raw_types.specs.inner.Behind.{Indexed}
 use Rattle.load_raw_types.proofs.Indexing.{read-back-put, indexed-put}
 use Rattle.load_rule.specs.Members.{argumentTypes, typesDescriptor}
 use Rattle.ground.proofs.Joins.{join-more, join-append}
@@ -52,7 +52,7 @@ pub record Arguing (rows : List (List ℕ)) (index d : List ℕ) (at : ℕ) (s :
 
 pub arguing-starts : (rows : List (List ℕ)) (index d : List ℕ) (at : ℕ) (s : List ℕ) → Indexed rows d index at → Arguing rows index d at s at 0 d
 unfolding join
-arguing-starts rows index d at s x = record { done = []; split = refl; written = written-nothing d at (x .room); indexed = x; same = refl; size = refl }
+arguing-starts rows index d at s x = record { done = []; split = refl; written = written-nothing d at (x .below .room); indexed = x; same = refl; size = refl }
 
 no-arguments : argumentsOf [] ≡ []
 unfolding commaParts filled runOf trimEnd allWhite piecesFrom

@@ -18,7 +18,7 @@ ghost use Rattle.descriptor.specs.Signatures.{rawSignature};
 ghost use Rattle.table_pool.specs.inner.Wrote.{WroteBy};
 ghost use Rattle.tables.specs.Back.{readBack};
 ghost use Rattle.descriptor.specs.Raw.{rawTypeOf};
-ghost use Rattle.load_raw_types.specs.inner.Marks.{Indexed};
+ghost use Rattle.load_raw_types.specs.inner.Behind.{Indexed};
 ghost use Rattle.load_rule.specs.Members.{argumentTypes, typesDescriptor};
 
 // A residual signature: the string of a comment, whose first char stands at the place `string`. It is decoded and then settled where it

@@ -18,7 +18,7 @@ ghost use Rattle.text_places.specs.Lines.{lines};
 ghost use Rattle.text_places.specs.Spans.{partOf};
 ghost use Rattle.table_pool.specs.inner.Wrote.{WroteBy, TwoBy};
 ghost use Rattle.tables.specs.Back.{readBack};
-ghost use Rattle.load_raw_types.specs.inner.Marks.{Indexed};
+ghost use Rattle.load_raw_types.specs.inner.Behind.{Indexed};
 ghost use Rattle.load_rule.specs.Comments.{residualIn};
 ghost use Rattle.load_texts.specs.inner.Texts.{BodyIn, MemberIn, isMethod, displayTypes, descriptorText, ownerText, textsOf};
 ghost use Rattle.load_texts.specs.inner.Places.{EnteredTextsBy};

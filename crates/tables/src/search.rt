@@ -16,12 +16,12 @@ pub enum Found {
 }
 
 // By which of its two descriptors a class is looked for.
-enum Side {
+pub enum Side {
     Raw,
     Display,
 }
 
-fn text_on(side: Side, class: Class) -> Text
+pub fn text_on(side: Side, class: Class) -> Text
     ensures { λ r. ⌜ r ≡ textOn side class ⌝ }
 {
     match side {

@@ -10,7 +10,7 @@ use Rattle.text_places.specs.Spans.{span, partOf, Lies}
 use Rattle.table_rows.specs.Classes.{Pair}
 use Rattle.table_rows.specs.Rows.{packMember, mostPool}
 use Rattle.tables.specs.Back.{readBack}
-use Rattle.load_raw_types.specs.inner.Marks.{Indexed}
+use Rattle.load_raw_types.specs.inner.Behind.{Indexed}
 use Rattle.load_rule.specs.Comments.{residualIn}
 use Rattle.load_rule.specs.Loading.{mostText}
 use Rattle.load_texts.specs.declared.texts.MemberLine.{MemberLine}

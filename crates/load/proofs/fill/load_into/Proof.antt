@@ -1,10 +1,7 @@
-use Rattle.load.proofs.Writing.{into-pool, into-indexed, into}
 -- `load::fill::load_into` meets its contract, by the laws of Writing.
+use Rattle.load.proofs.Writing.{into}
 use Rattle.load.proofs.fill.load_into.Statement.{statement}
 use Rattle.load.proofs.fill.load_into.Tie as tie
-
-slice-aggregate-write-classes : tie.Need-slice-aggregate-write-classes
-slice-aggregate-write-classes c = search into
 
 write-classes-requires : tie.Need-write-classes-requires
 write-classes-requires c κs = search into
@@ -12,17 +9,14 @@ write-classes-requires c κs = search into
 enum-known-count : tie.Need-enum-known-count
 enum-known-count c = search into
 
-slice-reshare-prefix-write-members : tie.Need-slice-reshare-prefix-write-members
-slice-reshare-prefix-write-members c = search into
+slice-reshare-prefix-fill-members : tie.Need-slice-reshare-prefix-fill-members
+slice-reshare-prefix-fill-members c = search into
 
-slice-aggregate-write-members : tie.Need-slice-aggregate-write-members
-slice-aggregate-write-members c = search into
+slice-aggregate-fill-members : tie.Need-slice-aggregate-fill-members
+slice-aggregate-fill-members c = search into
 
-slice-aggregate-write-members-2 : tie.Need-slice-aggregate-write-members-2
-slice-aggregate-write-members-2 c = search into
-
-write-members-requires : tie.Need-write-members-requires
-write-members-requires c κs = (c .before .before .before .before .before .before .before .before .before .before .before .before .before .before .before .before .before .pre .text, into-pool _ _ _ _ _ _ _ (c .before .before .before .before .before .before .before .before .before .before .before .write-classes .ensures) (c .before .before .before .before .before .count .given .1) (c .before .before .before .before .before .before .before .before .before .before .before .before .before .before .before .before .before .pre .pool), into-indexed _ _ _ _ _ _ _ (c .before .before .before .before .before .before .before .before .before .before .before .write-classes .ensures) (c .before .before .before .before .before .count .given .1))
+fill-members-requires : tie.Need-fill-members-requires
+fill-members-requires c κs = search into
 
 enum-known-fates : tie.Need-enum-known-fates
 enum-known-fates c = search into
@@ -115,13 +109,11 @@ pub load-into-spec : {M : Type 1} → statement M
 load-into-spec =
     tie.close
     (tie.spec
-    slice-aggregate-write-classes
     write-classes-requires
     enum-known-count
-    slice-reshare-prefix-write-members
-    slice-aggregate-write-members
-    slice-aggregate-write-members-2
-    write-members-requires
+    slice-reshare-prefix-fill-members
+    slice-aggregate-fill-members
+    fill-members-requires
     enum-known-fates
     accepted-requires
     enum-known-number

@@ -39,32 +39,17 @@ returns c = search entering
 class-row-requires : tie.Need-class-row-requires
 class-row-requires c κs = search entering
 
-mul-t18 : tie.Need-mul-t18
-mul-t18 c = search entering
+mul-t17 : tie.Need-mul-t17
+mul-t17 c = search entering
 
 slice-set-from-classes : tie.Need-slice-set-from-classes
 slice-set-from-classes c = search entering
-
-sub-mark-class : tie.Need-sub-mark-class
-sub-mark-class c = search entering
-
-part-mark-class-start : tie.Need-part-mark-class-start
-part-mark-class-start c = search entering
-
-part-mark-class-end : tie.Need-part-mark-class-end
-part-mark-class-end c = search entering
-
-mark-class-requires : tie.Need-mark-class-requires
-mark-class-requires c κs = search entering
 
 same-length-2 : tie.Need-same-length-2
 same-length-2 c = search entering
 
 same-length-3 : tie.Need-same-length-3
 same-length-3 c = search entering
-
-same-length-4 : tie.Need-same-length-4
-same-length-4 c = search entering
 
 returns-2 : tie.Need-returns-2
 returns-2 c = search entering
@@ -85,13 +70,8 @@ enter-class-spec =
     same-length
     returns
     class-row-requires
-    mul-t18
+    mul-t17
     slice-set-from-classes
-    sub-mark-class
-    part-mark-class-start
-    part-mark-class-end
-    mark-class-requires
     same-length-2
     same-length-3
-    same-length-4
     returns-2)

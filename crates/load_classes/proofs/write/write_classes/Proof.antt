@@ -1,4 +1,4 @@
--- `load_classes::write::write_classes` meets its contract, by the laws of Writing and an invariant that says what is done and what is left.
+-- `load_classes::write::write_classes` meets its contract, by the laws of Writing.
 use Rattle.load_classes.proofs.Writing.{writing, Writing}
 use Prim.Native.Nat.{_-_}
 use lib.ListN.{length}
@@ -6,10 +6,11 @@ use Rattle.load_classes.proofs.write.write_classes.Statement.{statement
 use Rattle.load_classes.proofs.write.write_classes.Tie as tie
 
 abbrev Inv-loop : tie.InvT-loop
-Inv-loop text classes₀ index₀ pool₀ at₀ count₀ end₀ classes index pool at count end = Writing text classes₀ index₀ pool₀ at count «end» classes index pool
+Inv-loop text classes₀ pool₀ at₀ count₀ end₀ classes pool at count end =
+    Writing text classes₀ pool₀ at count «end» classes pool
 
 abbrev μ-loop : tie.MeasureT-loop
-μ-loop text classes₀ index₀ pool₀ at₀ count₀ end₀ classes index pool at count end = length text - at
+μ-loop text classes₀ pool₀ at₀ count₀ end₀ classes pool at count end = length text - at
 
 loop-holds : tie.Need-loop-holds Inv-loop μ-loop
 loop-holds c = search writing
@@ -28,9 +29,6 @@ same-length c = search writing
 
 same-length-2 : tie.Need-same-length-2 Inv-loop μ-loop
 same-length-2 c = search writing
-
-same-length-3 : tie.Need-same-length-3 Inv-loop μ-loop
-same-length-3 c = search writing
 
 returns : tie.Need-returns Inv-loop μ-loop
 returns c = search writing
@@ -59,14 +57,11 @@ loop-less c = search writing
 loop-again : tie.Need-loop-again Inv-loop μ-loop
 loop-again c = search writing
 
+same-length-3 : tie.Need-same-length-3 Inv-loop μ-loop
+same-length-3 c = search writing
+
 same-length-4 : tie.Need-same-length-4 Inv-loop μ-loop
 same-length-4 c = search writing
-
-same-length-5 : tie.Need-same-length-5 Inv-loop μ-loop
-same-length-5 c = search writing
-
-same-length-6 : tie.Need-same-length-6 Inv-loop μ-loop
-same-length-6 c = search writing
 
 returns-2 : tie.Need-returns-2 Inv-loop μ-loop
 returns-2 c = search writing
@@ -80,14 +75,11 @@ enum-known-after c = search writing
 enum-told-3 : tie.Need-enum-told-3 Inv-loop μ-loop
 enum-told-3 c = search writing
 
-same-length-7 : tie.Need-same-length-7 Inv-loop μ-loop
-same-length-7 c = search writing
+same-length-5 : tie.Need-same-length-5 Inv-loop μ-loop
+same-length-5 c = search writing
 
-same-length-8 : tie.Need-same-length-8 Inv-loop μ-loop
-same-length-8 c = search writing
-
-same-length-9 : tie.Need-same-length-9 Inv-loop μ-loop
-same-length-9 c = search writing
+same-length-6 : tie.Need-same-length-6 Inv-loop μ-loop
+same-length-6 c = search writing
 
 returns-3 : tie.Need-returns-3 Inv-loop μ-loop
 returns-3 c = search writing
@@ -101,14 +93,11 @@ loop-less-2 c = search writing
 loop-again-2 : tie.Need-loop-again-2 Inv-loop μ-loop
 loop-again-2 c = search writing
 
-same-length-10 : tie.Need-same-length-10 Inv-loop μ-loop
-same-length-10 c = search writing
+same-length-7 : tie.Need-same-length-7 Inv-loop μ-loop
+same-length-7 c = search writing
 
-same-length-11 : tie.Need-same-length-11 Inv-loop μ-loop
-same-length-11 c = search writing
-
-same-length-12 : tie.Need-same-length-12 Inv-loop μ-loop
-same-length-12 c = search writing
+same-length-8 : tie.Need-same-length-8 Inv-loop μ-loop
+same-length-8 c = search writing
 
 returns-4 : tie.Need-returns-4 Inv-loop μ-loop
 returns-4 c = search writing
@@ -125,7 +114,6 @@ write-classes-spec =
     enum-told
     same-length
     same-length-2
-    same-length-3
     returns
     sub-line
     part-line-start
@@ -135,21 +123,18 @@ write-classes-spec =
     enum-told-2
     loop-less
     loop-again
+    same-length-3
     same-length-4
-    same-length-5
-    same-length-6
     returns-2
     enter-class-requires
     enum-known-after
     enum-told-3
-    same-length-7
-    same-length-8
-    same-length-9
+    same-length-5
+    same-length-6
     returns-3
     add-count
     loop-less-2
     loop-again-2
-    same-length-10
-    same-length-11
-    same-length-12
+    same-length-7
+    same-length-8
     returns-4)

@@ -3,8 +3,8 @@ use Rattle.load_raw_types.proofs.Turned.{turning-one}
 use Rattle.load_raw_types.proofs.types.put_raw_piece.Statement.{statement}
 use Rattle.load_raw_types.proofs.types.put_raw_piece.Tie as tie
 
-last-class-requires : tie.Need-last-class-requires
-last-class-requires c κs = search turning-one
+last-named-requires : tie.Need-last-named-requires
+last-named-requires c κs = search turning-one
 
 enum-known-row : tie.Need-enum-known-row
 enum-known-row c = search turning-one
@@ -49,7 +49,7 @@ pub put-raw-piece-spec : {M : Type 1} → statement M
 put-raw-piece-spec =
     tie.close
     (tie.spec
-    last-class-requires
+    last-named-requires
     enum-known-row
     mul-unpack-class
     shared-slice-copy-out-unpack-class
