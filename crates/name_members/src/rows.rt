@@ -31,7 +31,7 @@ pub enum Asked {
 }
 
 // What a member that matches has to be.
-enum Sought {
+pub enum Sought {
     Field,
     Method,
     // A method whose display owner is the class's display.
@@ -107,7 +107,7 @@ fn is_match(
 }
 
 // Whether a member is what is sought, and matches.
-fn is_answer(
+pub fn is_answer(
     classes: &[ClassRow],
     pool: &[u8],
     member: Member,
@@ -166,7 +166,7 @@ fn last_sought(
 }
 
 // The display descriptor of a class row.
-fn display_of<'a>(classes: &[ClassRow], pool: &'a [u8], row: usize) -> &'a [u8]
+pub fn display_of<'a>(classes: &[ClassRow], pool: &'a [u8], row: usize) -> &'a [u8]
     requires { ⌜ row < length (now classes) ⌝ }
     ensures { λ r. ⌜ now r ≡ textIn (now (pool .entry)) (unpackClass (getD (now (classes .entry)) row []) .display) ⌝ }
 {
@@ -174,7 +174,7 @@ fn display_of<'a>(classes: &[ClassRow], pool: &'a [u8], row: usize) -> &'a [u8]
 }
 
 // What answers first: of a method, one whose display owner is the class's display.
-fn first_sought(asked: Asked) -> Sought
+pub fn first_sought(asked: Asked) -> Sought
     ensures { λ r. ⌜ r ≡ firstSought asked ⌝ }
 {
     match asked {
@@ -184,7 +184,7 @@ fn first_sought(asked: Asked) -> Sought
     }
 }
 
-fn is_method_asked(asked: Asked) -> bool
+pub fn is_method_asked(asked: Asked) -> bool
     ensures { λ r. ⌜ r ≡ isMethodAsked asked ⌝ }
 {
     match asked {

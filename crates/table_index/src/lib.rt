@@ -13,5 +13,6 @@ mod texts;
 
 pub use forms::NameForm;
 pub use make::index_classes;
+pub use marks::mark_from;
 pub use parts::INDEX;
 pub use search::last_named;

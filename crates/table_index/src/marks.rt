@@ -46,7 +46,7 @@ fn mark_fours(start: usize, text: &[u8]) -> Begun
 }
 
 // The mark of a text, where that of what stands before it is `start`.
-fn mark_from(start: usize, text: &[u8]) -> usize
+pub fn mark_from(start: usize, text: &[u8]) -> usize
     requires { ⌜ start < markCount ⌝ }
     ensures { λ r. ⌜ r ≡ markFrom start (now (text .entry)) ⌝ }
 {
