@@ -96,17 +96,17 @@ module _ (ls : List (List ℕ)) (c : List (List ℕ)) (p : List ℕ) (k : Classe
       let r = rows-length classRow classText 0 (classesOf ls) in
       omega (arith, at-them .room)
 
-  back-is : readBack (take count c₁) p₁ ≡ classesOf ls
-  back-is = ap (λ x. readBack x p₁) rows-are ∙ at-them .back
+  pub into-back : readBack (take count c₁) p₁ ≡ classesOf ls
+  into-back = ap (λ x. readBack x p₁) rows-are ∙ at-them .back
 
   pub into-pool : length p ≤ mostPool → length p₁ ≤ mostPool
   into-pool h = let n = written-length (at-them .texts) in omega arith
 
   module _ (m m₁ : List (List ℕ)) (p₂ : List ℕ) (d : Filled) (v : FilledBy d ls (readBack (take count c₁) p₁) q m p₁ m₁ p₂) where
     over-told : Over (members ls (readBack (take count c₁) p₁)) q m p₁ → (length c < length (classesOf ls)) ⊎ ((length m < length (entriesOf ls)) ⊎ (length p < length (poolOf ls)))
-    over-told (inl h) = inr (inl (rw back-is at h))
+    over-told (inl h) = inr (inl (rw into-back at h))
     over-told (inr h) =
-        let h₁ : length p₁ < q + length (entryPool (entriesOf ls)) = rw back-is at h in
+        let h₁ : length p₁ < q + length (entryPool (entriesOf ls)) = rw into-back at h in
         let n = written-length (at-them .texts) in
         let past = at-them .texts .past in
         inr (inr (omega (arith, length-append (classPool (classesOf ls)) (entryPool (entriesOf ls)))))
@@ -129,7 +129,7 @@ module _ (ls : List (List ℕ)) (c : List (List ℕ)) (p : List ℕ) (k : Classe
       all = rw g at v
 
       held : Holding (entriesOf ls) q names m p₁ m₁ p₂
-      held = rw back-is at (all .held)
+      held = rw into-back at (all .held)
 
       texts : Written names p 0 (poolOf ls) p₂
       texts = wrote-then (Done names) (entryPool (entriesOf ls)) p₂ (at-them .texts) (held .texts)
@@ -155,7 +155,7 @@ module _ (ls : List (List ℕ)) (c : List (List ℕ)) (p : List ℕ) (k : Classe
           }
 
 pub ruleset into =
-    (into-few-rows, into-short-pool, into-count, into-below, into-few, into-pool, into-short, into-short-scan, into-faulty, into-names, into-all, scan-counted, prefix-whole, needs)
+    (into-few-rows, into-short-pool, into-count, into-below, into-few, into-back, into-pool, into-short, into-short-scan, into-faulty, into-names, into-all, scan-counted, prefix-whole, needs)
 
 -- Few classes: no table of that size, and no index.
 pub few-indexed : {rows : List (List ℕ)} {pool : List ℕ} {at : ℕ} → Below rows pool at → Indexed rows pool (replicate 1 0) at

@@ -17,6 +17,7 @@ ghost use mathlib.Core.Path.{_≡_};
 ghost use Prim.Native.Nat.{_≤_};
 ghost use lib.ListN.{length};
 ghost use Rattle.text_places.specs.Lines.{lines};
+ghost use Rattle.load_rule.specs.Classes.{classesOf};
 ghost use Rattle.load_rule.specs.Fates.{scanOf};
 ghost use Rattle.load.specs.inner.Into.{Limits, Counted, refusedOf, acceptedOf, IntoBy};
 ghost use Rattle.load_rule.specs.Loading.{mostText};
@@ -94,6 +95,7 @@ fn fill_indexed(
 // So many class rows are asked one by one faster than by an index.
 const FEW: usize = 8;
 
+// The same for few or many class rows.
 fn fill_members(
     text: &[u8],
     classes: &[ClassRow],
@@ -101,7 +103,8 @@ fn fill_members(
     pool: &mut [u8],
     used: usize,
 ) -> Filled
-    requires { ⌜ (length (now text) ≤ mostText)
+    requires { ⌜ (readBack (now classes) (now pool) ≡ classesOf (lines (now text)))
+        × (length (now text) ≤ mostText)
         × (length (now classes) ≤ mostClasses)
         × (length (now pool) ≤ mostPool)
         × Below (now classes) (now pool) used ⌝ }

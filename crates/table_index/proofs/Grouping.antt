@@ -137,16 +137,16 @@ module _ (keys : List (List ℕ)) {n k : ℕ} {index : List ℕ} (g : Grouped n 
       abbrev numbered : List ℕ
       numbered = set index (marksAt + mark) (k + 1)
 
-      pub new-size : length (set index (marksAt + mark) (k + 1)) ≡ indexSize
-      new-size = length-set index (marksAt + mark) (k + 1) ∙ g .size
+      pub new-size : (v : ℕ) → length (set index (marksAt + mark) v) ≡ indexSize
+      new-size v = length-set index (marksAt + mark) v ∙ g .size
 
       kept : (i : ℕ) → (i ≡ marksAt + mark → ⊥) → getD numbered i 0 ≡ getD index i 0
       kept i n = getD-set-other index (marksAt + mark) i (k + 1) 0 n
 
-      pub new-count : getD (set index (marksAt + mark) (k + 1)) (endsAt + k) 0 < mostClasses
-      new-count =
+      pub new-count : (v : ℕ) → getD (set index (marksAt + mark) v) (endsAt + k) 0 < mostClasses
+      new-count v =
           let w = g .few in
-          let s = kept (endsAt + k) (λ e. omega arith) in
+          let s = getD-set-other index (marksAt + mark) (endsAt + k) v 0 (λ e. omega arith) in
           let c = g .counts k (omega arith) in
           let i = count-inside (marksOf keys) k k in
           omega arith
@@ -175,7 +175,7 @@ module _ (keys : List (List ℕ)) {n k : ℕ} {index : List ℕ} (g : Grouped n 
       new-grouped y =
           let w = g .few in
           rw y
-          (joined-grouped n (marksOf keys) numbered k k (g .few) h new-size (head-new (marksOf keys) k is-new) numbers
+          (joined-grouped n (marksOf keys) numbered k k (g .few) h (new-size (k + 1)) (head-new (marksOf keys) k is-new) numbers
           (λ r l. kept (headsAt + r) (λ o. omega arith) ∙ g .heads r l)
           (λ x l. kept (endsAt + x) (λ o. omega arith) ∙ g .counts x l) (add-one k))
 

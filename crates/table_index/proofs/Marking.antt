@@ -73,7 +73,8 @@ pub ruleset fours = (four-told, needs)
 
 -- The loops: the mark of what was read, and what is left.
 -- one byte, by its place
-marked-one : {start : ℕ} {s : List ℕ} {mark k : ℕ} → Marked start s mark k → k < length s → Marked start s (markAfter mark (getD s k 0)) (k + 1)
+marked-one : {start : ℕ} {s : List ℕ} {mark k : ℕ} → Marked start s mark k → k < length s →
+    Marked start s (markAfter mark (getD s k 0)) (k + 1)
 unfolding markFrom
 marked-one {start} {s} {mark} {k} m h = record {
   inside = omega arith;
@@ -149,8 +150,8 @@ module _ (name : List ℕ) {h : ℕ} where
   pub piece-fits : h ≡ markFrom 0x4C name → Fits w64 (h * 31)
   piece-fits f = let b = mark-from-below 0x4C name (omega arith) in omega arith
 
-  pub piece-sum : h ≡ markFrom 0x4C name → Fits w64 (h * 31 + 0x3B)
-  piece-sum f = let b = mark-from-below 0x4C name (omega arith) in omega arith
+  pub piece-sum : h ≡ markFrom 0x4C name → (x : ℕ) → x < 256 → Fits w64 (h * 31 + x)
+  piece-sum f x l = let b = mark-from-below 0x4C name (omega arith) in omega arith
 
   pub piece-marked : {form : NameForm} {dots : Bool} → form ≡ Piece dots → h ≡ markFrom 0x4C name →
       (h * 31 + 0x3B) % markCount ≡ markOf (spelled form name)

@@ -99,20 +99,6 @@ module _ {keys : List (List ℕ)} {order : List ℕ} {n a b : ℕ} (r : Ranked k
         }
         go false f = none (λ q. clash (ap (λ s. same s t) q ∙ same-refl t) f)
 
-  module _ (one : b - a ≡ 1) where
-    pub only-place : a < length order
-    only-place = let z = r .room in omega arith
-
-    module _ {row : ℕ} (w : row ≡ getD order a 0) where
-      pub only-row : row < n
-      only-row = let o = r .only a (omega arith) (omega arith) in omega arith
-
-      pub only-last : (o : Found) → o ≡ pick (same (getD keys row []) t) (Row row) Unknown → LastOn o keys order a b t
-      only-last =
-          asked a (omega arith) (omega arith) (λ i h l f. omega arith) w
-          (λ n i h l f. let q : i ≡ a = omega arith in
-          n (ap (λ j. getD keys j []) (w ∙ ap (λ j. getD order j 0) (sym q)) ∙ f))
-
   module _ {p : ℕ} (g : Bound keys order a b t p) where
     -- a row with the text stands before the bound
     not-above : (i : ℕ) → p ≤ i → i < b → keyAt keys order i ≡ t → ⊥
@@ -163,8 +149,60 @@ module _ {keys : List (List ℕ)} {order : List ℕ} {n a b : ℕ} (r : Ranked k
 pub ranked-goes : {keys : List (List ℕ)} {order : List ℕ} {n a b : ℕ} → Ranked keys order n a b → a ≤ b
 ranked-goes r = r .goes
 
+-- Row by row, from the last one on: none from the place `p` on has the text.
+pub record Trying (keys : List (List ℕ)) (order : List ℕ) (a b : ℕ) (t : List ℕ) (p : ℕ) : Type 0 where
+  pub after : a ≤ p
+  pub before : p ≤ b
+  pub none : (i : ℕ) → p ≤ i → i < b → keyAt keys order i ≡ t → ⊥
+
+pub trying-starts : (t : List ℕ) {keys : List (List ℕ)} {order : List ℕ} {n a b : ℕ} → Ranked keys order n a b → Trying keys order a b t b
+trying-starts t r = record { after = r .goes; before = omega arith; none = λ i h l f. omega arith }
+
+module _ {keys : List (List ℕ)} {order : List ℕ} {a b : ℕ} {t : List ℕ} {p : ℕ} (x : Trying keys order a b t p) where
+  pub trying-ends : p ≤ a → (i : ℕ) → a ≤ i → i < b → keyAt keys order i ≡ t → ⊥
+  trying-ends h i l m f = x .none i (omega arith) m f
+
+  module _ {n : ℕ} (r : Ranked keys order n a b) (h : a < p) where
+    pub trying-read : p - 1 < length order
+    trying-read = let c = x .before in let z = r .room in omega arith
+
+    module _ {row : ℕ} (w : row ≡ getD order (p - 1) 0) where
+      pub trying-row : row < n
+      trying-row = let c = x .before in let z = r .only (p - 1) (omega arith) (omega arith) in omega arith
+
+      module _ {s : List ℕ} (e : s ≡ getD keys row []) {z : Bool} (f : z ≡ same s t) where
+        decided : {y : Bool} → z ≡ y → same (getD keys row []) t ≡ y
+        decided g = ap (λ l. same l t) (sym e) ∙ sym f ∙ g
+
+        pub trying-found : z ≡ true → LastSeat keys order a b t row
+        trying-found g = record {
+          place = p - 1;
+          after = omega arith;
+          before = let c = x .before in omega arith;
+          here = sym w;
+          has = same-equal (getD keys row []) t (decided g);
+          later = λ i l m. x .none i (omega arith) m;
+        }
+
+        pub trying-more : z ≡ false → Trying keys order a b t (p - 1)
+        trying-more g = record {
+          after = omega arith;
+          before = let c = x .before in omega arith;
+          none = λ i l m o. go i m o (le-or-lt p i) l;
+        }
+          where
+            go : (i : ℕ) → i < b → keyAt keys order i ≡ t → (p ≤ i) ⊎ (i < p) → p - 1 ≤ i → ⊥
+            go i m o (inl q) l = x .none i q m o
+            go i m o (inr q) l =
+                let y : i ≡ p - 1 = omega arith in
+                let k : getD keys row [] ≡ t = ap (λ j. getD keys j []) (w ∙ ap (λ j. getD order j 0) (sym y)) ∙ o in
+                clash (ap (λ j. same j t) k ∙ same-refl t) (decided g)
+
+pub ruleset trying =
+    (trying-starts, trying-ends, trying-read, trying-row, trying-found, trying-more, needs)
+
 pub ruleset last-of-shelf =
-    (ranked-goes, only-place, only-row, only-last, none-before, last-sub, last-place, last-row, last-last, needs)
+    (ranked-goes, none-before, last-sub, last-place, last-row, last-last, needs)
 
 -- The last row of all.
 module _ {side : Side} {rows : List (List ℕ)} {pool index : List ℕ} (found : IndexBy side rows pool index)

@@ -65,27 +65,58 @@ pub fn upper_bound(
     low
 }
 
-// The row, if its descriptor is what the name stands for.
+// The last row up to a name, if its descriptor is what the name stands for.
 fn row_if_named(
     side: Side,
     classes: &[ClassRow],
     pool: &[u8],
-    row: usize,
+    last: usize,
     name: &[u8],
     form: NameForm,
 ) -> Found
-    requires { ⌜ row < length (now classes) ⌝ }
+    requires { ⌜ last < length (now classes) ⌝ }
     ensures { λ r.
-        let text = getD (keysOf side (now (classes .entry)) (now (pool .entry))) row [] in
-        ⌜ r ≡ pick (same text (spelled form (now (name .entry)))) (Row row) Unknown ⌝ }
+        let text = getD (keysOf side (now (classes .entry)) (now (pool .entry))) last [] in
+        ⌜ r ≡ pick (same text (spelled form (now (name .entry)))) (Row last) Unknown ⌝ }
 {
-    if is_named(row_text(side, classes, pool, row), name, form) {
-        return Found::Row(row);
+    if is_named(row_text(side, classes, pool, last), name, form) {
+        return Found::Row(last);
     }
     Found::Unknown
 }
 
-// The last row from `start` to `end` whose descriptor is what the name stands for.
+// The last row from `start` to `end` whose descriptor is what the name stands for: each is asked, from the last one on.
+fn last_of_few(
+    index: &[u16],
+    side: Side,
+    classes: &[ClassRow],
+    pool: &[u8],
+    start: usize,
+    end: usize,
+    name: &[u8],
+    form: NameForm,
+) -> Found
+    requires { ⌜ Ranked (keysOf side (now classes) (now pool)) (now index) (length (now classes)) start «end» ⌝ }
+    ensures { λ r.
+        let keys = keysOf side (now (classes .entry)) (now (pool .entry)) in
+        ⌜ LastOn r keys (now (index .entry)) start «end» (spelled form (now (name .entry))) ⌝ }
+{
+    let mut after = end;
+    while start < after {
+        let place = after - 1;
+        let row = wide_number(index[place]);
+        if is_named(row_text(side, classes, pool, row), name, form) {
+            return Found::Row(row);
+        }
+        after = place;
+    }
+    Found::Unknown
+}
+
+// So many rows are asked one by one faster than by halving.
+const FEW: usize = 4;
+
+// The same for few or many rows.
 fn last_between(
     index: &[u16],
     side: Side,
@@ -101,10 +132,8 @@ fn last_between(
         let keys = keysOf side (now (classes .entry)) (now (pool .entry)) in
         ⌜ LastOn r keys (now (index .entry)) start «end» (spelled form (now (name .entry))) ⌝ }
 {
-    // Mostly one row has the mark, and there is nothing to halve.
-    if end - start == 1 {
-        let only = wide_number(index[start]);
-        return row_if_named(side, classes, pool, only, name, form);
+    if end - start <= FEW {
+        return last_of_few(index, side, classes, pool, start, end, name, form);
     }
     let place = upper_bound(index, side, classes, pool, start, end, name, form);
     if place == start {
@@ -114,7 +143,7 @@ fn last_between(
     row_if_named(side, classes, pool, last, name, form)
 }
 
-// The same among all rows, which are asked from the last one on.
+// The last of all rows whose descriptor is what the name stands for: each is asked, from the last one on.
 fn last_scanned(side: Side, classes: &[ClassRow], pool: &[u8], name: &[u8], form: NameForm) -> Found
     ensures { λ r. ⌜ r ≡ lastWith side (now (classes .entry)) (now (pool .entry)) (spelled form (now (name .entry))) ⌝ }
 {

@@ -16,7 +16,7 @@ slice-aggregate-fill-members : tie.Need-slice-aggregate-fill-members
 slice-aggregate-fill-members c = search into
 
 fill-members-requires : tie.Need-fill-members-requires
-fill-members-requires c κs = search into
+fill-members-requires c κs = (search into, search into, search into, search into, search into)
 
 enum-known-fates : tie.Need-enum-known-fates
 enum-known-fates c = search into

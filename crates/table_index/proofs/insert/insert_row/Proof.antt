@@ -21,7 +21,8 @@ shelf-at-requires c κs = search filing
 place-for-requires : tie.Need-place-for-requires
 place-for-requires c κs =
     let begun = c .before .before .before .before .before .before .before in
-    (shelf-ranked (begun .pre .0) (begun .pre .1) (c .before .before .before .wide-number .ensures) (c .before .shelf-at .ensures), begun .pre .1)
+    let headed = c .before .before .before .wide-number .ensures in
+    (shelf-ranked (begun .pre .0) (begun .pre .1) headed (c .before .shelf-at .ensures), begun .pre .1)
 
 file-row-requires : tie.Need-file-row-requires
 file-row-requires c κs = search filing

@@ -6,17 +6,8 @@ use Rattle.table_index.proofs.search.last_between.Tie as tie
 sub-if1 : tie.Need-sub-if1
 sub-if1 c = search last-of-shelf
 
-mul-wide-number : tie.Need-mul-wide-number
-mul-wide-number c = search last-of-shelf
-
-shared-slice-read-wide-number : tie.Need-shared-slice-read-wide-number
-shared-slice-read-wide-number c = search last-of-shelf
-
-wide-number-requires : tie.Need-wide-number-requires
-wide-number-requires c κs = search last-of-shelf
-
-row-if-named-requires : tie.Need-row-if-named-requires
-row-if-named-requires c κs = search last-of-shelf
+last-of-few-requires : tie.Need-last-of-few-requires
+last-of-few-requires c κs = search last-of-shelf
 
 returns : tie.Need-returns
 returns c = search last-of-shelf
@@ -30,17 +21,17 @@ returns-2 c = search last-of-shelf
 sub-wide-number : tie.Need-sub-wide-number
 sub-wide-number c = search last-of-shelf
 
-mul-wide-number-2 : tie.Need-mul-wide-number-2
-mul-wide-number-2 c = search last-of-shelf
+mul-wide-number : tie.Need-mul-wide-number
+mul-wide-number c = search last-of-shelf
 
-shared-slice-read-wide-number-2 : tie.Need-shared-slice-read-wide-number-2
-shared-slice-read-wide-number-2 c = search last-of-shelf
+shared-slice-read-wide-number : tie.Need-shared-slice-read-wide-number
+shared-slice-read-wide-number c = search last-of-shelf
 
-wide-number-requires-2 : tie.Need-wide-number-requires-2
-wide-number-requires-2 c κs = search last-of-shelf
+wide-number-requires : tie.Need-wide-number-requires
+wide-number-requires c κs = search last-of-shelf
 
-row-if-named-requires-2 : tie.Need-row-if-named-requires-2
-row-if-named-requires-2 c κs = search last-of-shelf
+row-if-named-requires : tie.Need-row-if-named-requires
+row-if-named-requires c κs = search last-of-shelf
 
 returns-3 : tie.Need-returns-3
 returns-3 c = search last-of-shelf
@@ -50,16 +41,13 @@ last-between-spec =
     tie.close
     (tie.spec
     sub-if1
-    mul-wide-number
-    shared-slice-read-wide-number
-    wide-number-requires
-    row-if-named-requires
+    last-of-few-requires
     returns
     upper-bound-requires
     returns-2
     sub-wide-number
-    mul-wide-number-2
-    shared-slice-read-wide-number-2
-    wide-number-requires-2
-    row-if-named-requires-2
+    mul-wide-number
+    shared-slice-read-wide-number
+    wide-number-requires
+    row-if-named-requires
     returns-3)
