@@ -1,7 +1,7 @@
 -- The last member row that answers, by the index: rows of another mark do not match. Assumes nothing.
 use mathlib.Core.Path.{_≡_, refl, sym, _∙_, ap}
 use mathlib.Core.Bool.{Bool, true, false}
-use mathlib.Core.List.{List, []}
+use mathlib.Core.List.{List, [], _∷_}
 use mathlib.Core.Logic.{_⊎_, inl, inr}
 use Prim.Native.Nat.{ℕ, suc, _+_, _*_, _-_, _≤_, _<_}
 use native.Mathlib.Omega.{arith}
@@ -9,7 +9,7 @@ use lib.ListN.{length, getD}
 use mir.Val.{Fits}
 use mir.Syntax.{w64}
 use borrow.Author.Needs.{needs}
-use Rattle.ground.specs.Choice.{both}
+use Rattle.ground.specs.Choice.{pick, both}
 use Rattle.ground.specs.Look.{Look, known, unknown}
 use Rattle.ground.proofs.Cases.{le-or-lt, clash, both-left, both-right}
 use Rattle.text_places.specs.Places.{same}
@@ -20,7 +20,8 @@ use Rattle.table_rows.specs.Rows.{unpackClass, unpackMember}
 use Rattle.tables.specs.declared.search.Found.{Found}
 use Rattle.tables.specs.declared.search.Found.the-variants.{Row, Unknown}
 use Rattle.tables.specs.Back.{textIn, pairOf, readBack}
-use Rattle.tables.specs.Search.{lastRowFrom, lastRaw}
+use Rattle.tables.specs.declared.search.Side.the-variants.{Raw}
+use Rattle.tables.specs.Search.{orRow, lastRowFrom, hasName, lastRaw}
 use Rattle.tables.proofs.Searching.{Scanning, scanning-from, scanning-found, scanning-ends, raw-found}
 use Rattle.table_index.specs.inner.Marks.{markCount}
 use Rattle.name_rule.specs.Mappings.{memberBack, entryBack}
@@ -174,3 +175,24 @@ module _ (classes rows : List (List ℕ)) (pool name descriptor : List ℕ) (i :
           chained-any u v = asked-any classes rows pool raw name descriptor (sym last) refl h a q (r ∙ as-raw t) s w u (v ∙ as-raw sought.Method)
 
 pub ruleset chained-asking = (class-inside, chained-row, chained-other, chained-any, needs)
+
+-- The row that answers for a raw descriptor has it.
+last-holds : (p : List ℕ → Bool) (at : ℕ) (rows : List (List ℕ)) {i : ℕ} → lastRowFrom p at rows ≡ Row i → (at ≤ i) × (p (getD rows (i - at) []) ≡ true)
+unfolding lastRowFrom
+last-holds p at [] e = absurd (let z : _≡_ {A = ℕ} 0 1 = cc in omega arith)
+last-holds p at (row ∷ rows) {i} e = go (lastRowFrom p (suc at) rows) (p row) refl refl e (λ f. last-holds p (suc at) rows f)
+  where
+    go : (o : Found) (b : Bool) → lastRowFrom p (suc at) rows ≡ o → p row ≡ b → orRow o (pick b (Row at) Unknown) ≡ Row i →
+        (lastRowFrom p (suc at) rows ≡ Row i → (suc at ≤ i) × (p (getD rows (i - suc at) []) ≡ true)) → (at ≤ i) × (p (getD (row ∷ rows) (i - at) []) ≡ true)
+    go (Row j) b f g h again =
+        let t = again (f ∙ h) in
+        let z : i - at ≡ suc (i - suc at) = omega (arith, t .0) in
+        (omega (arith, t .0), rw z (t .1))
+    go Unknown true f g h again = let y : at ≡ i = cc in let z : i - at ≡ 0 = omega arith in (omega arith, rw z g)
+    go Unknown false f g h again = absurd (let z : _≡_ {A = ℕ} 0 1 = cc in omega arith)
+
+pub raw-has : (rows : List (List ℕ)) (pool name : List ℕ) {i : ℕ} → lastRaw rows pool name ≡ Row i → textIn pool (unpackClass (getD rows i []) .raw) ≡ name
+raw-has rows pool name {i} e =
+    let t = last-holds (hasName Raw pool name) 0 rows e in
+    let z : i - 0 ≡ i = omega arith in
+    same-equal (textIn pool (unpackClass (getD rows i []) .raw)) name (rw z at (t .1))

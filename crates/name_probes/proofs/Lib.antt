@@ -1,0 +1,2 @@
+-- Laws of the probes.
+pub mod Probing

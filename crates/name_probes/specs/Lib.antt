@@ -1,0 +1,2 @@
+-- What the probes promise.
+pub mod Answers
