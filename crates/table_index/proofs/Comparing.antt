@@ -4,6 +4,7 @@ use mathlib.Core.Bool.{Bool, true, false}
 use mathlib.Core.List.{List, [], _∷_}
 use mathlib.Core.Logic.{_⊎_, inl, inr}
 use Prim.Native.Nat.{ℕ, zero, suc, _+_, _-_, _≤_, _<_}
+use native.Mathlib.Nat.{zero-add}
 use native.Mathlib.Numerals.{add-one}
 use native.Mathlib.Omega.{arith}
 use lib.Dec.{ltb}
@@ -13,7 +14,7 @@ use borrow.Author.Tests.{lt-ltb, le-ltb}
 use borrow.Author.Needs.{needs}
 use Rattle.ground.proofs.Cases.{le-or-lt, clash}
 use Rattle.table_index.specs.declared.texts.Order.the-variants.{Before, Same, After}
-use Rattle.table_index.specs.inner.Order.{compared, notAfter, atMost}
+use Rattle.table_index.specs.inner.Order.{compared, notAfter, atMost, Weighing, AlikeTo}
 
 -- one byte each
 module _ (x y : ℕ) (s t : List ℕ) where
@@ -104,11 +105,6 @@ most-trans (x ∷ s) (y ∷ t) (z ∷ u) e f = go (most-trans s t u) (way x y) (
         most-even x z s u (h ∙ k) ∙ again (sym (most-even x y s t h) ∙ e) (sym (most-even y z t u k) ∙ f)
 
 -- The loop: what is left of both decides.
-pub record Weighing (a b : List ℕ) (i : ℕ) : Type 0 where
-  pub in-first : i ≤ length a
-  pub in-second : i ≤ length b
-  pub decides : compared (drop i a) (drop i b) ≡ compared a b
-
 pub weighing-starts : (a b : List ℕ) → Weighing a b 0
 weighing-starts a b = record { in-first = omega arith; in-second = omega arith; decides = refl }
 
@@ -144,5 +140,19 @@ module _ {a b : List ℕ} {i : ℕ} (k : Weighing a b i) where
             (sym (compared-even (getD a i 0) (getD b i 0) (drop (suc i) a) (drop (suc i) b) l m) ∙ here);
       }
 
+-- texts that are alike up to a place
+pub weighing-past : (a b : List ℕ) (i : ℕ) → i ≤ length a → i ≤ length b → ((j : ℕ) → j < i → getD a j 0 ≡ getD b j 0) → Weighing a b i
+weighing-past a b zero h k e = weighing-starts a b
+weighing-past a b (suc i) h k e =
+    let here : getD a i 0 ≡ getD b i 0 = e i (omega arith) in
+    rw add-one at
+    (weighing-next (weighing-past a b i (omega arith) (omega arith) (λ j l. e j (omega arith))) (omega arith) (omega arith)
+    (omega arith) (omega arith))
+
+pub weighing-alike : (a b : List ℕ) {i : ℕ} → AlikeTo a 0 b false i → Weighing a b i
+weighing-alike a b {i} x =
+    let t = x .in-text in
+    weighing-past a b i (omega arith) (x .in-name) (λ j l. ap (λ n. getD a n 0) (sym (zero-add j)) ∙ x .each j l)
+
 pub ruleset weighing =
-    (weighing-starts, weighing-same, weighing-short, weighing-long, weighing-less, weighing-more, weighing-next, needs)
+    (weighing-alike, weighing-same, weighing-short, weighing-long, weighing-less, weighing-more, weighing-next, needs)

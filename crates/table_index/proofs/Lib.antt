@@ -1,5 +1,6 @@
 -- Laws of the index, one file a subject.
 pub mod Comparing
+pub mod Skipping
 pub mod Spelling
 pub mod Marking
 pub mod Keys

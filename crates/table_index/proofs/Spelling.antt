@@ -21,9 +21,9 @@ use Rattle.table_index.specs.declared.texts.Order.{Order}
 use Rattle.table_index.specs.declared.texts.Order.the-variants.{Before, Same, After}
 use Rattle.table_index.specs.declared.forms.NameForm.{NameForm}
 use Rattle.table_index.specs.declared.forms.NameForm.the-variants.{Whole, Piece}
-use Rattle.table_index.specs.inner.Order.{compared}
+use Rattle.table_index.specs.inner.Order.{compared, Weighing, AlikeTo}
 use Rattle.table_index.specs.inner.Forms.{spelled}
-use Rattle.table_index.proofs.Comparing.{Weighing, weighing-starts, weighing-same, weighing-short, weighing-long}
+use Rattle.table_index.proofs.Comparing.{weighing-starts, weighing-past, weighing-same, weighing-short, weighing-long}
 use Rattle.table_index.proofs.Comparing.{weighing-less, weighing-more, weighing-next}
 
 -- The bytes of a piece.
@@ -72,6 +72,31 @@ ends-told name {i} h = go (leb (length name) (i - 2)) refl
 
 pub ruleset ending = (ends-low, ends-told, needs)
 
+-- A text and a piece that are alike up to a place.
+module _ (text name : List ℕ) (dots : Bool) where
+  pub alike-none : Weighing text (classPiece dots name) 0
+  alike-none = weighing-starts text (classPiece dots name)
+
+  module _ {past : ℕ} (x : AlikeTo text 1 name dots past) where
+    pub alike-fits : length text < 2 ^ 64 → Fits w64 (past + 1)
+    alike-fits f = let t = x .in-text in omega arith
+
+    pub alike-past : getD text 0 0 ≡ 0x4C → Weighing text (classPiece dots name) (past + 1)
+    alike-past f =
+        let t = x .in-text in
+        let n = x .in-name in
+        let p = piece-length dots name in
+        weighing-past text (classPiece dots name) (past + 1) (omega arith) (omega arith) (λ j h. go j h)
+      where
+        go : (j : ℕ) → j < past + 1 → getD text j 0 ≡ getD (classPiece dots name) j 0
+        go zero h = f
+        go (suc j) h =
+            let n = x .in-name in
+            let up : suc j ≡ 1 + j = omega arith in
+            ap (λ i. getD text i 0) up ∙ x .each j (omega arith) ∙ sym (inner-byte dots name j (omega arith))
+
+pub ruleset past-alike = (alike-none, alike-fits, alike-past, needs)
+
 -- A text compared with a piece.
 module _ (name : List ℕ) (dots : Bool) {a : List ℕ} {i : ℕ} (k : Weighing a (classPiece dots name) i)
     {z : Bool} (e : z ≡ leb (length name + 2) i) where
@@ -105,7 +130,7 @@ pub piece-byte-inside : (name : List ℕ) {i : ℕ} {z : Bool} → z ≡ leb (le
 piece-byte-inside name {i} e t = leb-false (length name + 2) i (sym e ∙ t)
 
 pub ruleset piecing =
-    (weighing-starts, piece-same, piece-short, piece-long, piece-less, piece-more, piece-next, piece-byte-inside, needs)
+    (piece-same, piece-short, piece-long, piece-less, piece-more, piece-next, piece-byte-inside, needs)
 
 module _ (a name : List ℕ) {form : NameForm} {o : Order} where
   pub named-whole : form ≡ Whole → o ≡ compared a name → o ≡ compared a (spelled form name)
@@ -145,6 +170,9 @@ module _ (text name : List ℕ) (dots : Bool) where
       pub last-fits : length text < 2 ^ 64 → Fits w64 (length name + 1)
       last-fits b = omega arith
 
+      pub one-inside : 1 ≤ length text
+      one-inside = omega arith
+
       pub first-inside : 0 < length text
       first-inside = omega arith
 
@@ -152,13 +180,13 @@ module _ (text name : List ℕ) (dots : Bool) where
       last-inside = omega arith
 
       module _ {k : ℕ} (a : Alike text name dots k) where
-        pub alike-inside : 0 < k → k < length text
+        pub alike-inside : {past : ℕ} → past < k → k < length text
         alike-inside h = let b = a .inside in omega arith
 
-        pub alike-name : 0 < k → k - 1 < length name
+        pub alike-name : {past : ℕ} → past < k → k - 1 < length name
         alike-name h = let b = a .inside in omega arith
 
-        module _ (h : 0 < k) {x : ℕ} (f : x ≡ slashIf dots (getD name (k - 1) 0)) where
+        module _ {past : ℕ} (h : past < k) {x : ℕ} (f : x ≡ slashIf dots (getD name (k - 1) 0)) where
           pub alike-differs : (getD text k 0 ≡ x → ⊥) → false ≡ same text (classPiece dots name)
           alike-differs n =
               let b = a .inside in
@@ -181,7 +209,7 @@ module _ (text name : List ℕ) (dots : Bool) where
                   let up : suc j ≡ k = omega arith in
                   ap (λ i. getD text i 0) up ∙ g ∙ f ∙ ap (λ i. slashIf dots (getD name i 0)) z
 
-        module _ (z : k ≤ 0) where
+        module _ {past : ℕ} (skipped : AlikeTo text 1 name dots past) (z : k ≤ past) where
           pub other-letter : (getD text 0 0 ≡ 0x4C → ⊥) → false ≡ same text (classPiece dots name)
           other-letter n = differs-at text (classPiece dots name) 0 n
 
@@ -202,7 +230,13 @@ module _ (text name : List ℕ) (dots : Bool) where
                   go (inl m) =
                       let here : suc j ≡ length name + 1 = omega arith in
                       ap (λ i. getD text i 0) here ∙ l ∙ sym (ap (λ i. getD (classPiece dots name) i 0) here ∙ last-is)
-                  go (inr m) = a .alike j (omega arith) m ∙ sym (inner-byte dots name j m)
+                  go (inr m) = by-name (le-or-lt past j) ∙ sym (inner-byte dots name j m)
+                    where
+                      by-name : (past ≤ j) ⊎ (j < past) → getD text (suc j) 0 ≡ slashIf dots (getD name j 0)
+                      by-name (inl q) = a .alike j (omega arith) m
+                      by-name (inr q) =
+                          let up : suc j ≡ 1 + j = omega arith in
+                          ap (λ i. getD text i 0) up ∙ skipped .each j q
 
               equal : text ≡ classPiece dots name
               equal =
@@ -214,6 +248,7 @@ pub ruleset sameness = (
   is-uneven,
   alike-starts,
   last-fits,
+  one-inside,
   first-inside,
   last-inside,
   alike-inside,

@@ -1,4 +1,5 @@
 // A text against a name that is looked for, which may stand nowhere as a descriptor: `L`, the name, `;`.
+use crate::blocks::alike_up_to;
 use crate::texts::Order;
 use crate::texts::compare_texts;
 use table_pool::stored_byte;
@@ -9,7 +10,7 @@ ghost use lib.Dec.{leb};
 ghost use lib.ListN.{length, getD};
 ghost use Rattle.text_places.specs.Places.{same};
 ghost use Rattle.table_pool.specs.inner.Named.{classPiece};
-ghost use Rattle.table_index.specs.inner.Order.{compared};
+ghost use Rattle.table_index.specs.inner.Order.{compared, Weighing};
 ghost use Rattle.table_index.specs.inner.Forms.{spelled};
 
 // What a name stands for.
@@ -44,10 +45,24 @@ fn piece_byte(name: &[u8], dots: bool, i: usize) -> u8
     b';'
 }
 
+// So far a text and the piece are alike, by whole blocks.
+fn past_alike(text: &[u8], name: &[u8], dots: bool) -> usize
+    ensures { λ r. ⌜ Weighing (now (text .entry)) (classPiece dots (now (name .entry))) r ⌝ }
+{
+    if text.len() == 0 {
+        return 0;
+    }
+    if text[0] != b'L' {
+        return 0;
+    }
+    let past = alike_up_to(text, 1, name, dots);
+    past + 1
+}
+
 fn compare_piece(text: &[u8], name: &[u8], dots: bool) -> Order
     ensures { λ r. ⌜ r ≡ compared (now (text .entry)) (classPiece dots (now (name .entry))) ⌝ }
 {
-    let mut i = 0;
+    let mut i = past_alike(text, name, dots);
     while i < text.len() {
         if piece_ends(name, i) {
             return Order::After;
@@ -76,7 +91,7 @@ pub fn compare_named(text: &[u8], name: &[u8], form: NameForm) -> Order
     }
 }
 
-// Whether a text is the piece `L`, name, `;`. From the end backwards: names of one package start alike.
+// Whether a text is the piece `L`, name, `;`: what whole blocks leave open is asked from the end backwards.
 fn is_piece(text: &[u8], name: &[u8], dots: bool) -> bool
     ensures { λ r. ⌜ r ≡ same (now (text .entry)) (classPiece dots (now (name .entry))) ⌝ }
 {
@@ -86,8 +101,9 @@ fn is_piece(text: &[u8], name: &[u8], dots: bool) -> bool
     if text.len() - 2 != name.len() {
         return false;
     }
+    let past = alike_up_to(text, 1, name, dots);
     let mut k = name.len();
-    while 0 < k {
+    while past < k {
         let before = k - 1;
         if text[k] != stored_byte(name[before], dots) {
             return false;

@@ -1,4 +1,5 @@
 // How two texts stand to each other.
+use crate::blocks::alike_up_to;
 ghost use mathlib.Core.Path.{_≡_};
 ghost use Rattle.table_index.specs.inner.Order.{compared, notAfter};
 
@@ -12,7 +13,7 @@ pub enum Order {
 pub fn compare_texts(a: &[u8], b: &[u8]) -> Order
     ensures { λ r. ⌜ r ≡ compared (now (a .entry)) (now (b .entry)) ⌝ }
 {
-    let mut i = 0;
+    let mut i = alike_up_to(a, 0, b, false);
     while i < a.len() {
         if b.len() <= i {
             return Order::After;

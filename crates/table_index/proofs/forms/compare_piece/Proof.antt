@@ -1,6 +1,6 @@
 -- `table_index::forms::compare_piece` meets its contract, by the laws of Spelling.
 use Rattle.table_index.proofs.Spelling.{piecing}
-use Rattle.table_index.proofs.Comparing.{Weighing}
+use Rattle.table_index.specs.inner.Order.{Weighing}
 use Prim.Native.Nat.{_-_}
 use lib.ListN.{length}
 use Rattle.table_pool.specs.inner.Named.{classPiece}
@@ -12,6 +12,9 @@ Inv-loop text name dots i₀ i = Weighing text (classPiece dots name) i
 
 abbrev μ-loop : tie.MeasureT-loop
 μ-loop text name dots i₀ i = length text - i
+
+past-alike-requires : tie.Need-past-alike-requires Inv-loop μ-loop
+past-alike-requires c κs = search piecing
 
 loop-holds : tie.Need-loop-holds Inv-loop μ-loop
 loop-holds c = search piecing
@@ -61,6 +64,7 @@ compare-piece-spec =
     (tie.spec
     Inv-loop
     μ-loop
+    past-alike-requires
     loop-holds
     piece-ends-requires
     returns

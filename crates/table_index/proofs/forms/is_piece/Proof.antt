@@ -1,13 +1,13 @@
 -- `table_index::forms::is_piece` meets its contract, by the laws of Spelling.
-use Rattle.table_index.proofs.Spelling.{sameness, Alike}
+use Rattle.table_index.proofs.Spelling.{sameness, Alike, alike-more}
 use Rattle.table_index.proofs.forms.is_piece.Statement.{statement}
 use Rattle.table_index.proofs.forms.is_piece.Tie as tie
 
 abbrev Inv-loop : tie.InvT-loop
-Inv-loop text name dots k₀ k = Alike text name dots k
+Inv-loop text name dots past k₀ k = Alike text name dots k
 
 abbrev μ-loop : tie.MeasureT-loop
-μ-loop text name dots k₀ k = k
+μ-loop text name dots past k₀ k = k
 
 returns : tie.Need-returns Inv-loop μ-loop
 returns c = search sameness
@@ -17,6 +17,9 @@ sub-if2 c = search sameness
 
 returns-2 : tie.Need-returns-2 Inv-loop μ-loop
 returns-2 c = search sameness
+
+alike-up-to-requires : tie.Need-alike-up-to-requires Inv-loop μ-loop
+alike-up-to-requires c κs = search sameness
 
 loop-holds : tie.Need-loop-holds Inv-loop μ-loop
 loop-holds c = search sameness
@@ -40,7 +43,10 @@ loop-less : tie.Need-loop-less Inv-loop μ-loop
 loop-less c = search sameness
 
 loop-again : tie.Need-loop-again Inv-loop μ-loop
-loop-again c = search sameness
+loop-again c =
+    let long = c .before .before .before .before .before .before .before .before .if1 .left in
+    let even = c .before .before .before .before .before .before .before .if2 .left in
+    alike-more _ _ _ long even (c .before .before .before .before .before .loop .inv) (c .before .before .before .before .loop-test .taken) (c .before .stored-byte .ensures) (c .if3 .left)
 
 shared-slice-read-if4 : tie.Need-shared-slice-read-if4 Inv-loop μ-loop
 shared-slice-read-if4 c = search sameness
@@ -69,6 +75,7 @@ is-piece-spec =
     returns
     sub-if2
     returns-2
+    alike-up-to-requires
     loop-holds
     sub-before
     shared-slice-read-if3

@@ -1,7 +1,8 @@
 -- `table_index::texts::compare_texts` meets its contract, by the laws of Comparing.
-use Rattle.table_index.proofs.Comparing.{weighing, Weighing}
+use Rattle.table_index.proofs.Comparing.{weighing}
 use Prim.Native.Nat.{_-_}
 use lib.ListN.{length}
+use Rattle.table_index.specs.inner.Order.{Weighing}
 use Rattle.table_index.proofs.texts.compare_texts.Statement.{statement}
 use Rattle.table_index.proofs.texts.compare_texts.Tie as tie
 
@@ -10,6 +11,9 @@ Inv-loop a b i₀ i = Weighing a b i
 
 abbrev μ-loop : tie.MeasureT-loop
 μ-loop a b i₀ i = length a - i
+
+alike-up-to-requires : tie.Need-alike-up-to-requires Inv-loop μ-loop
+alike-up-to-requires c κs = search weighing
 
 loop-holds : tie.Need-loop-holds Inv-loop μ-loop
 loop-holds c = search weighing
@@ -56,6 +60,7 @@ compare-texts-spec =
     (tie.spec
     Inv-loop
     μ-loop
+    alike-up-to-requires
     loop-holds
     returns
     shared-slice-read-if2
