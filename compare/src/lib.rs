@@ -5,9 +5,9 @@
 //! (`every`, `texts`, `synthetic`, `comment_texts` with `comment_parts`, `part_texts`). `reading` has both answers about a
 //! comment, `parts` those about a line, by way of `original`. For loading, `plain` is a program of its own: `load_tables`
 //! sets it beside the original's `tables`, `load_rooms` the proved program beside it, and `load_held` holds both pairs, over
-//! `load_texts`, `load_files` and `load_largest`; `load_examples` has answers of its own. `lookup_tables` makes and damages what look-ups
-//! are lent, `tree_files` makes tree files. Each of the other modules is one
-//! part of the comparison; `main` lists them. No two modules use each other, by whatever way round (tests/modules.rs).
+//! `load_texts`, `load_files` and `load_largest`; `load_examples` has answers of its own. `lookup_tables` makes and damages
+//! what look-ups are lent, `tree_files` makes tree files. Each of the other modules is one part of the comparison; `main`
+//! lists them. No two modules use each other, by whatever way round (tests/modules.rs).
 
 pub mod arguments;
 pub mod bytes;

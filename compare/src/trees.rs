@@ -17,6 +17,12 @@ const FILES: Subject<Text, u32> = Subject {
     },
 };
 
+/// Those with many name bytes are counted by themselves.
+const LONG_FILES: Subject<Text, u32> = Subject {
+    name: "long tree files",
+    ..FILES
+};
+
 /// The tokens of a node in a tree file.
 #[derive(Clone)]
 struct Tokens {
@@ -67,6 +73,7 @@ const SIGNATURES: Subject<Tokens, [u64; 5]> = Subject {
 
 struct Trees {
     files: Comparison<Text, u32>,
+    long: Comparison<Text, u32>,
     signatures: Comparison<Tokens, [u64; 5]>,
 }
 
@@ -87,6 +94,10 @@ fn others(random: &mut Random, number: u32) -> [u32; 8] {
 impl Trees {
     fn file(&mut self, file: Vec<u8>) -> Held {
         self.files.hold(&Text(file))
+    }
+
+    fn long_file(&mut self, tree: &TreeFile) -> Held {
+        self.long.hold(&Text(tree.written()))
     }
 
     /// Every four bytes before the name bytes as another number.
@@ -236,7 +247,7 @@ fn long(settings: &Settings, held: &mut Trees) -> Held {
         let length = *random.pick(&[100, 250, 256, 300, 500, 1_000, 1_000, 2_000]);
         let mut tree = tree_files::long(&mut random, length);
         let there = tree.bytes.len();
-        held.file(tree.written())?;
+        held.long_file(&tree)?;
         if random.once_in(2) {
             let name = random.below(tree.names.len());
             let (one, two) = (
@@ -244,12 +255,12 @@ fn long(settings: &Settings, held: &mut Trees) -> Held {
                 near_group(&mut random, there),
             );
             tree.names[name] = [one.min(two) as u32, one.abs_diff(two) as u32];
-            held.file(tree.written())?;
+            held.long_file(&tree)?;
         }
         let at = near_group(&mut random, there);
         if let Some(byte) = tree.bytes.get_mut(at) {
             *byte = *random.pick(&SPOILING);
-            held.file(tree.written())?;
+            held.long_file(&tree)?;
         }
     }
     Ok(())
@@ -272,12 +283,12 @@ fn largest(settings: &Settings, held: &mut Trees) -> Held {
             tree.bytes.truncate(bytes);
             let from = bytes - random.below(3 * GROUP);
             tree.names.push([from as u32, (bytes - from) as u32]);
-            held.file(tree.written())?;
+            held.long_file(&tree)?;
             tree.names.remove(0);
-            held.file(tree.written())?;
+            held.long_file(&tree)?;
             let at = bytes - 1 - random.below(2 * GROUP);
             tree.bytes[at] = *random.pick(&SPOILING);
-            held.file(tree.written())?;
+            held.long_file(&tree)?;
         }
     }
     Ok(())
@@ -286,6 +297,7 @@ fn largest(settings: &Settings, held: &mut Trees) -> Held {
 pub fn run(settings: &Settings, report: &mut Report) -> Held {
     let mut held = Trees {
         files: Comparison::new(FILES),
+        long: Comparison::new(LONG_FILES),
         signatures: Comparison::new(SIGNATURES),
     };
     small(settings, &mut held)?;
@@ -293,6 +305,7 @@ pub fn run(settings: &Settings, report: &mut Report) -> Held {
     long(settings, &mut held)?;
     largest(settings, &mut held)?;
     report.add(held.files);
+    report.add(held.long);
     report.add(held.signatures);
     Ok(())
 }
