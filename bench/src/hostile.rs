@@ -37,7 +37,15 @@ impl Hostile {
 const KIBIBYTES: [usize; 5] = [64, 128, 256, 512, 1024];
 
 pub fn print_head(head: &str, said: &str) {
-    let lengths: String = KIBIBYTES.map(|length| format!("{length:>9}")).concat();
+    print_head_of(head, said, &KIBIBYTES);
+}
+
+/// The same for other lengths, in KiB.
+pub fn print_head_of(head: &str, said: &str, lengths: &[usize]) {
+    let lengths: String = lengths
+        .iter()
+        .map(|length| format!("{length:>9}"))
+        .collect();
     println!("{head:<26}{said:<9}{lengths}   median  spread");
 }
 
@@ -46,11 +54,23 @@ pub fn print_head(head: &str, said: &str) {
 pub fn print_row<A: Display, W: FnMut() -> A>(
     hostile: &Hostile,
     runs: u64,
+    work: impl FnMut(Vec<u8>) -> W,
+) {
+    let text = |length| hostile.text(length);
+    print_row_of(&hostile.name, &KIBIBYTES, runs, text, work);
+}
+
+/// The same for what `text` gives for each of the lengths.
+pub fn print_row_of<A: Display, W: FnMut() -> A>(
+    name: &str,
+    lengths: &[usize],
+    runs: u64,
+    text: impl Fn(usize) -> Vec<u8>,
     mut work: impl FnMut(Vec<u8>) -> W,
 ) {
     let (mut said, mut row, mut last) = (String::new(), String::new(), String::new());
-    for length in KIBIBYTES {
-        let text = hostile.text(length * 1024);
+    for length in lengths {
+        let text = text(length * 1024);
         let bytes = text.len() as f64;
         let mut work = work(text);
         let mut times = Vec::new();
@@ -64,7 +84,7 @@ pub fn print_row<A: Display, W: FnMut() -> A>(
         row += &format!("{:>9.3}", of_byte(times.best()));
         last = format!("{:>9.3}{:>7.1}%", of_byte(times.median()), times.spread());
     }
-    println!("{:<26}{said:<9}{row}{last}", hostile.name);
+    println!("{name:<26}{said:<9}{row}{last}");
 }
 
 #[cfg(test)]

@@ -3,9 +3,11 @@
 
 mod hostile;
 mod loads;
+mod lookups;
 mod parts;
 mod race;
 mod times;
+mod trees;
 
 use clumarief_compare::arguments::{self, Asked};
 use clumarief_compare::random::Random;
@@ -104,9 +106,12 @@ fn bench(asked: &Asked<2>) -> Result<(), String> {
     );
     loads::run(seed, runs, asked.real.as_deref())
         .map_err(|Unequal(name)| format!("proved and original disagree on {name}"))?;
+    lookups::run(runs, asked.real.as_deref())
+        .map_err(|Unequal(name)| format!("proved and original disagree on a {name}"))?;
     println!("\nnanoseconds a byte: best at lengths in KiB; median and spread at the last");
     loads::run_hostile(runs);
     parts::run(runs);
+    trees::run(seed, runs);
     Ok(())
 }
 

@@ -5,7 +5,7 @@ use super::slices::{Bytes, lent, text};
 use super::{ClassRow, MemberRow};
 
 /// What is lent, as C hands it over.
-unsafe fn lookup<'a>(
+pub unsafe fn lookup<'a>(
     classes: *const ClassRow,
     class_rows: usize,
     members: *const MemberRow,

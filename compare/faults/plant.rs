@@ -13,14 +13,24 @@ const LISTS: &str = "faults/lists";
 
 /// The plain program, and the files that stand below it as modules.
 const PLAIN: &str = "src/plain.rs";
-const MODULES: [&str; 5] = ["characters", "descriptors", "json", "lines", "names"];
-const DOORS: [&str; 6] = [
+const MODULES: [&str; 7] = [
+    "characters",
+    "descriptors",
+    "json",
+    "lines",
+    "members",
+    "names",
+    "trees",
+];
+const DOORS: [&str; 8] = [
     "slices",
     "text_doors",
     "comment_doors",
     "line_doors",
     "load_doors",
     "name_doors",
+    "member_doors",
+    "tree_doors",
 ];
 
 struct Fault {
@@ -153,7 +163,9 @@ pub fn run() -> Done<()> {
     for path in &all {
         let text = module(path, &faults)?;
         if path == PLAIN {
-            whole += &text.replace("\nmod ", "\n// mod ");
+            whole += &text
+                .replace("\nmod ", "\n// mod ")
+                .replace("\npub mod ", "\n// pub mod ");
             continue;
         }
         let name = Path::new(path).file_stem().and_then(|name| name.to_str());

@@ -5,8 +5,9 @@
 //! (`every`, `texts`, `synthetic`, `comment_texts` with `comment_parts`, `part_texts`). `reading` has both answers about a
 //! comment, `parts` those about a line, by way of `original`. For loading, `plain` is a program of its own: `load_tables`
 //! sets it beside the original's `tables`, `load_rooms` the proved program beside it, and `load_held` holds both pairs, over
-//! `load_texts`, `load_files` and `load_largest`; `load_examples` has answers of its own. Each of the other modules is one
-//! part of the comparison; `main` lists them. No two modules use each other, by whatever way round (tests/modules.rs).
+//! `load_texts`, `load_files` and `load_largest`; `load_examples` has answers of its own. `lookup_tables` makes and damages
+//! what look-ups are lent, `tree_files` makes tree files. Each of the other modules is one part of the comparison; `main`
+//! lists them. No two modules use each other, by whatever way round (tests/modules.rs).
 
 pub mod arguments;
 pub mod bytes;
@@ -30,11 +31,13 @@ pub mod load_rooms;
 pub mod load_tables;
 pub mod load_texts;
 pub mod loading;
+pub mod lookup_tables;
 #[cfg(original)]
 pub mod mapped;
 #[cfg(not(original))]
 #[path = "left_out.rs"]
 pub mod mapped;
+pub mod members;
 pub mod names;
 pub mod numbers;
 #[cfg(original)]
@@ -55,6 +58,8 @@ pub mod synthetic;
 pub mod tables;
 pub mod texts;
 pub mod timing;
+pub mod tree_files;
+pub mod trees;
 pub mod trims;
 pub mod utf8;
 pub mod white;

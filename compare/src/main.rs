@@ -3,7 +3,8 @@
 
 use clumarief_compare::report::{Disagreement, Held, Report, Settings};
 use clumarief_compare::{
-    arguments, bytes, comments, lines, loading, mapped, names, numbers, ranges, trims, utf8, white,
+    arguments, bytes, comments, lines, loading, mapped, members, names, numbers, ranges, trees,
+    trims, utf8, white,
 };
 use std::env;
 use std::process::ExitCode;
@@ -24,6 +25,8 @@ const PARTS: &[(&str, Part)] = &[
     ("descriptors", clumarief_compare::descriptors::run),
     ("loading", loading::run),
     ("names", names::run),
+    ("members", members::run),
+    ("trees", trees::run),
 ];
 
 const USAGE: &str = include_str!("../usage.txt");

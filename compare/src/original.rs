@@ -89,7 +89,41 @@ pub mod doors {
     /// A mapping of the original, which only keeps it.
     pub struct Kept(super::Mapping);
 
+    /// What a member is asked for by: the raw descriptor of its class, and the original's key.
+    pub struct Key {
+        owner: String,
+        key: super::MemberKey,
+    }
+
+    impl Key {
+        pub fn new(owner: &str, name: &str, descriptor: &str) -> Self {
+            Key {
+                owner: owner.to_owned(),
+                key: super::MemberKey {
+                    raw_name: name.into(),
+                    raw_descriptor: descriptor.into(),
+                },
+            }
+        }
+    }
+
     impl Kept {
+        pub fn display_class_name(&self, raw: &str) -> Option<super::StrRef> {
+            self.0.display_class_name(raw)
+        }
+
+        pub fn display_field_name(&self, key: &Key) -> Option<super::StrRef> {
+            self.0.display_field_name(&key.owner, &key.key)
+        }
+
+        pub fn display_method_name(&self, key: &Key) -> Option<super::StrRef> {
+            self.0.display_method_name(&key.owner, &key.key)
+        }
+
+        pub fn display_line(&self, key: &Key, line: u32) -> Option<u32> {
+            self.0.display_line(&key.owner, &key.key, line)
+        }
+
         /// What the class is shown as, what it is turned back to, and what is mapped.
         pub fn names(&self, name: &str) -> (Option<Vec<u8>>, Option<Vec<u8>>, Vec<u8>) {
             let display = self.0.display_class_name(name);

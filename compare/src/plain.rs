@@ -7,10 +7,13 @@ mod characters;
 mod descriptors;
 mod json;
 mod lines;
+mod members;
 mod names;
+pub mod trees;
 
 use descriptors::{class_descriptor, parts, raw_signature, type_descriptor};
 use lines::{Line, Method, Range, arguments, line_of};
+pub use members::Key;
 pub use names::Lookup;
 use std::collections::HashMap;
 

@@ -1,5 +1,11 @@
 //! The proved functions, as they come out of `libcapi.a` and the libraries of probes, behind safe calls.
 
+mod lookups;
+mod trees;
+
+pub use lookups::*;
+pub use trees::*;
+
 /// A byte slice crosses as its address and its length.
 type Bytes = *const u8;
 
@@ -71,42 +77,6 @@ unsafe extern "C" {
         pool: *mut u8,
         pool_length: usize,
         answer: &mut [u32; 24],
-    );
-    fn clumarief_display_class_name(
-        classes: *const [u32; 4],
-        class_rows: usize,
-        members: *const [u32; 15],
-        member_rows: usize,
-        pool: Bytes,
-        pool_length: usize,
-        used: &[u32; 3],
-        name: Bytes,
-        length: usize,
-        answer: &mut [u32; 4],
-    );
-    fn clumarief_raw_class_name(
-        classes: *const [u32; 4],
-        class_rows: usize,
-        members: *const [u32; 15],
-        member_rows: usize,
-        pool: Bytes,
-        pool_length: usize,
-        used: &[u32; 3],
-        name: Bytes,
-        length: usize,
-        answer: &mut [u32; 4],
-    );
-    fn clumarief_mapped_class_name(
-        classes: *const [u32; 4],
-        class_rows: usize,
-        members: *const [u32; 15],
-        member_rows: usize,
-        pool: Bytes,
-        pool_length: usize,
-        used: &[u32; 3],
-        name: Bytes,
-        length: usize,
-        answer: &mut [u32; 3],
     );
 }
 
@@ -301,50 +271,4 @@ pub fn load(text: &[u8], marks: bool, rooms: Rooms<'_>) -> [u32; 24] {
         );
     }
     answer
-}
-
-/// Tables that are lent to a look-up, and how much of them is used: class rows, member rows, pool bytes.
-pub struct Tables<'a> {
-    pub classes: &'a [[u32; 4]],
-    pub members: &'a [[u32; 15]],
-    pub pool: &'a [u8],
-    pub used: [u32; 3],
-}
-
-/// Calls a look-up whose answer has so many numbers.
-macro_rules! look_up {
-    ($function:ident, $tables:expr, $name:expr, $numbers:literal) => {{
-        let (tables, name) = ($tables, $name);
-        let mut answer = [u32::MAX; $numbers];
-        unsafe {
-            $function(
-                tables.classes.as_ptr(),
-                tables.classes.len(),
-                tables.members.as_ptr(),
-                tables.members.len(),
-                tables.pool.as_ptr(),
-                tables.pool.len(),
-                &tables.used,
-                name.as_ptr(),
-                name.len(),
-                &mut answer,
-            );
-        }
-        answer
-    }};
-}
-
-/// 0 or 14; 1 found or 0; the place and the length of the display descriptor.
-pub fn display_class_name(tables: &Tables<'_>, raw: &[u8]) -> [u32; 4] {
-    look_up!(clumarief_display_class_name, tables, raw, 4)
-}
-
-/// The same for the raw descriptor, by the display one.
-pub fn raw_class_name(tables: &Tables<'_>, display: &[u8]) -> [u32; 4] {
-    look_up!(clumarief_raw_class_name, tables, display, 4)
-}
-
-/// 1 out of the pool or 0 the caller's own; place and length.
-pub fn mapped_class_name(tables: &Tables<'_>, raw: &[u8]) -> [u32; 3] {
-    look_up!(clumarief_mapped_class_name, tables, raw, 3)
 }

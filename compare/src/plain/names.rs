@@ -58,12 +58,15 @@ impl Lookup<'_> {
                 .any(|row| self.member_is_bad(row))
     }
 
+    /// A text of tables that are not malformed.
+    pub fn text(&self, place: u32, length: u32) -> &[u8] {
+        let start = place as usize;
+        &self.pool[start..start + length as usize]
+    }
+
     /// "The last class row with a given raw (or display) descriptor answers": the other descriptor of that row.
     fn last(&self, asked: usize, answer: usize, name: &[u8]) -> Option<Found> {
-        let text = |row: &ClassRow, at: usize| {
-            let start = row[at] as usize;
-            &self.pool[start..start + row[at + 1] as usize]
-        };
+        let text = |row: &ClassRow, at: usize| self.text(row[at], row[at + 1]);
         let rows = self.classes[..self.used[0] as usize].iter();
         let row = rows.rev().find(|row| text(row, asked) == name)?;
         Some((row[answer], row[answer + 1]))

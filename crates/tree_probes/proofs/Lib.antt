@@ -1,0 +1,2 @@
+-- Answers as numbers, in the terms of the code.
+pub mod Saying
