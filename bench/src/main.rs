@@ -6,6 +6,7 @@ mod loads;
 mod lookups;
 mod parts;
 mod race;
+mod shared_marks;
 mod times;
 mod trees;
 
@@ -108,6 +109,7 @@ fn bench(asked: &Asked<2>) -> Result<(), String> {
         .map_err(|Unequal(name)| format!("proved and original disagree on {name}"))?;
     lookups::run(runs, asked.real.as_deref())
         .map_err(|Unequal(name)| format!("proved and original disagree on a {name}"))?;
+    shared_marks::run(runs);
     println!("\nnanoseconds a byte: best at lengths in KiB; median and spread at the last");
     loads::run_hostile(runs);
     parts::run(runs);

@@ -31,6 +31,46 @@ fn shown_line(tables: Lookup, key: Key, line: u32) -> [u32; 4] {
     found.map_or([0; 4], |[row, line]| [0, 1, row, line])
 }
 
+#[unsafe(no_mangle)]
+pub unsafe extern "C" fn clumarief_probe_method_row(
+    classes: *const ClassRow,
+    class_rows: usize,
+    members: *const MemberRow,
+    member_rows: usize,
+    pool: Bytes,
+    pool_length: usize,
+    used: &[u32; 3],
+    owner: Bytes,
+    owner_length: usize,
+    name: Bytes,
+    name_length: usize,
+    descriptor: Bytes,
+    descriptor_length: usize,
+) -> u64 {
+    let (tables, key) = unsafe {
+        let tables = lookup(
+            classes,
+            class_rows,
+            members,
+            member_rows,
+            pool,
+            pool_length,
+            used,
+        );
+        let key = Key {
+            owner: text(owner, owner_length),
+            name: text(name, name_length),
+            descriptor: text(descriptor, descriptor_length),
+        };
+        (tables, key)
+    };
+    match method(tables, key) {
+        [14, ..] => 0,
+        [_, 0, ..] => 1,
+        [_, _, row, ..] => u64::from(row) + 2,
+    }
+}
+
 /// A C function over lent tables and a key, and what answers it.
 macro_rules! door {
     ($function:ident($($line:ident)?) -> $numbers:literal by $answers:ident) => {

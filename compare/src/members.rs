@@ -61,8 +61,8 @@ impl Case for Asked {
     }
 }
 
-/// All three answers: of a field, of a method, of a line.
-type Answers = ([u32; 5], [u32; 5], [u32; 4]);
+/// All answers: of a field, of a method, of a line, and the row of the method by an index.
+type Answers = ([u32; 5], [u32; 5], [u32; 4], u64);
 
 fn proved_answers(lent: &LentTables, key: &Key) -> Answers {
     let tables = lent.tables();
@@ -71,22 +71,25 @@ fn proved_answers(lent: &LentTables, key: &Key) -> Answers {
         proved::display_field_name(&tables, owner, name, descriptor),
         proved::display_method_name(&tables, owner, name, descriptor),
         proved::display_line(&tables, owner, name, descriptor, key.line),
+        proved::method_row(&tables, owner, name, descriptor),
     )
 }
 
 fn plain_answers(lent: &LentTables, key: &Key) -> Answers {
     let (lookup, line, key) = (lent.lookup(), key.line, key.plain());
     if lookup.is_malformed() {
-        return ([14, 0, 0, 0, 0], [14, 0, 0, 0, 0], [14, 0, 0, 0]);
+        return ([14, 0, 0, 0, 0], [14, 0, 0, 0, 0], [14, 0, 0, 0], 0);
     }
     let name = |found: Option<[u32; 3]>| {
         found.map_or([0; 5], |[row, place, length]| [0, 1, row, place, length])
     };
+    let method = lookup.display_method_name(key);
     let shown = lookup.display_line(key, line);
     (
         name(lookup.display_field_name(key)),
-        name(lookup.display_method_name(key)),
+        name(method),
         shown.map_or([0; 4], |[row, line]| [0, 1, row, line]),
+        method.map_or(1, |[row, ..]| u64::from(row) + 2),
     )
 }
 
@@ -105,7 +108,7 @@ const TABLES: Subject<Asked, Answers> = Subject {
     name: "members in any tables",
     proved: |asked| proved_answers(&asked.lent, &asked.key),
     judge: |asked| Some(plain_answers(&asked.lent, &asked.key)),
-    outcome: |(field, method, line)| match field[0] {
+    outcome: |(field, method, line, _)| match field[0] {
         14 => "malformed",
         _ => outcome([field[1] == 1, method[1] == 1, line[1] == 1]),
     },

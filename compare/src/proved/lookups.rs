@@ -83,3 +83,43 @@ look_up! {
     /// 0 or 14; 1 found or 0; the member row, and the display line.
     display_line = clumarief_display_line(owner, name, descriptor; line) -> 4
 }
+
+unsafe extern "C" {
+    fn clumarief_probe_method_row(
+        classes: *const [u32; 4],
+        class_rows: usize,
+        members: *const [u32; 15],
+        member_rows: usize,
+        pool: Bytes,
+        pool_length: usize,
+        used: &[u32; 3],
+        owner: Bytes,
+        owner_length: usize,
+        name: Bytes,
+        name_length: usize,
+        descriptor: Bytes,
+        descriptor_length: usize,
+    ) -> u64;
+}
+
+/// The row of a method by an index of all members, which is made for the call: its number and 2; 1 where it is unknown; 0
+/// where the tables are malformed.
+pub fn method_row(tables: &Tables<'_>, owner: &[u8], name: &[u8], descriptor: &[u8]) -> u64 {
+    unsafe {
+        clumarief_probe_method_row(
+            tables.classes.as_ptr(),
+            tables.classes.len(),
+            tables.members.as_ptr(),
+            tables.members.len(),
+            tables.pool.as_ptr(),
+            tables.pool.len(),
+            &tables.used,
+            owner.as_ptr(),
+            owner.len(),
+            name.as_ptr(),
+            name.len(),
+            descriptor.as_ptr(),
+            descriptor.len(),
+        )
+    }
+}
