@@ -41,6 +41,16 @@ fn overlapping_wide(length: usize) -> TreeFile {
     halves(length, "\u{1F600}".as_bytes(), |bytes| [4, bytes - 8])
 }
 
+/// Few name bytes, of characters of all lengths, and name rows that all start and end inside of a group.
+fn rows_alone(length: usize) -> TreeFile {
+    let bytes = "a\u{E9}\u{4E2D}\u{1F600}".repeat(25).into_bytes();
+    TreeFile {
+        nodes: vec![root()],
+        names: vec![[10, bytes.len() as u32 - 20]; (length - HEAD - bytes.len()) / 8],
+        bytes,
+    }
+}
+
 /// The first name byte is bad, and no name has it.
 fn bad_in_front(length: usize) -> TreeFile {
     let mut tree = halves(length, b"a", |bytes| [1, bytes - 1]);
@@ -83,10 +93,11 @@ fn all_tokens(length: usize) -> TreeFile {
 
 type Maker = fn(usize) -> TreeFile;
 
-const MADE: [(&str, Maker); 8] = [
+const MADE: [(&str, Maker); 9] = [
     ("names overlapping", overlapping),
     ("overlapping within", overlapping_within),
     ("overlapping, four bytes", overlapping_wide),
+    ("name rows", rows_alone),
     ("a bad byte in front", bad_in_front),
     ("bad bytes alone", all_bad),
     ("four-byte characters", wide),

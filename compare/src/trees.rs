@@ -77,9 +77,13 @@ struct Trees {
     signatures: Comparison<Tokens, [u64; 5]>,
 }
 
-/// Numbers that a number of a file may be in place of itself.
-fn others(random: &mut Random, number: u32) -> [u32; 8] {
+/// Numbers that a number of a file may be in place of itself. Rows of eight or twelve bytes lose the bits 29 to 31 of a count
+/// where their length is taken in 32 bits.
+fn others(random: &mut Random, number: u32) -> [u32; 11] {
     [
+        number ^ 1 << 29,
+        number ^ 1 << 30,
+        number ^ 1 << 31,
         0,
         number.wrapping_add(1),
         number.wrapping_sub(1),
@@ -111,6 +115,16 @@ impl Trees {
             }
         }
         Ok(())
+    }
+
+    /// Half of 2^32 more in the token counts of two nodes, so that their sum is the same in 32 bits.
+    fn counts_beyond(&mut self, tree: &TreeFile) -> Held {
+        let mut file = tree.written();
+        for row in 0..2.min(tree.nodes.len()) {
+            // the highest byte of the second number of a node row
+            file[16 + 8 * row + 7] ^= 0x80;
+        }
+        self.file(file)
     }
 
     /// Every name byte as another.
@@ -164,6 +178,7 @@ fn small(settings: &Settings, held: &mut Trees) -> Held {
         let file = tree.written();
         held.every_node(&mut random, &tree)?;
         held.file(file.clone())?;
+        held.counts_beyond(&tree)?;
         if turn % 20 == 0 {
             held.every_number(&mut random, &file, tree.bytes.len())?;
             held.every_name_byte(&mut random, &file, tree.bytes.len())?;
