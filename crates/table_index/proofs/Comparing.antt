@@ -141,7 +141,8 @@ module _ {a b : List ℕ} {i : ℕ} (k : Weighing a b i) where
       }
 
 -- texts that are alike up to a place
-pub weighing-past : (a b : List ℕ) (i : ℕ) → i ≤ length a → i ≤ length b → ((j : ℕ) → j < i → getD a j 0 ≡ getD b j 0) → Weighing a b i
+pub weighing-past : (a b : List ℕ) (i : ℕ) → i ≤ length a → i ≤ length b →
+    ((j : ℕ) → j < i → getD a j 0 ≡ getD b j 0) → Weighing a b i
 weighing-past a b zero h k e = weighing-starts a b
 weighing-past a b (suc i) h k e =
     let here : getD a i 0 ≡ getD b i 0 = e i (omega arith) in
