@@ -53,7 +53,8 @@ loop-again c =
     let long = c .before .before .before .before .before .before .before .before .if1 .left in
     let even = c .before .before .before .before .before .before .before .if2 .left in
     let byte = c .before .stored-byte .ensures in
-    alike-more _ _ _ long even (c .before .before .before .before .before .loop .inv) (c .before .before .before .before .loop-test .taken) byte (c .if3 .left)
+    let alike = c .before .before .before .before .before .loop .inv in
+    alike-more _ _ _ long even alike (c .before .before .before .before .loop-test .taken) byte (c .if3 .left)
 
 shared-slice-read-if4 : tie.Need-shared-slice-read-if4 Inv-loop μ-loop
 shared-slice-read-if4 c = search sameness
