@@ -1,13 +1,12 @@
 -- The order of texts. Assumes nothing.
 use mathlib.Core.Path.{_≡_, refl, sym, _∙_, ap}
-use mathlib.Core.Bool.{Bool, true, false}
+use mathlib.Core.Bool.{true, false}
 use mathlib.Core.List.{List, [], _∷_}
 use mathlib.Core.Logic.{_⊎_, inl, inr}
-use Prim.Native.Nat.{ℕ, zero, suc, _+_, _-_, _≤_, _<_}
+use Prim.Native.Nat.{ℕ, zero, suc, _+_, _≤_, _<_}
 use native.Mathlib.Nat.{zero-add}
 use native.Mathlib.Numerals.{add-one}
 use native.Mathlib.Omega.{arith}
-use lib.Dec.{ltb}
 use lib.ListN.{length, getD, drop, drop-of-length-le}
 use lib.Seq.{drop-cons}
 use borrow.Author.Tests.{lt-ltb, le-ltb}
@@ -141,7 +140,8 @@ module _ {a b : List ℕ} {i : ℕ} (k : Weighing a b i) where
       }
 
 -- texts that are alike up to a place
-pub weighing-past : (a b : List ℕ) (i : ℕ) → i ≤ length a → i ≤ length b → ((j : ℕ) → j < i → getD a j 0 ≡ getD b j 0) → Weighing a b i
+pub weighing-past : (a b : List ℕ) (i : ℕ) → i ≤ length a → i ≤ length b →
+    ((j : ℕ) → j < i → getD a j 0 ≡ getD b j 0) → Weighing a b i
 weighing-past a b zero h k e = weighing-starts a b
 weighing-past a b (suc i) h k e =
     let here : getD a i 0 ≡ getD b i 0 = e i (omega arith) in

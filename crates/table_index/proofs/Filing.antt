@@ -2,8 +2,7 @@
 use mathlib.Core.Path.{_≡_, refl, sym, _∙_, ap}
 use mathlib.Core.Bool.{Bool, true, false}
 use mathlib.Core.List.{List, []}
-use mathlib.Core.Logic.{_⊎_, inl, inr}
-use Prim.Native.Nat.{ℕ, suc, _+_, _-_, _≤_, _<_}
+use Prim.Native.Nat.{ℕ, _+_, _≤_, _<_}
 use native.Mathlib.Numerals.{add-one}
 use native.Mathlib.Omega.{arith}
 use lib.Dec.{eqb}
@@ -22,7 +21,6 @@ use Rattle.table_index.specs.inner.Index.{IndexBy}
 use Rattle.table_index.proofs.Comparing.{Way, less, even, more, way}
 use Rattle.table_index.proofs.Heads.{head-inside, count-here, count-other, count-rises, count-room, shelf-inside, shelf-before}
 use Rattle.table_index.proofs.Shelving.{shelf-same, shelf-other, shelf-more, ranked-wider}
-use Rattle.table_index.proofs.Grouping.{grouped-none, zeros-length}
 use Rattle.table_index.proofs.Laying.{grouped-size, grouped-rows, laid-shelved}
 
 module _ {n : ℕ} {keys : List (List ℕ)} {ms index : List ℕ} {k : ℕ} (x : Shelved n keys ms index k) (h : k < n) where

@@ -2,7 +2,7 @@
 use mathlib.Core.Path.{_≡_, refl, sym, _∙_, ap}
 use mathlib.Core.List.{List}
 use mathlib.Core.Logic.{_⊎_, inl, inr}
-use Prim.Native.Nat.{ℕ, zero, suc, _+_, _-_, _≤_, _<_}
+use Prim.Native.Nat.{ℕ, zero, suc, _+_, _≤_, _<_}
 use native.Mathlib.Numerals.{add-one}
 use native.Mathlib.Omega.{arith}
 use lib.ListN.{length, getD, set, length-set}
@@ -13,7 +13,7 @@ use borrow.Author.Needs.{needs}
 use Rattle.ground.proofs.Cases.{le-or-lt}
 use Rattle.table_rows.specs.Rows.{mostClasses}
 use Rattle.table_index.specs.inner.Heads.{countWith, countBelow}
-use Rattle.table_index.specs.inner.Shelves.{Ranked, Shelf}
+use Rattle.table_index.specs.inner.Shelves.{Shelf}
 use Rattle.table_index.specs.inner.Index.{headsAt, startsAt, endsAt, marksAt, indexSize, placed, rowsBefore, Grouped, Laid, Shelved}
 use Rattle.table_index.proofs.Heads.{count-zero, below-zero, below-next, below-inside}
 use Rattle.table_index.proofs.Grouping.{ends-inside}

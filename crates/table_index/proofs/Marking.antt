@@ -2,19 +2,19 @@
 use mathlib.Core.Path.{_≡_, refl, sym, _∙_, ap}
 use mathlib.Core.Bool.{Bool, true, false}
 use mathlib.Core.List.{List, [], _∷_, _++_}
-use Prim.Native.Nat.{ℕ, suc, _+_, _*_, _/_, _%_, _-_, _≤_, _<_}
+use Prim.Native.Nat.{ℕ, _+_, _*_, _/_, _%_, _-_, _≤_, _<_}
 use native.Mathlib.Numerals.{add-one}
 use native.Mathlib.Nat.{mod-lt, mod-add-div', add-mul-mod-self-right}
 use native.Mathlib.Omega.{arith}
 use lib.Dec.{eqb}
-use lib.ListN.{length, getD, drop, drop-of-length-le, List·getD-map}
+use lib.ListN.{length, getD, drop-of-length-le, List·getD-map}
 use lib.Seq.{drop-cons}
 use mir.Val.{Fits}
 use mir.Syntax.{w64}
 use borrow.Author.Needs.{needs}
 use Rattle.ground.specs.Choice.{pick}
 use Rattle.table_pool.specs.Names.{slash}
-use Rattle.table_pool.specs.inner.Named.{slashIf, nameBytes, classPiece}
+use Rattle.table_pool.specs.inner.Named.{slashIf, nameBytes}
 use Rattle.table_index.specs.declared.forms.NameForm.{NameForm}
 use Rattle.table_index.specs.declared.forms.NameForm.the-variants.{Whole, Piece}
 use Rattle.table_index.specs.inner.Forms.{spelled}

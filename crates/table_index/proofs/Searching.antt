@@ -155,7 +155,8 @@ pub record Trying (keys : List (List ℕ)) (order : List ℕ) (a b : ℕ) (t : L
   pub before : p ≤ b
   pub none : (i : ℕ) → p ≤ i → i < b → keyAt keys order i ≡ t → ⊥
 
-pub trying-starts : (t : List ℕ) {keys : List (List ℕ)} {order : List ℕ} {n a b : ℕ} → Ranked keys order n a b → Trying keys order a b t b
+pub trying-starts : (t : List ℕ) {keys : List (List ℕ)} {order : List ℕ} {n a b : ℕ} → Ranked keys order n a b →
+    Trying keys order a b t b
 trying-starts t r = record { after = r .goes; before = omega arith; none = λ i h l f. omega arith }
 
 module _ {keys : List (List ℕ)} {order : List ℕ} {a b : ℕ} {t : List ℕ} {p : ℕ} (x : Trying keys order a b t p) where

@@ -30,7 +30,8 @@ pub record Passing (text : List ℕ) (at : ℕ) (name : List ℕ) («from» : �
   pub few : i ≤ 16
   pub alike : differs ≡ false → (k : ℕ) → k < i → getD text (at + k) 0 ≡ slashIf dots (getD name («from» + k) 0)
 
-pub passing-none : (text : List ℕ) (at : ℕ) (name : List ℕ) («from» : ℕ) (dots : Bool) → Passing text at name «from» dots false 0
+pub passing-none : (text : List ℕ) (at : ℕ) (name : List ℕ) («from» : ℕ) (dots : Bool) →
+    Passing text at name «from» dots false 0
 passing-none text at name f dots = record { few = omega arith; alike = λ e k h. absurd (omega arith) }
 
 module _ {text : List ℕ} {at : ℕ} {name : List ℕ} {«from» : ℕ} {dots differs : Bool} {i : ℕ}
@@ -42,18 +43,21 @@ module _ {text : List ℕ} {at : ℕ} {name : List ℕ} {«from» : ℕ} {dots d
     alike = λ o k l. go (eqb (getD text (at + i) 0) x) refl (sym e ∙ o) k l (le-or-lt i k);
   }
     where
-      go : (t : Bool) → eqb (getD text (at + i) 0) x ≡ t → pick t differs true ≡ false → (k : ℕ) → k < i + 1 → (i ≤ k) ⊎ (k < i) →
+      go : (t : Bool) → eqb (getD text (at + i) 0) x ≡ t → pick t differs true ≡ false → (k : ℕ) → k < i + 1 →
+          (i ≤ k) ⊎ (k < i) →
           getD text (at + k) 0 ≡ slashIf dots (getD name («from» + k) 0)
       go false q o k l w = clash refl o
       go true q o k l (inl g) = let j : k ≡ i = omega arith in rw j (eqb-true (getD text (at + i) 0) x q ∙ f)
       go true q o k l (inr g) = p .alike o k g
 
-  pub passing-all : 16 ≤ i → differs ≡ false → (k : ℕ) → k < 16 → getD text (at + k) 0 ≡ slashIf dots (getD name («from» + k) 0)
+  pub passing-all : 16 ≤ i → differs ≡ false → (k : ℕ) → k < 16 →
+      getD text (at + k) 0 ≡ slashIf dots (getD name («from» + k) 0)
   passing-all h o k l = p .alike o k (omega arith)
 
 pub ruleset passing = (passing-none, passing-more, passing-all, needs)
 
-pub skipped-none : (text : List ℕ) {shift : ℕ} (name : List ℕ) (dots : Bool) → shift ≤ length text → AlikeTo text shift name dots 0
+pub skipped-none : (text : List ℕ) {shift : ℕ} (name : List ℕ) (dots : Bool) → shift ≤ length text →
+    AlikeTo text shift name dots 0
 skipped-none text name dots h = record { in-text = omega arith; in-name = omega arith; each = λ j l. absurd (omega arith) }
 
 module _ {text : List ℕ} {shift : ℕ} {name : List ℕ} {dots : Bool} {k : ℕ} (x : AlikeTo text shift name dots k) where

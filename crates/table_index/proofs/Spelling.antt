@@ -1,7 +1,7 @@
 -- A text against what a name stands for. Assumes nothing.
 use mathlib.Core.Path.{_≡_, refl, sym, _∙_, ap}
 use mathlib.Core.Bool.{Bool, true, false}
-use mathlib.Core.List.{List, [], _∷_, _++_}
+use mathlib.Core.List.{List, [], _∷_}
 use mathlib.Core.Logic.{_⊎_, inl, inr}
 use Prim.Native.Nat.{ℕ, zero, suc, _+_, _-_, _^_, _≤_, _<_}
 use native.Mathlib.Omega.{arith}
@@ -150,11 +150,6 @@ differs-at s t i n = go (same s t) refl
     go true e = absurd (n (ap (λ l. getD l i 0) (same-equal s t e)))
     go false e = refl
 
--- The bytes of the name from the number `k` on stand in the text.
-pub record Alike (text name : List ℕ) (dots : Bool) (k : ℕ) : Type 0 where
-  pub inside : k ≤ length name
-  pub alike : (j : ℕ) → k ≤ j → j < length name → getD text (suc j) 0 ≡ slashIf dots (getD name j 0)
-
 module _ (text name : List ℕ) (dots : Bool) where
   pub is-short : length text < 2 → false ≡ same text (classPiece dots name)
   is-short h = matching-uneven text (classPiece dots name) (λ e. let b = piece-length dots name in omega arith)
@@ -164,9 +159,6 @@ module _ (text name : List ℕ) (dots : Bool) where
     is-uneven n = matching-uneven text (classPiece dots name) (λ e. n (let b = piece-length dots name in omega arith))
 
     module _ (e : length text - 2 ≡ length name) where
-      pub alike-starts : Alike text name dots (length name)
-      alike-starts = record { inside = omega arith; alike = λ j a b. absurd (omega arith) }
-
       pub last-fits : length text < 2 ^ 64 → Fits w64 (length name + 1)
       last-fits b = omega arith
 
@@ -179,37 +171,29 @@ module _ (text name : List ℕ) (dots : Bool) where
       pub last-inside : length name + 1 < length text
       last-inside = omega arith
 
-      module _ {k : ℕ} (a : Alike text name dots k) where
-        pub alike-inside : {past : ℕ} → past < k → k < length text
-        alike-inside h = let b = a .inside in omega arith
+      module _ {k : ℕ} (a : AlikeTo text 1 name dots k) where
+        pub alike-place : k < length name → 1 + k < length text
+        alike-place h = omega arith
 
-        pub alike-name : {past : ℕ} → past < k → k - 1 < length name
-        alike-name h = let b = a .inside in omega arith
+        pub alike-place-fits : k < length name → length text < 2 ^ 64 → Fits w64 (1 + k)
+        alike-place-fits h b = omega arith
 
-        module _ {past : ℕ} (h : past < k) {x : ℕ} (f : x ≡ slashIf dots (getD name (k - 1) 0)) where
-          pub alike-differs : (getD text k 0 ≡ x → ⊥) → false ≡ same text (classPiece dots name)
+        module _ (h : k < length name) {x : ℕ} (f : x ≡ slashIf dots (getD name k 0)) where
+          pub alike-differs : (getD text (1 + k) 0 ≡ x → ⊥) → false ≡ same text (classPiece dots name)
           alike-differs n =
-              let b = a .inside in
-              let up : suc (k - 1) ≡ k = omega arith in
-              let here : getD (classPiece dots name) k 0 ≡ x =
-              ap (λ j. getD (classPiece dots name) j 0) (sym up) ∙ inner-byte dots name (k - 1) (omega arith) ∙ sym f in
-              differs-at text (classPiece dots name) k (λ g. n (g ∙ here))
+              let up : 1 + k ≡ suc k = omega arith in
+              let here : getD (classPiece dots name) (1 + k) 0 ≡ x =
+              ap (λ j. getD (classPiece dots name) j 0) up ∙ inner-byte dots name k h ∙ sym f in
+              differs-at text (classPiece dots name) (1 + k) (λ g. n (g ∙ here))
 
-          pub alike-more : getD text k 0 ≡ x → Alike text name dots (k - 1)
-          alike-more g = record {
-            inside = let b = a .inside in omega arith;
-            alike = λ j l m. go j m (le-or-lt k j) l;
-          }
+          pub alike-more : getD text (1 + k) 0 ≡ x → AlikeTo text 1 name dots (k + 1)
+          alike-more g = record { in-text = omega arith; in-name = omega arith; each = λ j l. go j l (le-or-lt k j) }
             where
-              go : (j : ℕ) → j < length name → (k ≤ j) ⊎ (j < k) → k - 1 ≤ j →
-                  getD text (suc j) 0 ≡ slashIf dots (getD name j 0)
-              go j m (inl l) q = a .alike j l m
-              go j m (inr l) q =
-                  let z : k - 1 ≡ j = omega arith in
-                  let up : suc j ≡ k = omega arith in
-                  ap (λ i. getD text i 0) up ∙ g ∙ f ∙ ap (λ i. slashIf dots (getD name i 0)) z
+              go : (j : ℕ) → j < k + 1 → (k ≤ j) ⊎ (j < k) → getD text (1 + j) 0 ≡ slashIf dots (getD name j 0)
+              go j l (inl q) = let z : j ≡ k = omega arith in rw z (g ∙ f)
+              go j l (inr q) = a .each j q
 
-        module _ {past : ℕ} (skipped : AlikeTo text 1 name dots past) (z : k ≤ past) where
+        module _ (z : length name ≤ k) where
           pub other-letter : (getD text 0 0 ≡ 0x4C → ⊥) → false ≡ same text (classPiece dots name)
           other-letter n = differs-at text (classPiece dots name) 0 n
 
@@ -230,13 +214,9 @@ module _ (text name : List ℕ) (dots : Bool) where
                   go (inl m) =
                       let here : suc j ≡ length name + 1 = omega arith in
                       ap (λ i. getD text i 0) here ∙ l ∙ sym (ap (λ i. getD (classPiece dots name) i 0) here ∙ last-is)
-                  go (inr m) = by-name (le-or-lt past j) ∙ sym (inner-byte dots name j m)
-                    where
-                      by-name : (past ≤ j) ⊎ (j < past) → getD text (suc j) 0 ≡ slashIf dots (getD name j 0)
-                      by-name (inl q) = a .alike j (omega arith) m
-                      by-name (inr q) =
-                          let up : suc j ≡ 1 + j = omega arith in
-                          ap (λ i. getD text i 0) up ∙ skipped .each j q
+                  go (inr m) =
+                      let up : suc j ≡ 1 + j = omega arith in
+                      ap (λ i. getD text i 0) up ∙ a .each j (omega arith) ∙ sym (inner-byte dots name j m)
 
               equal : text ≡ classPiece dots name
               equal =
@@ -246,13 +226,12 @@ module _ (text name : List ℕ) (dots : Bool) where
 pub ruleset sameness = (
   is-short,
   is-uneven,
-  alike-starts,
   last-fits,
   one-inside,
   first-inside,
   last-inside,
-  alike-inside,
-  alike-name,
+  alike-place,
+  alike-place-fits,
   alike-differs,
   alike-more,
   other-letter,

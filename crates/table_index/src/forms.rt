@@ -91,7 +91,7 @@ pub fn compare_named(text: &[u8], name: &[u8], form: NameForm) -> Order
     }
 }
 
-// Whether a text is the piece `L`, name, `;`: what whole blocks leave open is asked from the end backwards.
+// Whether a text is the piece `L`, name, `;`. Lengths are compared first, and blocks before bytes.
 fn is_piece(text: &[u8], name: &[u8], dots: bool) -> bool
     ensures { λ r. ⌜ r ≡ same (now (text .entry)) (classPiece dots (now (name .entry))) ⌝ }
 {
@@ -101,14 +101,12 @@ fn is_piece(text: &[u8], name: &[u8], dots: bool) -> bool
     if text.len() - 2 != name.len() {
         return false;
     }
-    let past = alike_up_to(text, 1, name, dots);
-    let mut k = name.len();
-    while past < k {
-        let before = k - 1;
-        if text[k] != stored_byte(name[before], dots) {
+    let mut k = alike_up_to(text, 1, name, dots);
+    while k < name.len() {
+        if text[1 + k] != stored_byte(name[k], dots) {
             return false;
         }
-        k = before;
+        k += 1;
     }
     if text[0] != b'L' {
         return false;

@@ -1,6 +1,6 @@
 -- One class written: its descriptors and its row.
 use mathlib.Core.Path.{_≡_}
-use mathlib.Core.List.{List, _++_}
+use mathlib.Core.List.{List}
 use Prim.Native.Nat.{ℕ, _+_, _<_}
 use lib.ListN.{length, set}
 use Rattle.table_pool.specs.declared.write.Wrote.{Wrote}
@@ -8,7 +8,6 @@ use Rattle.table_pool.specs.declared.write.Wrote.the-variants as wrote
 use Rattle.table_rows.specs.Classes.{Pair}
 use Rattle.table_pool.specs.inner.Wrote.{Written}
 use Rattle.load_rule.specs.Classes.{classText, classRow}
-use Rattle.table_pool.specs.declared.write.TwoTexts.the-variants.{NoRoom}
 
 -- The class `k` is the row `count` of the rows `c`, and its descriptors stand in the pool `p` from the place `at` to the place `q`. With
 -- `₁`: after that.

@@ -1,6 +1,6 @@
 -- Rows of one mark. The first of them is their head, and stands for all of them.
 use mathlib.Core.List.{List}
-use Prim.Native.Nat.{ℕ, zero, suc, _+_, _-_}
+use Prim.Native.Nat.{ℕ, zero, suc, _-_}
 use lib.Dec.{eqb, ltb}
 use lib.ListN.{getD}
 use Rattle.ground.specs.Choice.{pick}

@@ -1,13 +1,16 @@
 -- `table_index::forms::is_piece` meets its contract, by the laws of Spelling.
-use Rattle.table_index.proofs.Spelling.{sameness, Alike, alike-more}
+use Rattle.table_index.proofs.Spelling.{sameness, alike-more}
+use Prim.Native.Nat.{_-_}
+use lib.ListN.{length}
+use Rattle.table_index.specs.inner.Order.{AlikeTo}
 use Rattle.table_index.proofs.forms.is_piece.Statement.{statement}
 use Rattle.table_index.proofs.forms.is_piece.Tie as tie
 
 abbrev Inv-loop : tie.InvT-loop
-Inv-loop text name dots past k₀ k = Alike text name dots k
+Inv-loop text name dots k₀ k = AlikeTo text 1 name dots k
 
 abbrev μ-loop : tie.MeasureT-loop
-μ-loop text name dots past k₀ k = k
+μ-loop text name dots k₀ k = length name - k
 
 returns : tie.Need-returns Inv-loop μ-loop
 returns c = search sameness
@@ -24,8 +27,8 @@ alike-up-to-requires c κs = search sameness
 loop-holds : tie.Need-loop-holds Inv-loop μ-loop
 loop-holds c = search sameness
 
-sub-before : tie.Need-sub-before Inv-loop μ-loop
-sub-before c = search sameness
+add-if3 : tie.Need-add-if3 Inv-loop μ-loop
+add-if3 c = search sameness
 
 shared-slice-read-if3 : tie.Need-shared-slice-read-if3 Inv-loop μ-loop
 shared-slice-read-if3 c = search sameness
@@ -39,6 +42,9 @@ stored-byte-requires c κs = search sameness
 returns-3 : tie.Need-returns-3 Inv-loop μ-loop
 returns-3 c = search sameness
 
+add-k : tie.Need-add-k Inv-loop μ-loop
+add-k c = search sameness
+
 loop-less : tie.Need-loop-less Inv-loop μ-loop
 loop-less c = search sameness
 
@@ -46,7 +52,9 @@ loop-again : tie.Need-loop-again Inv-loop μ-loop
 loop-again c =
     let long = c .before .before .before .before .before .before .before .before .if1 .left in
     let even = c .before .before .before .before .before .before .before .if2 .left in
-    alike-more _ _ _ long even (c .before .before .before .before .before .loop .inv) (c .before .before .before .before .loop-test .taken) (c .before .stored-byte .ensures) (c .if3 .left)
+    let byte = c .before .stored-byte .ensures in
+    let alike = c .before .before .before .before .before .loop .inv in
+    alike-more _ _ _ long even alike (c .before .before .before .before .loop-test .taken) byte (c .if3 .left)
 
 shared-slice-read-if4 : tie.Need-shared-slice-read-if4 Inv-loop μ-loop
 shared-slice-read-if4 c = search sameness
@@ -77,11 +85,12 @@ is-piece-spec =
     returns-2
     alike-up-to-requires
     loop-holds
-    sub-before
+    add-if3
     shared-slice-read-if3
     shared-slice-read-stored-byte
     stored-byte-requires
     returns-3
+    add-k
     loop-less
     loop-again
     shared-slice-read-if4

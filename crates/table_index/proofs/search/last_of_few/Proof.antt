@@ -7,7 +7,8 @@ use Rattle.table_index.proofs.search.last_of_few.Statement.{statement}
 use Rattle.table_index.proofs.search.last_of_few.Tie as tie
 
 abbrev Inv-loop : tie.InvT-loop
-Inv-loop index side classes pool start end name form after₀ after = Trying (keysOf side classes pool) index start «end» (spelled form name) after
+Inv-loop index side classes pool start end name form after₀ after =
+    Trying (keysOf side classes pool) index start «end» (spelled form name) after
 
 abbrev μ-loop : tie.MeasureT-loop
 μ-loop index side classes pool start end name form after₀ after = after - start
