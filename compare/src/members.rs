@@ -144,7 +144,7 @@ type Found = (Option<Vec<u8>>, Option<Vec<u8>>, Option<u32>);
 #[cfg(original)]
 fn proved_found(looked: &Looked) -> Option<Found> {
     let loaded = lookup_tables::loaded(&looked.text)?;
-    let (field, method, line) = proved_answers(&loaded, &looked.key);
+    let (field, method, line, _) = proved_answers(&loaded, &looked.key);
     let name = |answer: [u32; 5]| {
         let [_, found, _, place, length] = answer;
         (found == 1).then(|| loaded.text(place, length).to_vec())
