@@ -1,0 +1,4 @@
+-- Applying: the written rules, from document 01 "Tree file (added)", second half.
+pub mod Changes
+pub mod Applying
+pub mod Examples
