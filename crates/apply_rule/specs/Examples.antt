@@ -72,12 +72,12 @@ tree ns = record { nodes = ns; names = names; bytes = bytes }
 abbrev small : Tree
 small =
     tree (
-      node noParent (typeToken 2 ∷ lineToken 1 ∷ []) ∷
-      node (parentRow 0) (Other 1 2 ∷ nameToken 0 ∷ typeToken 1 ∷ lineToken 1 ∷ []) ∷
-      node (parentRow 1) (lineToken 3 ∷ lineToken 4 ∷ []) ∷
-      node (parentRow 1) (typeToken 2 ∷ nameToken 5 ∷ typeToken 6 ∷ lineToken 1 ∷ []) ∷
-      node (parentRow 1) (typeToken 7 ∷ nameToken 0 ∷ typeToken 1 ∷ lineToken 2 ∷ []) ∷
-      node (parentRow 0) (typeToken 2 ∷ nameToken 3 ∷ typeToken 4 ∷ nameToken 3 ∷ lineToken 1 ∷ []) ∷ [])
+    node noParent (typeToken 2 ∷ lineToken 1 ∷ []) ∷
+    node (parentRow 0) (Other 1 2 ∷ nameToken 0 ∷ typeToken 1 ∷ lineToken 1 ∷ []) ∷
+    node (parentRow 1) (lineToken 3 ∷ lineToken 4 ∷ []) ∷
+    node (parentRow 1) (typeToken 2 ∷ nameToken 5 ∷ typeToken 6 ∷ lineToken 1 ∷ []) ∷
+    node (parentRow 1) (typeToken 7 ∷ nameToken 0 ∷ typeToken 1 ∷ lineToken 2 ∷ []) ∷
+    node (parentRow 0) (typeToken 2 ∷ nameToken 3 ∷ typeToken 4 ∷ nameToken 3 ∷ lineToken 1 ∷ []) ∷ [])
 
 shown-small :
     meaningOf (appliedTree mapped (ascii "Lx;") small) ≡
