@@ -1,5 +1,5 @@
--- Document 01 "Tree file (added)": "Output: same rows; for each replaced name, in token order, one name row and body appended, even if equal,
--- its number put in b; a replaced line goes into b. An accepted apply returns the output's length."
+-- Document 01 "Tree file (added)": "Output: same rows; for each replaced name, in token order, one name row and body appended, even if
+-- equal, its number put in b; a replaced line goes into b. An accepted apply returns the output's length."
 use mathlib.Core.Bool.{Bool}
 use mathlib.Core.List.{List, [], _∷_, _++_}
 use Prim.Native.Nat.{ℕ, zero, suc, _+_, _-_}

@@ -8,3 +8,4 @@ pub mod WrittenRead
 pub mod Writing
 pub mod Sound
 pub mod PutWords
+pub mod Present

@@ -5,3 +5,4 @@ mod token;
 
 pub use signature::node_signature;
 pub use token::names_method;
+pub use token::starts_as;

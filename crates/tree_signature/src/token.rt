@@ -13,7 +13,7 @@ ghost use Rattle.tree_rule.specs.Theorems.{FormedBy};
 ghost use Rattle.tree_signature.specs.inner.Tokens.{startsAs, describedAs};
 
 // Whether a text starts `(` or does not, as `opening` asks.
-fn starts_as(text: &[u8], opening: bool) -> bool
+pub fn starts_as(text: &[u8], opening: bool) -> bool
     ensures { λ r. ⌜ r ≡ startsAs opening (now (text .entry)) ⌝ }
 {
     if text.len() < 1 {

@@ -1,0 +1,38 @@
+// The display line of a source line, by the number of its line context.
+use name_index::line_by_row;
+use name_lines::LineName;
+use name_lines::RawLine;
+use table_rows::ClassRow;
+use table_rows::MemberRow;
+ghost use mathlib.Core.Path.{_≡_};
+ghost use lib.ListN.{length};
+ghost use Rattle.name_lines.specs.LineNames.{rawLine};
+ghost use Rattle.name_index.specs.inner.Chains.{Chained};
+ghost use Rattle.apply_members.specs.inner.Notes.{MeantBy, lineBy, lineNumber};
+
+// What a source line shows: its display line, or what it showed before where it has none.
+pub fn noted_line(
+    chains: &[u16],
+    classes: &[ClassRow],
+    members: &[MemberRow],
+    pool: &[u8],
+    home: usize,
+    context: u32,
+    raw: u32,
+    display: u32,
+) -> u32
+    requires { ⌜ Chained (now classes) (now pool) (now members) (now chains) (length (now members))
+        × MeantBy (now classes) (now members) (now pool) home context ⌝ }
+    ensures { λ r.
+        let line = lineBy (now (classes .entry)) (now (members .entry)) (now (pool .entry)) home context (rawLine raw) in
+        ⌜ r ≡ lineNumber display line ⌝ }
+{
+    if context == 0 {
+        return display;
+    }
+    let row = context as usize - 1;
+    match line_by_row(chains, classes, members, pool, home, row, RawLine(raw)) {
+        LineName::Line(shown) => shown.0,
+        LineName::Unknown => display,
+    }
+}
