@@ -14,7 +14,7 @@ use Rattle.ground.proofs.Parts.{take-rest}
 use Rattle.text_places.specs.declared.find.Place.{Place}
 use Rattle.text_places.specs.declared.find.Place.the-variants.{At, Nowhere}
 use Rattle.text_places.specs.Places.{firstWhere, starts}
-use Rattle.text_places.proofs.PlaceLaws.{first-inside}
+use Rattle.text_places.proofs.PlaceLaws.{first-inside, seeking-starts, seeking-ends, seeking-found, byte-here}
 use Rattle.table_pool.specs.declared.write.Wrote.{Wrote}
 use Rattle.table_pool.specs.declared.write.Wrote.the-variants.{Done, NoRoom}
 use Rattle.ground.specs.Look.{Look, lookOr}
@@ -58,6 +58,16 @@ module _ (rows : List (List ℕ)) (pool p : List ℕ) (r : Found) (f : r ≡ las
   unknown-put e t at d w = wrote-as t pool at d (ap (lookOr p) (sym (display-unknown rows pool p (sym f ∙ e)))) w
 
 pub ruleset turning-one = (indexed-finds, found-inside, found-below, found-put, unknown-put, needs)
+
+-- A byte that may stand first.
+module _ (b : ℕ) (s : List ℕ) where
+  pub none-left : length s ≡ 0 → Nowhere ≡ firstWhere (starts b) s
+  none-left h = seeking-ends (seeking-starts (starts b) s) (omega arith)
+
+  pub stands-first : (length s ≡ 0 → ⊥) → getD s 0 0 ≡ b → At 0 ≡ firstWhere (starts b) s
+  stands-first n e = seeking-found (seeking-starts (starts b) s) (omega arith) (byte-here b s 0 (omega arith) e)
+
+pub ruleset standing = (none-left, stands-first, needs)
 
 rest-of : (text : List ℕ) (at n m : ℕ) → at + n ≡ m → drop n (drop at text) ≡ drop m text
 rest-of text at n m e = drop-drop n at text ∙ ap (λ k. drop k text) e

@@ -19,6 +19,7 @@ ghost use mathlib.Core.Path.{_≡_};
 ghost use Prim.Native.Nat.{_≤_};
 ghost use lib.ListN.{length};
 ghost use Rattle.ground.specs.Look.{lookOr};
+ghost use Rattle.text_places.specs.Places.{firstWhere, starts};
 ghost use Rattle.table_rows.specs.Classes.{back};
 ghost use Rattle.descriptor.specs.Pieces.{turn};
 ghost use Rattle.descriptor.specs.Types.{baseOf, baseBytes};
@@ -62,6 +63,19 @@ fn put_raw_piece(
     }
 }
 
+// The first place of a byte. Pieces often follow each other at once: that is seen here, and no search is called.
+fn first_place(s: &[u8], b: u8) -> Place
+    ensures { λ r. ⌜ r ≡ firstWhere (starts b) (now (s .entry)) ⌝ }
+{
+    if s.len() == 0 {
+        return Place::Nowhere;
+    }
+    if s[0] == b {
+        return Place::At(0);
+    }
+    first_byte(s, b)
+}
+
 // How far a text that stands between an `L` and a last `;` was written.
 pub enum Stretch {
     // It goes on: the places in the pool and in the text.
@@ -86,7 +100,7 @@ fn put_first(
         let cs = readBack (now (classes .entry)) (now (pool .entry)) in
         ⌜ InsideBy r (back cs) dots (now (text .entry)) start (now (pool .entry)) at (now (pool .exit)) ⌝ }
 {
-    let Place::At(gap) = first_byte(&text[start..], b';') else {
+    let Place::At(gap) = first_place(&text[start..], b';') else {
         let Wrote::Done(ended) = put_raw_piece(pool, at, &text[start..], dots, classes, index)
         else {
             return Stretch::NoRoom;
@@ -106,7 +120,7 @@ fn put_plain(pool: &mut [u8], at: usize, text: &[u8], start: usize, dots: bool) 
     requires { ⌜ start ≤ length (now text) ⌝ }
     ensures { λ r. ⌜ OutsideBy r dots (now (text .entry)) start (now (pool .entry)) at (now (pool .exit)) ⌝ }
 {
-    let Place::At(gap) = first_byte(&text[start..], b'L') else {
+    let Place::At(gap) = first_place(&text[start..], b'L') else {
         let Wrote::Done(ended) = put_closed(pool, at, &text[start..], dots) else {
             return Stretch::NoRoom;
         };

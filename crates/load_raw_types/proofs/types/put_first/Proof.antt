@@ -3,17 +3,17 @@ use Rattle.load_raw_types.proofs.Turned.{first-pieces}
 use Rattle.load_raw_types.proofs.types.put_first.Statement.{statement}
 use Rattle.load_raw_types.proofs.types.put_first.Tie as tie
 
-sub-first-byte : tie.Need-sub-first-byte
-sub-first-byte c = search first-pieces
+sub-first-place : tie.Need-sub-first-place
+sub-first-place c = search first-pieces
 
-part-first-byte-start : tie.Need-part-first-byte-start
-part-first-byte-start c = search first-pieces
+part-first-place-start : tie.Need-part-first-place-start
+part-first-place-start c = search first-pieces
 
-part-first-byte-end : tie.Need-part-first-byte-end
-part-first-byte-end c = search first-pieces
+part-first-place-end : tie.Need-part-first-place-end
+part-first-place-end c = search first-pieces
 
-first-byte-requires : tie.Need-first-byte-requires
-first-byte-requires c κs = search first-pieces
+first-place-requires : tie.Need-first-place-requires
+first-place-requires c κs = search first-pieces
 
 enum-known-gap : tie.Need-enum-known-gap
 enum-known-gap c = search first-pieces
@@ -91,10 +91,10 @@ pub put-first-spec : {M : Type 1} → statement M
 put-first-spec =
     tie.close
     (tie.spec
-    sub-first-byte
-    part-first-byte-start
-    part-first-byte-end
-    first-byte-requires
+    sub-first-place
+    part-first-place-start
+    part-first-place-end
+    first-place-requires
     enum-known-gap
     enum-told
     sub-put-raw-piece

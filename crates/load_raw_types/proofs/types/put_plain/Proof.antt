@@ -3,17 +3,17 @@ use Rattle.load_raw_types.proofs.Turned.{plains}
 use Rattle.load_raw_types.proofs.types.put_plain.Statement.{statement}
 use Rattle.load_raw_types.proofs.types.put_plain.Tie as tie
 
-sub-first-byte : tie.Need-sub-first-byte
-sub-first-byte c = search plains
+sub-first-place : tie.Need-sub-first-place
+sub-first-place c = search plains
 
-part-first-byte-start : tie.Need-part-first-byte-start
-part-first-byte-start c = search plains
+part-first-place-start : tie.Need-part-first-place-start
+part-first-place-start c = search plains
 
-part-first-byte-end : tie.Need-part-first-byte-end
-part-first-byte-end c = search plains
+part-first-place-end : tie.Need-part-first-place-end
+part-first-place-end c = search plains
 
-first-byte-requires : tie.Need-first-byte-requires
-first-byte-requires c κs = search plains
+first-place-requires : tie.Need-first-place-requires
+first-place-requires c κs = search plains
 
 enum-known-gap : tie.Need-enum-known-gap
 enum-known-gap c = search plains
@@ -91,10 +91,10 @@ pub put-plain-spec : {M : Type 1} → statement M
 put-plain-spec =
     tie.close
     (tie.spec
-    sub-first-byte
-    part-first-byte-start
-    part-first-byte-end
-    first-byte-requires
+    sub-first-place
+    part-first-place-start
+    part-first-place-end
+    first-place-requires
     enum-known-gap
     enum-told
     sub-put-closed
