@@ -3,5 +3,3 @@ pub mod Matching
 pub mod Asking
 pub mod Answers
 pub mod Told
-pub mod Linking
-pub mod Walking

@@ -71,6 +71,14 @@ field-sought Method d = refl
 field-sought Own d = refl
 field-sought (OwnLine n) d = refl
 
+both-false : (a : Bool) → both a false ≡ false
+both-false true = refl
+both-false false = refl
+
+both-true : (a : Bool) → both a true ≡ a
+both-true true = refl
+both-true false = refl
+
 module _ (pool display : List ℕ) (m : Member) (t : Sought) where
   pub sought-field : m .kind ≡ 0 → {b : Bool} → b ≡ isFieldSought t → b ≡ soughtBy t (known display) (kindBack pool m)
   sought-field e f = f ∙ field-sought t (known display) ∙ ap (soughtBy t (known display)) (sym (kind-field pool m e))
@@ -89,14 +97,22 @@ module _ (pool display : List ℕ) (m : Member) (t : Sought) where
       pub own-method : t ≡ Own → b ≡ soughtBy t (known display) (kindBack pool m)
       own-method e = sym (rw (e, kind-method pool m n, owned))
 
-      module _ {l : RawLine} (e : t ≡ OwnLine l) where
-        pub other-owner : not b ≡ true → false ≡ soughtBy t (known display) (kindBack pool m)
-        other-owner i = sym (rw (e, kind-method pool m n, owned ∙ not-true b i))
+    -- numbers are compared before texts
+    module _ {l : RawLine} (e : t ≡ OwnLine l) {r : Ranges} (q : r ≡ m .ranges) {h : Bool} (j : h ≡ holdsLine r l) where
+      held : soughtBy t (known display) (kindBack pool m) ≡ both (same display (textIn pool (m .owner))) h
+      held = rw (e, kind-method pool m n) (ap (both (same display (textIn pool (m .owner)))) (ap (λ x. holdsLine x l) (sym q) ∙ sym j))
 
-        pub own-line : not b ≡ false → {r : Ranges} → r ≡ m .ranges → {h : Bool} → h ≡ holdsLine r l → h ≡ soughtBy t (known display) (kindBack pool m)
-        own-line i q j = j ∙ ap (λ x. holdsLine x l) q ∙ sym (rw (e, kind-method pool m n, owned ∙ not-false b i))
+      pub other-line : not h ≡ true → false ≡ soughtBy t (known display) (kindBack pool m)
+      other-line i = sym (held ∙ ap (both (same display (textIn pool (m .owner)))) (not-true h i) ∙ both-false (same display (textIn pool (m .owner))))
 
-pub ruleset seeking-kind = (sought-field, no-field, any-method, own-method, other-owner, own-line, needs)
+      pub own-line : not h ≡ false → {s : List ℕ} → s ≡ textIn pool (m .owner) → {b : Bool} → b ≡ same display s →
+          b ≡ soughtBy t (known display) (kindBack pool m)
+      own-line i f {b} g =
+          let o : Bool = same display (textIn pool (m .owner)) in
+          let a : b ≡ o = g ∙ ap (same display) f in
+          a ∙ sym (held ∙ ap (both o) (not-false h i) ∙ both-true o)
+
+pub ruleset seeking-kind = (sought-field, no-field, any-method, own-method, other-line, own-line, needs)
 
 -- Both together.
 module _ (t : Sought) (d : Look) (cs : List Pair) (k : Key) (pool : List ℕ) (m : Member) {a : Bool} (e : a ≡ soughtBy t d (kindBack pool m)) where

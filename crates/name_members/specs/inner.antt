@@ -1,3 +1,2 @@
 -- Words of inner contracts: no rule cites them.
 pub mod Sought
-pub mod Chains

@@ -52,7 +52,7 @@ fn is_field_sought(sought: Sought) -> bool
 }
 
 // Whether a member is what is sought, in a class with the display descriptor `display`.
-fn is_sought(sought: Sought, pool: &[u8], member: Member, display: &[u8]) -> bool
+pub fn is_sought(sought: Sought, pool: &[u8], member: Member, display: &[u8]) -> bool
     ensures { λ r. ⌜ r ≡ soughtBy sought (known (now (display .entry))) (kindBack (now (pool .entry)) member) ⌝ }
 {
     if member.kind == 0 {
@@ -64,10 +64,11 @@ fn is_sought(sought: Sought, pool: &[u8], member: Member, display: &[u8]) -> boo
         Sought::Method => true,
         Sought::Own => same_bytes(display, text_in(pool, member.owner)),
         Sought::OwnLine(line) => {
-            if !same_bytes(display, text_in(pool, member.owner)) {
+            // numbers are compared before texts
+            if !holds_line(ranges, line) {
                 return false;
             }
-            holds_line(ranges, line)
+            same_bytes(display, text_in(pool, member.owner))
         }
     }
 }

@@ -23,7 +23,7 @@ use Rattle.name_rule.specs.MemberNames.{Key, key}
 use Rattle.name_members.specs.declared.rows.Asked.the-variants.{Method}
 use Rattle.name_members.specs.MemberAnswers.{rowAsked, answerOfRow, answering}
 use Rattle.name_members.proofs.Asking.{asked-none}
-use Rattle.name_members.proofs.Walking.{raw-has}
+use Rattle.name_index.proofs.LastRows.{raw-has}
 use Rattle.name_probes.specs.Answers.{countsBy, rowNumber, answerNumber}
 
 -- The class is there, and has the raw descriptor.

@@ -1,8 +1,8 @@
 // C functions over look-ups by an index, for differential runs and timings.
+use name_index::MEMBER_INDEX;
+use name_index::chained_row;
+use name_index::index_members;
 use name_members::Asked;
-use name_members::MEMBER_INDEX;
-use name_members::chained_row;
-use name_members::index_members;
 use table_rows::ClassRow;
 use table_rows::MemberRow;
 use tables::Found;

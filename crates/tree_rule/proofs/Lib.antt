@@ -7,3 +7,4 @@ pub mod ReadWritten
 pub mod WrittenRead
 pub mod Writing
 pub mod Sound
+pub mod PutWords

@@ -27,17 +27,17 @@ same-bytes-requires c κs = search seeking-kind
 enum-known-sought : tie.Need-enum-known-sought
 enum-known-sought c = search seeking-kind
 
+holds-line-requires : tie.Need-holds-line-requires
+holds-line-requires c κs = search seeking-kind
+
+returns-2 : tie.Need-returns-2
+returns-2 c = search seeking-kind
+
 text-in-requires-2 : tie.Need-text-in-requires-2
 text-in-requires-2 c κs = search seeking-kind
 
 same-bytes-requires-2 : tie.Need-same-bytes-requires-2
 same-bytes-requires-2 c κs = search seeking-kind
-
-returns-2 : tie.Need-returns-2
-returns-2 c = search seeking-kind
-
-holds-line-requires : tie.Need-holds-line-requires
-holds-line-requires c κs = search seeking-kind
 
 returns-3 : tie.Need-returns-3
 returns-3 c = search seeking-kind
@@ -63,10 +63,10 @@ is-sought-spec =
     text-in-requires
     same-bytes-requires
     enum-known-sought
+    holds-line-requires
+    returns-2
     text-in-requires-2
     same-bytes-requires-2
-    returns-2
-    holds-line-requires
     returns-3
     returns-4
     returns-5

@@ -1,0 +1,5 @@
+-- Laws of the index of members.
+pub mod LastRows
+pub mod Linking
+pub mod Walking
+pub mod Lining

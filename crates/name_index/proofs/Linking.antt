@@ -1,0 +1,196 @@
+-- The last row below a number with a mark, and the table that chains rows of one mark. Assumes nothing.
+use mathlib.Core.Path.{_≡_, refl, sym, _∙_, ap}
+use mathlib.Core.Bool.{Bool, true, false}
+use mathlib.Core.List.{List, [], _∷_}
+use mathlib.Core.Logic.{_⊎_, inl, inr}
+use Prim.Native.Nat.{ℕ, zero, suc, _+_, _-_, _≤_, _<_}
+use native.Mathlib.Numerals.{add-one}
+use native.Mathlib.Omega.{arith}
+use lib.Dec.{eqb}
+use lib.ListN.{length, getD, set, take, replicate, length-set, length-replicate}
+use lib.Seq.{getD-set-same, getD-set-other}
+use borrow.Author.Tests.{eqb-true, eqb-false}
+use borrow.Author.Needs.{needs}
+use Rattle.ground.specs.Choice.{pick}
+use Rattle.ground.proofs.Cases.{le-or-lt}
+use Rattle.table_rows.specs.declared.rows.Class.{Class}
+use Rattle.table_rows.specs.declared.rows.Member.{Member}
+use Rattle.table_rows.specs.Rows.{unpackClass, unpackMember, mostMembers}
+use Rattle.tables.specs.Back.{textIn}
+use Rattle.table_index.specs.inner.Marks.{markCount, markFrom}
+use Rattle.table_index.proofs.Marking.{mark-from-below}
+use Rattle.name_index.specs.inner.Chains.{lastBelow, chained, memberIndexSize, memberMark, rowMark, markAt, Chained}
+
+module _ (f : ℕ → ℕ) (h : ℕ) where
+  pub last-inside : (n : ℕ) → lastBelow f h n ≤ n
+  unfolding lastBelow
+  last-inside zero = omega arith
+  last-inside (suc n) = go (eqb (f n) h) (last-inside n)
+    where
+      go : (b : Bool) → lastBelow f h n ≤ n → pick b (suc n) (lastBelow f h n) ≤ suc n
+      go true i = omega arith
+      go false i = omega arith
+
+  -- no row from there on has the mark
+  pub last-above : (n j : ℕ) → lastBelow f h n ≤ j → j < n → f j ≡ h → ⊥
+  unfolding lastBelow
+  last-above zero j l i e = omega arith
+  last-above (suc n) j l i e = go (eqb (f n) h) refl l (le-or-lt n j) (last-above n j)
+    where
+      go : (b : Bool) → eqb (f n) h ≡ b → pick b (suc n) (lastBelow f h n) ≤ j → (n ≤ j) ⊎ (j < n) → (lastBelow f h n ≤ j → j < n → f j ≡ h → ⊥) → ⊥
+      go true t m o again = omega arith
+      go false t m (inl o) again = let same : j ≡ n = omega arith in eqb-false (f n) h t (ap f (sym same) ∙ e)
+      go false t m (inr o) again = again m o e
+
+  -- and it has the mark itself
+  pub last-mark : (n : ℕ) {count : ℕ} → count ≡ lastBelow f h n → 0 < count → f (count - 1) ≡ h
+  unfolding lastBelow
+  last-mark zero e l = absurd (omega arith)
+  last-mark (suc n) {count} e l = go (eqb (f n) h) refl e (last-mark n {count = count})
+    where
+      go : (b : Bool) → eqb (f n) h ≡ b → count ≡ pick b (suc n) (lastBelow f h n) → (count ≡ lastBelow f h n → 0 < count → f (count - 1) ≡ h) → f (count - 1) ≡ h
+      go true t m again = let same : count - 1 ≡ n = omega arith in ap f same ∙ eqb-true (f n) h t
+      go false t m again = again m l
+
+-- One row more.
+module _ (index : List ℕ) (f : ℕ → ℕ) (n : ℕ) (size : length index ≡ memberIndexSize) (small : f n < markCount) (few : n < mostMembers)
+    (starts : (h : ℕ) → h < markCount → getD index h 0 ≡ lastBelow f h n) where
+  abbrev linked : List ℕ
+  linked = set index (markCount + n) (getD index (f n) 0)
+
+  linked-size : length linked ≡ memberIndexSize
+  linked-size = length-set index (markCount + n) (getD index (f n) 0) ∙ size
+
+  chained-size : length (chained index (f n) n) ≡ memberIndexSize
+  chained-size = length-set linked (f n) (n + 1) ∙ linked-size
+
+  starts-more : (h : ℕ) → h < markCount → getD (chained index (f n) n) h 0 ≡ lastBelow f h (suc n)
+  unfolding lastBelow
+  starts-more h i = go (eqb (f n) h) refl
+    where
+      go : (b : Bool) → eqb (f n) h ≡ b → getD (chained index (f n) n) h 0 ≡ pick b (suc n) (lastBelow f h n)
+      go true t =
+          let same : h ≡ f n = sym (eqb-true (f n) h t) in
+          let s = linked-size in
+          ap (λ k. getD (chained index (f n) n) k 0) same ∙ getD-set-same linked (f n) (n + 1) 0 (omega arith) ∙ add-one n
+      go false t =
+          getD-set-other linked (f n) h (n + 1) 0 (λ e. eqb-false (f n) h t (sym e))
+          ∙ getD-set-other index (markCount + n) h (getD index (f n) 0) 0 (λ e. omega arith) ∙ starts h i
+
+  links-more : ((i : ℕ) → i < n → getD index (markCount + i) 0 ≡ lastBelow f (f i) i) →
+      (i : ℕ) → i < n + 1 → getD (chained index (f n) n) (markCount + i) 0 ≡ lastBelow f (f i) i
+  links-more links i l = getD-set-other linked (f n) (markCount + i) (n + 1) 0 (λ e. omega arith) ∙ go (le-or-lt n i)
+    where
+      go : (n ≤ i) ⊎ (i < n) → getD linked (markCount + i) 0 ≡ lastBelow f (f i) i
+      go (inl o) =
+          let same : n ≡ i = omega arith in
+          rw (← same) (getD-set-same index (markCount + n) (getD index (f n) 0) 0 (omega arith) ∙ starts (f n) small)
+      go (inr o) = getD-set-other index (markCount + n) (markCount + i) (getD index (f n) 0) 0 (λ e. omega arith) ∙ links i o
+
+none-below : (f : ℕ → ℕ) (h : ℕ) → _≡_ {A = ℕ} (lastBelow f h 0) 0
+unfolding lastBelow
+none-below f h = refl
+
+-- Marks.
+pub two-below : (raw name : List ℕ) {m : ℕ} → m ≡ markFrom (markFrom 0 raw) name → m < markCount
+two-below raw name e = rw e (mark-from-below (markFrom 0 raw) name (mark-from-below 0 raw (omega arith)))
+
+pub one-below : (raw : List ℕ) {m : ℕ} → m ≡ markFrom 0 raw → m < markCount
+one-below raw e = rw e (mark-from-below 0 raw (omega arith))
+
+pub three-marked : (raw name descriptor : List ℕ) {a b c : ℕ} → a ≡ markFrom 0 raw → b ≡ markFrom a name → c ≡ markFrom b descriptor → c ≡ memberMark raw name descriptor
+three-marked raw name descriptor e f g = g ∙ ap (λ x. markFrom x descriptor) (f ∙ ap (λ x. markFrom x name) e)
+
+pub name-below : (raw name : List ℕ) {a b : ℕ} → a ≡ markFrom 0 raw → b ≡ markFrom a name → b < markCount
+name-below raw name e f = two-below raw name (f ∙ ap (λ x. markFrom x name) e)
+
+pub ruleset marking-member = (one-below, name-below, three-marked, needs)
+
+pub mark-below : (raw name descriptor : List ℕ) → memberMark raw name descriptor < markCount
+mark-below raw name descriptor = mark-from-below (markFrom (markFrom 0 raw) name) descriptor (two-below raw name refl)
+
+-- The raw descriptor of a class row, which may not be there.
+getD-beyond : (rows : List (List ℕ)) (i : ℕ) → length rows ≤ i → getD rows i [] ≡ []
+getD-beyond [] i h = refl
+getD-beyond (r ∷ rows) zero h = absurd (omega arith)
+getD-beyond (r ∷ rows) (suc i) h = getD-beyond rows i (omega arith)
+
+module _ (rows : List (List ℕ)) (pool : List ℕ) (i : ℕ) where
+  pub raw-read : {c : Class} → c ≡ unpackClass (getD rows i []) → {d : List ℕ} → d ≡ textIn pool (c .raw) → d ≡ textIn pool (unpackClass (getD rows i []) .raw)
+  raw-read g h = h ∙ ap (λ x. textIn pool (x .raw)) g
+
+  pub raw-beyond : length rows ≤ i → take 0 pool ≡ textIn pool (unpackClass (getD rows i []) .raw)
+  raw-beyond h = sym (rw (getD-beyond rows i h))
+
+pub ruleset raw-reading = (raw-read, raw-beyond, needs)
+
+pub row-marked : (classes : List (List ℕ)) (pool : List ℕ) (m : Member) {a b c : List ℕ} → a ≡ textIn pool (unpackClass (getD classes (m .class) []) .raw) →
+    b ≡ textIn pool (m .«raw_name») → c ≡ textIn pool (m .descriptor) → {x : ℕ} → x ≡ memberMark a b c → x ≡ rowMark classes pool m
+row-marked classes pool m {a} {b} {c} e f g h =
+    h ∙ ap (λ y. memberMark y b c) e ∙ ap (λ y. memberMark (textIn pool (unpackClass (getD classes (m .class) []) .raw)) y c) f
+    ∙ ap (λ y. memberMark (textIn pool (unpackClass (getD classes (m .class) []) .raw)) (textIn pool (m .«raw_name»)) y) g
+
+pub ruleset row-marking = (row-marked, needs)
+
+-- Row after row.
+zero-everywhere : (n i : ℕ) → _≡_ {A = ℕ} (getD (replicate n 0) i 0) 0
+zero-everywhere zero i = refl
+zero-everywhere (suc n) zero = refl
+zero-everywhere (suc n) (suc i) = zero-everywhere n i
+
+module _ (classes : List (List ℕ)) (pool : List ℕ) (rows : List (List ℕ)) where
+  pub chaining-starts : {index : List ℕ} → index ≡ replicate memberIndexSize 0 → length rows ≤ mostMembers → Chained classes pool rows index 0
+  chaining-starts e h =
+      record {
+        few = h;
+        inside = omega arith;
+        size = ap length e ∙ length-replicate {A = ℕ} memberIndexSize 0;
+        starts = λ m i. ap (λ l. getD l m 0) e ∙ zero-everywhere memberIndexSize m ∙ sym (none-below (markAt classes pool rows) m);
+        links = λ i l. absurd (omega arith);
+      }
+
+  module _ {index : List ℕ} {k : ℕ} (c : Chained classes pool rows index k) where
+    pub chaining-ends : length rows ≤ k → Chained classes pool rows index (length rows)
+    chaining-ends h = let i = c .inside in let z : k ≡ length rows = omega arith in rw z at c
+
+    module _ (h : k < length rows) where
+      pub chaining-few : k < mostMembers
+      chaining-few = let f = c .few in omega arith
+
+      pub chaining-size : length index ≡ memberIndexSize
+      chaining-size = c .size
+
+      module _ {m : Member} (e : m ≡ unpackMember (getD rows k [])) {x : ℕ} (f : x ≡ rowMark classes pool m) where
+        here : x ≡ markAt classes pool rows k
+        here = f ∙ ap (rowMark classes pool) e
+
+        pub chaining-small : x < markCount
+        chaining-small =
+            let r = unpackMember (getD rows k []) in
+            rw here (mark-below (textIn pool (unpackClass (getD classes (r .class) []) .raw)) (textIn pool (r .«raw_name»)) (textIn pool (r .descriptor)))
+
+        pub chaining-more : {new : List ℕ} → new ≡ chained index x k → Chained classes pool rows new (k + 1)
+        chaining-more g =
+            let s : markAt classes pool rows k < markCount = rw (← here) chaining-small in
+            let w = c .few in
+            let z : k + 1 ≡ suc k = omega arith in
+            let is : chained index x k ≡ chained index (markAt classes pool rows k) k = ap (λ y. chained index y k) here in
+            rw (g, is) (record {
+              few = c .few;
+              inside = omega arith;
+              size = chained-size index (markAt classes pool rows) k (c .size) s (omega arith) (c .starts);
+              starts = λ a i. starts-more index (markAt classes pool rows) k (c .size) s (omega arith) (c .starts) a i ∙ ap (lastBelow (markAt classes pool rows) a) (sym z);
+              links = λ i l. links-more index (markAt classes pool rows) k (c .size) s (omega arith) (c .starts) (c .links) i (omega arith);
+            })
+
+pub chaining-length : (classes : List (List ℕ)) (pool : List ℕ) (rows : List (List ℕ)) {old new : List ℕ} {k : ℕ} → old ≡ replicate memberIndexSize 0 → Chained classes pool rows new k →
+    length new ≡ length old
+chaining-length classes pool rows e c = c .size ∙ sym (ap length e ∙ length-replicate {A = ℕ} memberIndexSize 0)
+
+pub ruleset chaining = (chaining-length, chaining-starts, chaining-ends, chaining-few, chaining-size, chaining-small, chaining-more, needs)
+
+-- One row, as the code stores it.
+pub kept-size : (index : List ℕ) (i v : ℕ) → length index ≡ memberIndexSize → {m : ℕ} → m < markCount → m < length (set index i v)
+kept-size index i v e h = omega (arith, length-set index i v, e)
+
+pub ruleset storing = (kept-size, needs)

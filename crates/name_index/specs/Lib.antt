@@ -1,0 +1,2 @@
+-- No rule stands here: which member row answers is a rule of looking up.
+pub mod inner
