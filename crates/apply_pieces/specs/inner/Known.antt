@@ -43,7 +43,7 @@ displayOf classes pool row = textIn pool (unpackClass (getD classes row []) .dis
 abbrev pub oneKnown : List (List ℕ) → List ℕ → List ℕ → Bool
 oneKnown classes pool text = pieceKnown (shown (readBack classes pool)) (partsFrom [] text)
 
--- "turned to its display", each piece that is known
+-- each piece that is known, turned to its display
 abbrev pub allShown : List (List ℕ) → List ℕ → List ℕ → List ℕ
 allShown classes pool text = turn (shown (readBack classes pool)) text
 
