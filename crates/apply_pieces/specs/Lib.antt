@@ -1,0 +1,2 @@
+-- No rule stands here: what a known piece becomes is a rule of applying.
+pub mod inner

@@ -1,0 +1,9 @@
+// Class pieces of descriptors that are known: the first one, a descriptor with all of them shown, and notes about the names of a tree.
+mod known;
+mod notes;
+mod show;
+
+pub use known::KnownPiece;
+pub use known::first_known;
+pub use notes::note_names;
+pub use show::put_shown;
