@@ -1,4 +1,5 @@
 -- Applying: the written rules, from document 01 "Tree file (added)", second half.
 pub mod Changes
 pub mod Applying
+pub mod inner
 pub mod Examples
