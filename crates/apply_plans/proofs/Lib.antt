@@ -1,0 +1,4 @@
+-- Laws of plans.
+pub mod Contexting
+pub mod Putting
+pub mod Passing
