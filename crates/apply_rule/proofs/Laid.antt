@@ -1,29 +1,26 @@
 -- A file laid out with its changes, stretch by stretch, is the tree with these changes, written. Assumes nothing.
-use mathlib.Core.Path.{_≡_, refl, sym, _∙_, ap}
+use mathlib.Core.Path.{_≡_, sym, _∙_, ap}
 use mathlib.Core.List.{List, [], _∷_, _++_, map, append-assoc}
-use Prim.Native.Nat.{ℕ, zero, suc, _+_, _*_, _-_, _<_}
+use Prim.Native.Nat.{ℕ, _+_, _*_, _-_, _<_}
 use native.Mathlib.Nat.{mul-zero, mul-suc}
 use native.Mathlib.Omega.{arith}
-use lib.ListN.{length, getD, take, drop, length-append}
+use lib.ListN.{length, getD, drop, length-append}
 use lib.Seq.{take-at, drop-at, drop-drop}
 use Rattle.ground.specs.Join.{join}
 use Rattle.ground.specs.Put.{between}
 use Rattle.ground.proofs.Joins.{join-append}
 use Rattle.name_rule.specs.Mappings.{Mapping}
 use Rattle.tree_rule.specs.declared.TreeCounts.{TreeCounts}
-use Rattle.tree_rule.specs.declared.Token.{Token}
-use Rattle.tree_rule.specs.Words.{listFrom, sumFrom}
+use Rattle.tree_rule.specs.Words.{listFrom}
 use Rattle.tree_rule.specs.Trees.{Tree, nameIn}
 use Rattle.tree_rule.specs.Files.{
   nodesStart,
   tokensStart,
   namesStart,
   bytesStart,
-  tokenCountAt,
   tokenAt,
   nameAt,
   bytesIn,
-  nodesFrom,
   treeBy,
   allTokens,
   nodeRowBytes,

@@ -8,8 +8,7 @@ use lib.ListN.{length, getD, length-append}
 use Rattle.tree_rule.specs.declared.Token.{Token}
 use Rattle.tree_rule.specs.declared.Token.the-variants.{Other}
 use Rattle.tree_rule.specs.Trees.{Node}
-use Rattle.tree_rule.specs.Files.{allTokens, parentWord, nodeRowBytes}
-use Rattle.tree_rule.specs.Words.{wordBytes}
+use Rattle.tree_rule.specs.Files.{allTokens, nodeRowBytes}
 use Rattle.name_rule.specs.Mappings.{Mapping}
 use Rattle.apply_rule.specs.Changes.{
   Change,
