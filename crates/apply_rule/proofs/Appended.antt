@@ -80,7 +80,8 @@ module _ (m : Mapping) (class : List ℕ) (t : Tree) where
   new = newNames (allChanged (changedIn m class t))
 
   -- the names that are appended have the next numbers, in order
-  pub appended-names : (k : ℕ) → k < length new → nameIn (appliedTree m class t) (length (t .names) + k) ≡ getD new k []
+  pub appended-names : (k : ℕ) → k < length (newNames (allChanged (changedIn m class t))) →
+      nameIn (appliedTree m class t) (length (t .names) + k) ≡ getD (newNames (allChanged (changedIn m class t))) k []
   appended-names k h =
       ap (textIn (t .bytes ++ join new)) (getD-append-add (t .names) (nameRows (length (t .bytes)) new) k (text 0 0))
       ∙ new-text (t .bytes) (length (t .bytes)) new refl k h

@@ -14,6 +14,7 @@ use Rattle.tree_rule.specs.declared.TreeCounts.{TreeCounts}
 use Rattle.tree_rule.specs.Words.{listFrom}
 use Rattle.tree_rule.specs.Trees.{Tree, nameIn}
 use Rattle.tree_rule.specs.Files.{
+  countsIn,
   nodesStart,
   tokensStart,
   namesStart,
@@ -36,7 +37,17 @@ use Rattle.tree_rule.proofs.Reading.{bytes-count}
 use Rattle.tree_rule.proofs.ReadWritten.{node-length, token-length, name-length}
 use Rattle.tree_rule.proofs.WrittenRead.{nodes-length, nodes-tokens, body-kept}
 use Rattle.apply_rule.specs.Changes.{Changed, ChangedNode}
-use Rattle.apply_rule.specs.Applying.{newNames, numbered, numberedNodes, nameRows, allChanged, changedIn, treeWith}
+use Rattle.apply_rule.specs.Applying.{
+  newNames,
+  numbered,
+  numberedNodes,
+  nameRows,
+  allChanged,
+  changedIn,
+  treeWith,
+  appliedTree,
+  appliedFile,
+}
 use Rattle.apply_rule.specs.inner.Plans.{laidCounts, laidOut}
 use Rattle.apply_rule.proofs.Numbering.{
   tokens-numbered,
@@ -60,13 +71,13 @@ module _ (c : TreeCounts) (f : List ℕ) (k : FormedBy c f) where
   abbrev t : Tree
   t = treeBy c f
 
-  pub all-tokens : allTokens (t .nodes) ≡ listFrom (tokenAt c f) 0 (c .tokens)
+  pub all-tokens : allTokens (treeBy c f .nodes) ≡ listFrom (tokenAt c f) 0 (c .tokens)
   all-tokens = nodes-tokens c f 0 0 (c .nodes) ∙ ap (listFrom (tokenAt c f) 0) (k .sums)
 
-  pub all-tokens-length : length (allTokens (t .nodes)) ≡ c .tokens
+  pub all-tokens-length : length (allTokens (treeBy c f .nodes)) ≡ c .tokens
   all-tokens-length = ap length all-tokens ∙ list-length (tokenAt c f) 0 (c .tokens)
 
-  pub names-length : length (t .names) ≡ c .names
+  pub names-length : length (treeBy c f .names) ≡ c .names
   names-length = list-length (nameAt c f) 0 (c .names)
 
   -- The stretches of the file that stay as they are.
@@ -92,7 +103,7 @@ module _ (c : TreeCounts) (f : List ℕ) (k : FormedBy c f) where
     name-part-length : length namePart ≡ 8 * c .names
     name-part-length = joined-length nameRowBytes 8 name-length (t .names) ∙ ap (λ n. 8 * n) names-length
 
-    pub node-stretch : between f nodesStart (tokensStart c) ≡ nodePart
+    pub node-stretch : between f nodesStart (tokensStart c) ≡ join (map nodeRowBytes (treeBy c f .nodes))
     node-stretch =
         let z : tokensStart c - nodesStart ≡ 8 * c .nodes = omega arith in
         rw (z, body) (take-at nodePart (tokenPart ++ (namePart ++ bytesIn c f)) (8 * c .nodes) node-part-length)
@@ -105,7 +116,7 @@ module _ (c : TreeCounts) (f : List ℕ) (k : FormedBy c f) where
         ∙ drop-at nodePart (tokenPart ++ (namePart ++ bytesIn c f)) (8 * c .nodes) node-part-length)
         ∙ drop-at tokenPart (namePart ++ bytesIn c f) (12 * c .tokens) token-part-length
 
-    pub name-stretch : between f (namesStart c) (bytesStart c) ≡ namePart
+    pub name-stretch : between f (namesStart c) (bytesStart c) ≡ join (map nameRowBytes (treeBy c f .names))
     name-stretch =
         let z : bytesStart c - namesStart c ≡ 8 * c .names = omega arith in
         rw (z, behind-tokens) (take-at namePart (bytesIn c f) (8 * c .names) name-part-length)
@@ -118,7 +129,9 @@ module _ (c : TreeCounts) (f : List ℕ) (k : FormedBy c f) where
       abbrev changes : List Changed
       changes = allChanged nodes
 
-      pub laid-counts : countsOf (treeWith t nodes) ≡ laidCounts c (newNames changes)
+      pub laid-counts :
+          countsOf (treeWith (treeBy c f) (changedIn m class (treeBy c f))) ≡
+          laidCounts c (newNames (allChanged (changedIn m class (treeBy c f))))
       laid-counts =
           let new : List (List ℕ) = newNames changes in
           rw (
@@ -136,7 +149,9 @@ module _ (c : TreeCounts) (f : List ℕ) (k : FormedBy c f) where
             bytes-count c f (k .size),
           )
 
-      pub laid-written : laidOut c f changes ≡ writtenTree (treeWith t nodes)
+      pub laid-written :
+          laidOut c f (allChanged (changedIn m class (treeBy c f))) ≡
+          writtenTree (treeWith (treeBy c f) (changedIn m class (treeBy c f)))
       laid-written =
           let new : List (List ℕ) = newNames changes in
           let rows : List ℕ = join (map nameRowBytes (nameRows (length (t .bytes)) new)) in
@@ -159,3 +174,7 @@ module _ (c : TreeCounts) (f : List ℕ) (k : FormedBy c f) where
             name-stretch,
           ) in
           ap (λ l. countBytes (laidCounts c new) ++ l) same ∙ ap (λ n. countBytes n ++ body) (sym laid-counts)
+
+      -- by the counts at its head, it is the file that applying writes
+      pub laid-applied : c ≡ countsIn f → laidOut c f (allChanged (changedIn m class (treeBy c f))) ≡ appliedFile m class f
+      laid-applied e = laid-written ∙ ap (λ x. writtenTree (appliedTree m class (treeBy x f))) e
