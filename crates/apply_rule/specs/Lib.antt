@@ -2,4 +2,5 @@
 pub mod Changes
 pub mod Applying
 pub mod inner
+pub mod Theorems
 pub mod Examples
