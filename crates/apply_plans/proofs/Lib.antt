@@ -1,4 +1,5 @@
 -- Laws of plans.
 pub mod Contexting
 pub mod Putting
+pub mod Planning
 pub mod Passing
