@@ -2,4 +2,6 @@
 pub mod Contexting
 pub mod Putting
 pub mod Planning
+pub mod ContextNumbers
+pub mod TokenPlans
 pub mod Passing

@@ -1,37 +1,26 @@
+-- `apply_plans::node::plan_node` meets its contract, by the laws of Planning.
 use Rattle.apply_plans.proofs.Planning.{node-planned, node-planning}
 use Rattle.apply_plans.proofs.node.plan_node.Statement.{statement}
 use Rattle.apply_plans.proofs.node.plan_node.Tie as tie
-use Rattle.apply_plans.proofs.node.plan_node.Reads as reads
-use Rattle.apply_plans.proofs.node.plan_node.Lts as lts
-use Rattle.apply_plans.proofs.lines.plan_lines.Reads as plan-lines-reads
-use Rattle.apply_plans.proofs.node.put_head.Reads as put-head-reads
-use Rattle.tree_words.proofs.tokens_start.Reads as tokens-start-reads
 
--- src/node.rt:74:9
 put-head-requires : tie.Need-put-head-requires
 put-head-requires c κs = search node-planning
 
--- src/node.rt:84:16
 tokens-start-requires : tie.Need-tokens-start-requires
 tokens-start-requires c κs = search node-planning
 
--- src/node.rt:84:39
 mul-base : tie.Need-mul-base
 mul-base c = search node-planning
 
--- src/node.rt:84:16
 add-base : tie.Need-add-base
 add-base c = search node-planning
 
--- src/node.rt:85:5
 plan-lines-requires : tie.Need-plan-lines-requires
 plan-lines-requires c κs = search node-planning
 
--- src/node.rt:53:1
 same-length : tie.Need-same-length
 same-length c = search node-planning
 
--- src/node.rt:53:1
 returns : tie.Need-returns
 returns c = search (c .before .before .before .before .before .before .before .before .before .before .before .before .before .pre .0, c .before .before .before .before .before .before .before .put-head .ensures .0, c .before .before .before .before .before .before .before .put-head .ensures .1, c .before .before .before .before .before .before .before .put-head .ensures .2, c .before .before .before .before .tokens-start .ensures, c .before .before .plan-lines .ensures, node-planned)
 
