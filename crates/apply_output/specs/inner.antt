@@ -1,0 +1,3 @@
+-- Words of inner contracts: no rule cites them.
+pub mod Plan
+pub mod Turn
