@@ -98,7 +98,7 @@ fn put_added(
 }
 
 // The row of a token, and the name that it adds.
-fn put_change(
+pub fn put_change(
     out: &mut [u8],
     tree: &[u8],
     counts: TreeCounts,
