@@ -4,13 +4,8 @@ use mathlib.Core.List.{List, [], _∷_, _++_, map, append-nil}
 use Prim.Native.Nat.{ℕ, zero, suc, _+_, _*_, _-_, _≤_, _<_}
 use native.Mathlib.Numerals.{add-one}
 use native.Mathlib.Omega.{arith}
-use lib.ListN.{length, getD, drop, length-append}
-use lib.Seq.{drop-drop}
-use mir.Val.{Fits}
-use mir.Syntax.{w64}
-use borrow.Author.Needs.{needs}
+use lib.ListN.{length, getD, length-append}
 use Rattle.ground.specs.Join.{join}
-use Rattle.ground.specs.Put.{between}
 use Rattle.ground.proofs.Joins.{join-append}
 use Rattle.table_rows.specs.Rows.{unpackMember}
 use Rattle.tables.specs.Back.{textIn}
@@ -18,32 +13,19 @@ use Rattle.tree_rule.specs.declared.TreeCounts.{TreeCounts}
 use Rattle.tree_rule.specs.declared.Token.{Token}
 use Rattle.tree_rule.specs.declared.Token.the-variants.{Other, MemberName, Descriptor, SourceLine}
 use Rattle.tree_rule.specs.Words.{wordAt, wordBytes, listFrom}
-use Rattle.tree_rule.specs.Files.{tokensStart, namesStart, bytesStart, fileLength, tokenAt, textAt, tokenRowBytes, nameRowBytes}
+use Rattle.tree_rule.specs.Files.{tokensStart, namesStart, bytesStart, tokenAt, textAt, tokenRowBytes, nameRowBytes}
 use Rattle.tree_rule.specs.Theorems.{FormedBy, NamesBelow}
-use Rattle.tree_rule.proofs.RowLaws.{list-append, list-length}
-use Rattle.tree_rule.proofs.ReadWritten.{name-length}
+use Rattle.tree_rule.proofs.RowLaws.{list-append}
 use Rattle.apply_rule.specs.Changes.{Changed}
 use Rattle.apply_rule.specs.Applying.{tokenWith, nameOf, newNames, numbered, nameRows}
 use Rattle.apply_rule.specs.inner.Plans.{shownAt, plannedToken}
 use Rattle.apply_pieces.specs.inner.Known.{allShown}
 use Rattle.apply_output.specs.declared.plan.Plan.{Plan}
 use Rattle.apply_output.specs.declared.plan.Plan.the-variants.{Stays, Line, Member, Shown}
-use Rattle.apply_output.specs.declared.tokens.Added.{Added}
-use Rattle.apply_output.specs.declared.tokens.Added.the-variants.{Done, NoRoom}
 use Rattle.apply_output.specs.inner.Plan.{planBy, planAt, added, addedBelow, namesBy, bodyBy, rowBy, nameRowBy}
-use Rattle.apply_output.specs.inner.Turn.{TurnReady, TurnedBy, Turned, NoRoomBy}
-use Rattle.apply_output.specs.inner.Output.{Ready, textsStart, LayReady, changesBelow, LaidBelow, OutputOver}
-use Rattle.apply_output.proofs.Turning.{row-length}
-use Rattle.apply_output.proofs.Changing.{planned-names, planned-fits, planned-row}
-use Rattle.apply_output.proofs.Listing.{join-join, names-append, numbered-append, rows-append, laid-length}
-use Rattle.apply_output.proofs.Placing.{
-  three-size,
-  three-first,
-  three-second,
-  three-third,
-  three-word,
-  three-behind,
-}
+use Rattle.apply_output.specs.inner.Output.{Ready, changesBelow}
+use Rattle.apply_output.proofs.Changing.{planned-names, planned-row}
+use Rattle.apply_output.proofs.Listing.{join-join, names-append, numbered-append}
 
 -- The name that a plan adds.
 module _ (classes rows : List (List ℕ)) (pool : List ℕ) (c : TreeCounts) (f : List ℕ) where

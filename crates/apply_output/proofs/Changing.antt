@@ -1,7 +1,7 @@
 -- What becomes of a token, by its plan and by the rule. Assumes nothing.
-use mathlib.Core.Path.{_≡_, refl, sym, _∙_, ap}
+use mathlib.Core.Path.{_≡_, refl, _∙_, ap}
 use mathlib.Core.Bool.{Bool, true, false}
-use mathlib.Core.List.{List, []}
+use mathlib.Core.List.{List}
 use Prim.Native.Nat.{ℕ, zero, suc, _+_, _*_, _≤_, _<_}
 use native.Mathlib.Omega.{arith}
 use lib.Dec.{eqb}
@@ -21,11 +21,8 @@ use Rattle.tree_rule.proofs.Reading.{name-at}
 use Rattle.apply_rule.specs.Changes.{Change, nameChange, shownDescriptor}
 use Rattle.apply_rule.specs.Applying.{withDisplay, tokenWith, nameOf}
 use Rattle.apply_rule.specs.inner.Plans.{plannedChange, shownAt, plannedToken}
-use Rattle.apply_pieces.specs.inner.Known.{KnownAt}
 use Rattle.apply_pieces.specs.inner.Notes.{NoteSays}
-use Rattle.apply_output.specs.declared.plan.Plan.{Plan}
-use Rattle.apply_output.specs.declared.plan.Plan.the-variants.{Stays, Line, Member, Shown}
-use Rattle.apply_output.specs.inner.Plan.{memberPlan, noted, planBy, planAt, namesBy, displayBy, rowBy, PlanFits}
+use Rattle.apply_output.specs.inner.Plan.{noted, planBy, planAt, namesBy, displayBy, rowBy, PlanFits}
 use Rattle.apply_output.specs.inner.Output.{Ready}
 
 -- what a token shows

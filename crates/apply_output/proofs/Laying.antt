@@ -1,7 +1,7 @@
 -- The rows of tokens, one after the other, and the names that they add. Assumes nothing.
 use mathlib.Core.Path.{_≡_, refl, sym, _∙_, ap}
-use mathlib.Core.List.{List, [], _++_, map}
-use Prim.Native.Nat.{ℕ, zero, suc, _+_, _*_, _-_, _≤_, _<_}
+use mathlib.Core.List.{List, _++_, map}
+use Prim.Native.Nat.{ℕ, _+_, _*_, _-_, _≤_, _<_}
 use native.Mathlib.Omega.{arith}
 use lib.ListN.{length, drop, length-append}
 use lib.Seq.{drop-drop}
@@ -9,12 +9,12 @@ use mir.Val.{Fits}
 use mir.Syntax.{w64}
 use borrow.Author.Needs.{needs}
 use Rattle.ground.specs.Join.{join}
-use Rattle.ground.specs.Put.{put, between}
+use Rattle.ground.specs.Put.{between}
 use Rattle.ground.proofs.Joins.{join-append}
 use Rattle.ground.proofs.PutLaws.{length-put}
 use Rattle.tree_rule.specs.declared.TreeCounts.{TreeCounts}
 use Rattle.tree_rule.specs.Words.{wordAt, listFrom}
-use Rattle.tree_rule.specs.Files.{tokensStart, namesStart, bytesStart, fileLength, tokenRowBytes, nameRowBytes}
+use Rattle.tree_rule.specs.Files.{tokensStart, bytesStart, tokenRowBytes, nameRowBytes}
 use Rattle.tree_rule.proofs.RowLaws.{list-length}
 use Rattle.apply_rule.specs.Changes.{Changed}
 use Rattle.apply_rule.specs.Applying.{newNames, numbered, nameRows}
@@ -22,9 +22,9 @@ use Rattle.apply_rule.specs.inner.Plans.{plannedToken}
 use Rattle.apply_output.specs.declared.plan.Plan.{Plan}
 use Rattle.apply_output.specs.declared.tokens.Added.{Added}
 use Rattle.apply_output.specs.declared.tokens.Added.the-variants.{Done, NoRoom}
-use Rattle.apply_output.specs.inner.Plan.{planAt, added, namesBy, bodyBy, rowBy, nameRowBy, PlanFits}
+use Rattle.apply_output.specs.inner.Plan.{planAt, added, namesBy, bodyBy, rowBy, nameRowBy}
 use Rattle.apply_output.specs.inner.Turn.{NameAdded, NoRoomBy, TurnReady, rowOut, Turned, TurnedBy}
-use Rattle.apply_output.specs.inner.Output.{Ready, textsStart, LayReady, changesBelow, LaidBelow, OutputOver}
+use Rattle.apply_output.specs.inner.Output.{textsStart, LayReady, changesBelow, LaidBelow, OutputOver}
 use Rattle.apply_output.proofs.Turning.{row-length}
 use Rattle.apply_output.proofs.Changing.{planned-fits}
 use Rattle.apply_output.proofs.Listing.{join-join, rows-append, laid-length}
@@ -155,7 +155,8 @@ module _
           turn : Turned more past classes rows pool c f (bytesStart c + 8 * count) token names «end» new out
           turn = rw (g, e) at w
 
-          turned : NameAdded more past classes rows pool c f plan (bytesStart c + 8 * count) names «end» (rowOut c f plan token names new) out
+          turned : NameAdded more past classes rows pool c f plan (bytesStart c + 8 * count) names «end»
+              (rowOut c f plan token names new) out
           turned = rw same-plan at (turn .turned)
 
           abbrev at : ℕ

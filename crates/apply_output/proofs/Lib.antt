@@ -6,3 +6,5 @@ pub mod Listing
 pub mod Placing
 pub mod Below
 pub mod Laying
+pub mod Finishing
+pub mod Outputting

@@ -1,16 +1,14 @@
 -- Changes one after the other: the tokens, the names and the rows that they make. Assumes nothing.
 use mathlib.Core.Path.{_≡_, refl, sym, _∙_, ap}
-use mathlib.Core.List.{List, [], _∷_, _++_, map, append-assoc, append-nil}
-use Prim.Native.Nat.{ℕ, zero, suc, _+_, _*_, _-_, _≤_, _<_}
-use native.Mathlib.Nat.{add-assoc, mul-zero, mul-suc}
+use mathlib.Core.List.{List, [], _∷_, _++_, map, append-assoc}
+use Prim.Native.Nat.{ℕ, suc, _+_, _*_, _-_, _≤_}
+use native.Mathlib.Nat.{mul-zero, mul-suc}
 use native.Mathlib.Omega.{arith}
 use lib.ListN.{length, drop, length-append, length-drop}
 use lib.Seq.{length-take-le}
 use Rattle.ground.specs.Join.{join}
 use Rattle.ground.specs.Put.{between}
-use Rattle.table_rows.specs.declared.rows.Text.{Text}
 use Rattle.tree_rule.specs.declared.TreeCounts.{TreeCounts}
-use Rattle.tree_rule.specs.declared.Token.{Token}
 use Rattle.tree_rule.specs.Words.{wordBytes}
 use Rattle.tree_rule.specs.Files.{
   nodesStart,
@@ -23,7 +21,6 @@ use Rattle.tree_rule.specs.Files.{
   nameRowBytes,
   countBytes,
 }
-use Rattle.tree_rule.proofs.WordLaws.{bytes-length}
 use Rattle.tree_rule.proofs.Reading.{bytes-count}
 use Rattle.tree_rule.proofs.ReadWritten.{token-length, name-length}
 use Rattle.apply_rule.specs.Changes.{Changed}

@@ -1,9 +1,9 @@
 -- Numbers put one after the other are a row. Assumes nothing.
 use mathlib.Core.Path.{_≡_, refl, sym, _∙_, ap}
-use mathlib.Core.List.{List, [], _∷_, _++_, append-assoc}
-use Prim.Native.Nat.{ℕ, zero, suc, _+_, _*_, _-_, _≤_, _<_}
+use mathlib.Core.List.{List, _++_, append-assoc}
+use Prim.Native.Nat.{ℕ, _+_, _*_, _-_, _≤_}
 use native.Mathlib.Omega.{arith}
-use lib.ListN.{length, take, drop, length-append, length-drop}
+use lib.ListN.{length, drop, length-append, length-drop}
 use lib.Seq.{length-take-le}
 use borrow.Author.Needs.{needs}
 use Rattle.ground.specs.Put.{put, between}
@@ -11,7 +11,7 @@ use Rattle.ground.proofs.PutLaws.{length-put, put-put, put-nothing}
 use Rattle.table_rows.specs.Rows.{text}
 use Rattle.table_pool.specs.declared.write.Wrote.{Wrote}
 use Rattle.table_pool.specs.declared.write.Wrote.the-variants.{Done, NoRoom}
-use Rattle.table_pool.specs.inner.Wrote.{Written, WroteBy}
+use Rattle.table_pool.specs.inner.Wrote.{WroteBy}
 use Rattle.tree_rule.specs.declared.TreeCounts.{TreeCounts}
 use Rattle.tree_rule.specs.Words.{wordAt, wordBytes}
 use Rattle.tree_rule.specs.Files.{threeWords, nameRowBytes, countBytes}
@@ -124,7 +124,8 @@ counts-put d h c {a} {b} {e} {g} i j k l =
     let w = c .bytes in
     let three : e ≡ put d 0 (threeWords x y z) = k ∙ rw (j, i) (three-put d 0 (omega arith) x y z) in
     let long : length (threeWords x y z) ≡ 12 =
-    length-append (wordBytes x) (wordBytes y ++ wordBytes z) ∙ rw (length-append (wordBytes y) (wordBytes z), bytes-length x, bytes-length y, bytes-length z) in
+    length-append (wordBytes x) (wordBytes y ++ wordBytes z)
+    ∙ rw (length-append (wordBytes y) (wordBytes z), bytes-length x, bytes-length y, bytes-length z) in
     let whole : threeWords x y z ++ wordBytes w ≡ countBytes c = simp append-assoc in
     l ∙ rw three (word-more d 0 (threeWords x y z) w 12 long (omega arith)) ∙ ap (put d 0) whole
 

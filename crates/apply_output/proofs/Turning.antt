@@ -1,7 +1,7 @@
 -- One token: its row, and the text and the row of a name that it adds. Assumes nothing.
-use mathlib.Core.Path.{_≡_, refl, sym, _∙_, ap}
-use mathlib.Core.List.{List, [], _∷_, _++_, append-nil}
-use Prim.Native.Nat.{ℕ, zero, suc, _+_, _*_, _-_, _≤_, _<_}
+use mathlib.Core.Path.{_≡_, sym, _∙_, ap}
+use mathlib.Core.List.{List, [], _++_, append-nil}
+use Prim.Native.Nat.{ℕ, _+_, _*_, _-_, _≤_, _<_}
 use native.Mathlib.Nat.{add-zero}
 use native.Mathlib.Omega.{arith}
 use lib.ListN.{length, getD, length-append}
@@ -20,8 +20,7 @@ use Rattle.table_pool.proofs.Writes.{wrote-told, wrote-none, wrote-as, written-
 use Rattle.tables.specs.Back.{textIn}
 use Rattle.tree_rule.specs.declared.TreeCounts.{TreeCounts}
 use Rattle.tree_rule.specs.Words.{wordAt, wordBytes}
-use Rattle.tree_rule.specs.Files.{tokensStart, bytesStart, fileLength, textAt, threeWords}
-use Rattle.tree_rule.specs.Theorems.{FormedBy}
+use Rattle.tree_rule.specs.Files.{tokensStart, bytesStart, textAt}
 use Rattle.tree_rule.proofs.WordLaws.{bytes-length}
 use Rattle.apply_rule.specs.Applying.{mostTree}
 use Rattle.apply_pieces.specs.inner.Known.{allShown, KnownAt}
@@ -30,8 +29,7 @@ use Rattle.apply_output.specs.declared.plan.Plan.the-variants.{Stays, Li
 use Rattle.apply_output.specs.declared.tokens.Added.{Added}
 use Rattle.apply_output.specs.declared.tokens.Added.the-variants.{Done, NoRoom}
 use Rattle.apply_output.specs.inner.Plan.{planAt, added, namesBy, bodyBy, displayBy, rowBy, nameRowBy, PlanFits}
-use Rattle.apply_output.specs.inner.Turn.{AddReady, NameAdded, NoRoomBy, AddedBy, TurnReady, rowOut, Turned, TurnedBy}
-use Rattle.apply_output.proofs.Planning.{added-little}
+use Rattle.apply_output.specs.inner.Turn.{AddReady, NameAdded, NoRoomBy, AddedBy, TurnReady, rowOut, TurnedBy}
 
 -- The text of a name.
 module _ (classes rows : List (List ℕ)) (pool : List ℕ) (c : TreeCounts) (f : List ℕ) (p : Plan) (d : List ℕ) (at : ℕ) where

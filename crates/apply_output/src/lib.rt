@@ -1,7 +1,7 @@
-// The output of applying a mapping to a tree, written over what was noted in it: rows of tokens, names and bytes, in one pass over the tokens.
+// The output of applying a mapping to a tree, written over what was noted in it.
 mod output;
 mod plan;
 mod rows;
 mod tokens;
 
-pub use plan::Plan;
+pub use output::write_output;

@@ -38,7 +38,7 @@ pub fn put_token(out: &mut [u8], tree: &[u8], at: usize, plan: Plan, next: u32)
     put_word(out, at + 8, display_by(plan, next, word_at(tree, at + 8)));
 }
 
-// The row of a name that is added, if one is: the places of the name bytes where it starts and ends.
+// The row of a name that is added, if one is.
 pub fn put_name(out: &mut [u8], at: usize, plan: Plan, place: u32, size: u32)
     requires { ⌜ at + 8 * added plan ≤ length (now out) ⌝ }
     ensures { λ _. ⌜ now (out .exit) ≡ put (now (out .entry)) at (nameRowBy plan place size) ⌝ }

@@ -91,6 +91,12 @@ abbrev pub LaidBy : Wrote → (classes rows : List (List ℕ)) (pool : List ℕ)
 LaidBy (Done «end») classes rows pool c f count old new = LaidBelow (c .tokens) classes rows pool c f count count «end» old new
 LaidBy NoRoom classes rows pool c f count old new = OutputOver classes rows pool c f old
 
+-- The output has room for `count` names and `size` bytes of text that are added.
+pub record FinishReady (c : TreeCounts) (f : List ℕ) (count size : ℕ) (out : List ℕ) : Type 0 where
+  pub file : length f ≡ fileLength c
+  pub room : textsStart c count + size ≤ length out
+  pub most : length out ≤ mostTree
+
 -- All that stands as it did in the tree, and the counts: `count` names are added, and `size` bytes of text.
 abbrev pub finished : TreeCounts → List ℕ → (count size : ℕ) → List ℕ → List ℕ
 finished c f count size out =

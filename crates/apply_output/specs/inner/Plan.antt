@@ -1,5 +1,4 @@
 -- What becomes of a token, by what is noted in the output: in the place of its `b`, and of a descriptor in the row of its raw name.
-use mathlib.Core.Path.{_≡_}
 use mathlib.Core.List.{List, [], _∷_}
 use Prim.Native.Nat.{ℕ, zero, suc, _+_, _*_, _≤_, _<_}
 use lib.ListN.{length, getD}
@@ -9,7 +8,7 @@ use Rattle.tables.specs.Back.{textIn}
 use Rattle.tree_rule.specs.declared.TreeCounts.{TreeCounts}
 use Rattle.tree_rule.specs.declared.Token.{Token}
 use Rattle.tree_rule.specs.declared.Token.the-variants.{Other, MemberName, Descriptor, SourceLine}
-use Rattle.tree_rule.specs.Words.{wordAt, sumFrom}
+use Rattle.tree_rule.specs.Words.{wordAt}
 use Rattle.tree_rule.specs.Files.{namesStart, tokenAt, textAt, threeWords, nameRowBytes}
 use Rattle.apply_rule.specs.inner.Plans.{shownAt}
 use Rattle.apply_pieces.specs.inner.Known.{allShown, KnownAt}

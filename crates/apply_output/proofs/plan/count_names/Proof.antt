@@ -1,11 +1,8 @@
+-- `apply_output::plan::count_names` meets its contract, by the laws of Planning and an invariant that says what is done and what is left.
 use Rattle.apply_output.proofs.Planning.{counting, Counting}
 use Prim.Native.Nat.{_-_}
 use Rattle.apply_output.proofs.plan.count_names.Statement.{statement}
 use Rattle.apply_output.proofs.plan.count_names.Tie as tie
-use Rattle.apply_output.proofs.plan.count_names.Reads as reads
-use Rattle.apply_output.proofs.plan.count_names.Lts as lts
-use Rattle.apply_output.proofs.plan.added_by.Reads as added-by-reads
-use Rattle.apply_output.proofs.plan.plan_at.Reads as plan-at-reads
 
 abbrev Inv-loop : tie.InvT-loop
 Inv-loop out tree counts tokens token₀ count₀ token count = Counting counts tree out token count
@@ -13,39 +10,30 @@ Inv-loop out tree counts tokens token₀ count₀ token count = Counting counts 
 abbrev μ-loop : tie.MeasureT-loop
 μ-loop out tree counts tokens token₀ count₀ token count = counts .tokens - token
 
--- src/plan.rt:93:18
 cast-tokens : tie.Need-cast-tokens Inv-loop μ-loop
 cast-tokens c = search counting
 
--- src/plan.rt:96:5
 loop-holds : tie.Need-loop-holds Inv-loop μ-loop
 loop-holds c = search counting
 
--- src/plan.rt:97:27
 plan-at-requires : tie.Need-plan-at-requires Inv-loop μ-loop
 plan-at-requires c κs = search counting
 
--- src/plan.rt:97:18
 added-by-requires : tie.Need-added-by-requires Inv-loop μ-loop
 added-by-requires c κs = search counting
 
--- src/plan.rt:97:9
 add-count : tie.Need-add-count Inv-loop μ-loop
 add-count c = search counting
 
--- src/plan.rt:98:9
 add-token : tie.Need-add-token Inv-loop μ-loop
 add-token c = search counting
 
--- src/plan.rt:96:5
 loop-less : tie.Need-loop-less Inv-loop μ-loop
 loop-less c = search counting
 
--- src/plan.rt:96:5
 loop-again : tie.Need-loop-again Inv-loop μ-loop
 loop-again c = search counting
 
--- src/plan.rt:89:1
 returns : tie.Need-returns Inv-loop μ-loop
 returns c = search counting
 

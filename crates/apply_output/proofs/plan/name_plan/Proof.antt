@@ -1,52 +1,38 @@
+-- `apply_output::plan::name_plan` meets its contract, by the laws of Planning.
 use Rattle.apply_output.proofs.Planning.{name-plans}
 use Rattle.apply_output.proofs.plan.name_plan.Statement.{statement}
 use Rattle.apply_output.proofs.plan.name_plan.Tie as tie
-use Rattle.apply_output.proofs.plan.name_plan.Reads as reads
-use Rattle.apply_output.proofs.plan.name_plan.Lts as lts
-use Rattle.tree_words.proofs.names_start.Reads as names-start-reads
-use Rattle.tree_words.proofs.word_at.Reads as word-at-reads
 
--- src/plan.rt:44:14
 names-start-requires : tie.Need-names-start-requires
 names-start-requires c κs = search name-plans
 
--- src/plan.rt:44:36
 mul-at : tie.Need-mul-at
 mul-at c = search name-plans
 
--- src/plan.rt:44:14
 add-at : tie.Need-add-at
 add-at c = search name-plans
 
--- src/plan.rt:45:9
 word-at-requires : tie.Need-word-at-requires
 word-at-requires c κs = search name-plans
 
--- src/plan.rt:46:28
 add-word-at : tie.Need-add-word-at
 add-word-at c = search name-plans
 
--- src/plan.rt:46:9
 word-at-requires-2 : tie.Need-word-at-requires-2
 word-at-requires-2 c κs = search name-plans
 
--- src/plan.rt:48:9
 returns : tie.Need-returns
 returns c = search name-plans
 
--- src/plan.rt:52:16
 cast-t8 : tie.Need-cast-t8
 cast-t8 c = search name-plans
 
--- src/plan.rt:52:16
 sub-t7 : tie.Need-sub-t7
 sub-t7 c = search name-plans
 
--- src/plan.rt:53:14
 cast-t10 : tie.Need-cast-t10
 cast-t10 c = search name-plans
 
--- src/plan.rt:40:1
 returns-2 : tie.Need-returns-2
 returns-2 c = search name-plans
 

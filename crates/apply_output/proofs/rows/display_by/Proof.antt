@@ -1,38 +1,29 @@
+-- `apply_output::rows::display_by` meets its contract, by the laws of Rowing.
 use Rattle.apply_output.proofs.Rowing.{displays}
 use Rattle.apply_output.proofs.rows.display_by.Statement.{statement}
 use Rattle.apply_output.proofs.rows.display_by.Tie as tie
-use Rattle.apply_output.proofs.rows.display_by.Reads as reads
-use Rattle.apply_output.proofs.rows.display_by.Lts as lts
 
--- src/rows.rt:20:24
 enum-told : tie.Need-enum-told
 enum-told c = search displays
 
--- src/rows.rt:21:20
 enum-known-plan : tie.Need-enum-known-plan
 enum-known-plan c = search displays
 
--- src/rows.rt:22:28
 enum-told-2 : tie.Need-enum-told-2
 enum-told-2 c = search displays
 
--- src/rows.rt:27:14
 enum-told-3 : tie.Need-enum-told-3
 enum-told-3 c = search displays
 
--- src/rows.rt:16:1
 returns : tie.Need-returns
 returns c = search displays
 
--- src/rows.rt:16:1
 returns-2 : tie.Need-returns-2
 returns-2 c = search displays
 
--- src/rows.rt:16:1
 returns-3 : tie.Need-returns-3
 returns-3 c = search displays
 
--- src/rows.rt:16:1
 returns-4 : tie.Need-returns-4
 returns-4 c = search displays
 
