@@ -58,19 +58,19 @@ rows-append at (x ∷ a) b =
     (rows-append (at + length x) a b ∙ ap (λ n. nameRows (at + length x) a ++ nameRows n b) more)
 
 -- Lengths.
-pub joined-length : {A : Type 0} (enc : A → List ℕ) (w : ℕ) → ((x : A) → length (enc x) ≡ w) → (l : List A) →
+joined-length : {A : Type 0} (enc : A → List ℕ) (w : ℕ) → ((x : A) → length (enc x) ≡ w) → (l : List A) →
     length (join (map enc l)) ≡ w * length l
 unfolding join
 joined-length enc w size [] = sym (mul-zero w)
 joined-length enc w size (x ∷ l) =
     length-append (enc x) (join (map enc l)) ∙ rw (size x, joined-length enc w size l, mul-suc w (length l)) (omega arith)
 
-pub numbered-length : (next : ℕ) (cs : List Changed) → length (numbered next cs) ≡ length cs
+numbered-length : (next : ℕ) (cs : List Changed) → length (numbered next cs) ≡ length cs
 unfolding numbered
 numbered-length next [] = refl
 numbered-length next (x ∷ cs) = ap suc (numbered-length (next + length (nameOf (x .change))) cs)
 
-pub rows-length : (at : ℕ) (ss : List (List ℕ)) → length (nameRows at ss) ≡ length ss
+rows-length : (at : ℕ) (ss : List (List ℕ)) → length (nameRows at ss) ≡ length ss
 unfolding nameRows
 rows-length at [] = refl
 rows-length at (s ∷ ss) = ap suc (rows-length (at + length s) ss)

@@ -41,7 +41,7 @@ module _ (p : Plan) (next display : ℕ) where
 pub ruleset displays = (display-stays, display-line, display-member, display-shown, needs)
 
 -- one number more behind what was put
-pub word-more : (d : List ℕ) (at : ℕ) (a : List ℕ) (x n : ℕ) → length a ≡ n → at + n ≤ length d →
+word-more : (d : List ℕ) (at : ℕ) (a : List ℕ) (x n : ℕ) → length a ≡ n → at + n ≤ length d →
     put (put d at a) (at + n) (wordBytes x) ≡ put d at (a ++ wordBytes x)
 word-more d at a x n e h = rw (← e) (put-put d at a (wordBytes x) (omega arith))
 
