@@ -110,7 +110,7 @@ module _
 
           pub output-done : {out₂ : List ℕ} → out₂ ≡ finished c f count («end» - (s + 8 * count)) out₁ →
               OutputIs «end» classes rows pool c f out out₂
-          output-done j = record { past = omega (arith, laid .past, all-length); is = j ∙ whole }
+          output-done j = record { past = omega (arith, laid .past, all-length); room = laid .room; is = j ∙ whole }
 
 pub ruleset outputs = (
   rows-fit,

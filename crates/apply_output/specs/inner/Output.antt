@@ -112,6 +112,7 @@ pub record OutputIs
     (c : TreeCounts)
     (f old new : List ℕ) : Type 0 where
   pub past : «end» ≡ length (laidOut c f (plannedChanges classes rows pool c f old))
+  pub room : «end» ≤ length old
   pub is : new ≡ laidOut c f (plannedChanges classes rows pool c f old) ++ drop «end» old
 
 abbrev pub OutputBy : Wrote → (classes rows : List (List ℕ)) (pool : List ℕ) (c : TreeCounts) (f old new : List ℕ) → Type 0
