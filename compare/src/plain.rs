@@ -3,6 +3,7 @@
 //!
 //! It takes its time and its memory as it likes, but for the pool, of which it makes no more than was lent.
 
+pub mod applying;
 mod characters;
 mod descriptors;
 mod json;
