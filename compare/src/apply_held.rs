@@ -7,7 +7,7 @@ use crate::original::doors;
 use crate::plain::applying::{Applied, answered, apply};
 use crate::proved;
 use crate::random::Random;
-use crate::report::{Comparison, Held, Report, Subject};
+use crate::report::{Comparison, Disagreement, Held, Report, Subject};
 #[cfg(original)]
 use crate::smali_trees::SmaliTree;
 use crate::tree_files::TreeFile;
@@ -18,6 +18,9 @@ const RUBBISH: u8 = 0xA5;
 
 /// An answer, and what became of the tree.
 type Answer = (Applied, &'static str);
+
+/// A length, or the disagreement that was found on the way.
+type Judged = Result<usize, Disagreement>;
 
 /// A tree file that tables are applied to, and how many bytes are lent for the output.
 #[derive(Clone)]
@@ -214,8 +217,8 @@ pub struct Applying {
     mapping: Option<Rc<Loaded>>,
 }
 
-impl Applying {
-    pub fn new() -> Self {
+impl Default for Applying {
+    fn default() -> Self {
         Applying {
             #[cfg(original)]
             loaded: Comparison::new(LOADED),
@@ -225,7 +228,9 @@ impl Applying {
             mapping: None,
         }
     }
+}
 
+impl Applying {
     /// Whether the mapping loads, which is then the one that is applied.
     pub fn load(&mut self, text: &str) -> bool {
         self.mapping = Loaded::of(text.as_bytes());
@@ -310,6 +315,3 @@ impl Applying {
         report.add(self.tables);
     }
 }
-
-/// A length, or the disagreement that was found on the way.
-type Judged = Result<usize, crate::report::Disagreement>;

@@ -75,7 +75,7 @@ fn damaged(random: &mut Random, held: &mut Applying, text: &str) -> Held {
 
 pub fn run(settings: &Settings, report: &mut Report) -> Held {
     let mut random = settings.random("applying");
-    let mut held = Applying::new();
+    let mut held = Applying::default();
     apply_every::run(settings, &mut held)?;
     for _ in settings.turns(150_000) {
         let text = members::mapping(&mut random);

@@ -14,6 +14,7 @@
 pub mod apply_every;
 pub mod apply_held;
 pub mod apply_limits;
+pub mod apply_list;
 pub mod apply_trees;
 pub mod applying;
 pub mod arguments;

@@ -34,6 +34,11 @@ impl TreeFile {
         file
     }
 
+    /// How many tokens there are.
+    pub fn tokens(&self) -> usize {
+        self.nodes.iter().map(|(_, tokens)| tokens.len()).sum()
+    }
+
     /// What a file that is well formed is written from.
     pub fn read(file: &[u8]) -> Option<Self> {
         let tree = trees::read(file).filter(trees::Tree::is_well_formed)?;
