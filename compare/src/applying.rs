@@ -4,6 +4,7 @@
 use crate::apply_every;
 use crate::apply_held::Applying;
 use crate::apply_limits;
+use crate::apply_mappings;
 use crate::apply_trees::{self, Words};
 use crate::members;
 use crate::plain;
@@ -11,11 +12,13 @@ use crate::random::Random;
 use crate::report::{Held, Report, Settings};
 use crate::synthetic::{self, Form};
 use crate::{lookup_tables, tree_damage};
+use std::fs;
 use std::rc::Rc;
 
-/// Trees of each small mapping, and of each one as shrinkers write them.
+/// Trees of each small mapping, of each one as shrinkers write them, and of a real one.
 const TREES: usize = 20;
 const LONG_TREES: usize = 400;
+const REAL_TREES: u64 = 2_000;
 
 /// What is read of a mapping by the plain program, whose names trees are made of.
 fn words(text: &str) -> Option<Words> {
@@ -73,23 +76,38 @@ fn damaged(random: &mut Random, held: &mut Applying, text: &str) -> Held {
     Ok(())
 }
 
-pub fn run(settings: &Settings, report: &mut Report) -> Held {
-    let mut random = settings.random("applying");
-    let mut held = Applying::default();
-    apply_every::run(settings, &mut held)?;
+/// Trees of all mappings.
+fn all(settings: &Settings, random: &mut Random, held: &mut Applying) -> Held {
     for _ in settings.turns(150_000) {
-        let text = members::mapping(&mut random);
-        trees(&mut random, &mut held, &text, TREES)?;
+        let text = members::mapping(random);
+        trees(random, held, &text, TREES)?;
     }
-    for _ in settings.turns(500) {
-        let text = members::mapping(&mut random);
-        damaged(&mut random, &mut held, &text)?;
+    for _ in settings.turns(20_000) {
+        let text = apply_mappings::alike(random);
+        trees(random, held, &text, TREES)?;
     }
     for turn in settings.turns(300) {
         let form = Form::ALL[turn as usize % 2];
         let length = 500 + random.below(8_000);
-        let text = synthetic::mapping(&mut random, form, length);
-        trees(&mut random, &mut held, &text, LONG_TREES)?;
+        let text = synthetic::mapping(random, form, length);
+        trees(random, held, &text, LONG_TREES)?;
+    }
+    let real = settings.real.as_ref().map(fs::read_to_string);
+    if let Some(Ok(text)) = real {
+        let count = settings.turns(REAL_TREES).end as usize;
+        trees(random, held, &text, count)?;
+    }
+    Ok(())
+}
+
+pub fn run(settings: &Settings, report: &mut Report) -> Held {
+    let mut random = settings.random("applying");
+    let mut held = Applying::default();
+    apply_every::run(settings, &mut held)?;
+    all(settings, &mut random, &mut held)?;
+    for _ in settings.turns(500) {
+        let text = members::mapping(&mut random);
+        damaged(&mut random, &mut held, &text)?;
     }
     apply_limits::run(&mut held)?;
     held.report(report);
