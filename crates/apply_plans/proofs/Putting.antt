@@ -27,7 +27,19 @@ use Rattle.tree_rule.proofs.PutWords.{drop-put, word-before, word-after, word-p
 use Rattle.name_lines.specs.LineNames.{rawLine}
 use Rattle.apply_rule.specs.inner.Plans.{shownAt}
 use Rattle.apply_members.specs.inner.Notes.{lineBy, lineNumber}
-use Rattle.apply_plans.specs.inner.Noted.{linedWord, LinedTo, Lined, memberPut, MemberInside}
+use Rattle.apply_plans.specs.inner.Noted.{
+  wordAbove,
+  ParentBelow,
+  linedWord,
+  LinedTo,
+  Lined,
+  memberPut,
+  contextWord,
+  MemberInside,
+  headPut,
+  HeadReady,
+}
+use Rattle.apply_members.specs.declared.node.NodeNote.{NodeNote}
 
 -- The row of a member name.
 module _ (c : TreeCounts) (member named : ℕ) (out : List ℕ) where
@@ -176,3 +188,36 @@ pub ruleset lining = (
   line-word-fits,
   needs,
 )
+
+-- The head of a node.
+pub head-put : (c : TreeCounts) (node w member named : ℕ) (out : List ℕ) {mid : List ℕ} → mid ≡ put out (16 + 8 * node) (wordBytes w) →
+    {new : List ℕ} → new ≡ memberPut c member named mid → new ≡ headPut c node w member named out
+head-put c node w member named out e q = q ∙ ap (memberPut c member named) e
+
+module _ (c : TreeCounts) (f : List ℕ) (node member named : ℕ) (out : List ℕ) (k : HeadReady c f node member named out) where
+  pub node-row-inside : nodesStart + 8 * node + 8 ≤ length f
+  node-row-inside = omega (arith, k .there, k .formed .size)
+
+  pub node-row-room : nodesStart + 8 * node + 8 ≤ length out
+  node-row-room = omega (arith, k .there, k .room)
+
+  pub node-parent : ParentBelow f node
+  node-parent = record { lower = λ h. k .formed .lower node h (k .there) }
+
+  pub node-word-room : 16 + 8 * node + 4 ≤ length out
+  node-word-room = omega (arith, k .there, k .room)
+
+  pub node-rows-fit : length out < 2 ^ 64 → Fits w64 (8 * node)
+  node-rows-fit h = omega (arith, k .there, k .room)
+
+  pub node-place-fits : length out < 2 ^ 64 → Fits w64 (16 + 8 * node)
+  node-place-fits h = omega (arith, k .there, k .room)
+
+  pub head-member : MemberInside c member named
+  head-member = k .name
+
+  pub head-room : (w : ℕ) {mid : List ℕ} → mid ≡ put out (16 + 8 * node) (wordBytes w) → fileLength c ≤ length mid
+  head-room w e = rw (e, length-put out (16 + 8 * node) (wordBytes w) (omega (arith, bytes-length w, k .there, k .room))) (k .room)
+
+pub ruleset heading =
+    (node-row-inside, node-row-room, node-parent, node-word-room, node-rows-fit, node-place-fits, head-member, head-room, head-put, needs)

@@ -18,6 +18,7 @@ ghost use Rattle.table_index.specs.inner.Index.{IndexBy};
 ghost use Rattle.name_index.specs.inner.Chains.{Chained};
 ghost use Rattle.tree_rule.specs.Files.{fileLength};
 ghost use Rattle.tree_rule.specs.Theorems.{FormedBy};
+ghost use Rattle.apply_rule.specs.Applying.{mostTree};
 ghost use Rattle.apply_members.specs.inner.Notes.{homeRow};
 ghost use Rattle.apply_plans.specs.inner.Noted.{Blank};
 ghost use Rattle.apply_plans.specs.inner.Passed.{PlansMade};
@@ -46,6 +47,7 @@ pub fn plan_nodes(
     pool: &[u8],
 )
     requires { ⌜ FormedBy counts (now tree)
+        × (length (now tree) ≤ mostTree)
         × (fileLength counts ≤ length (now out))
         × Blank (now out)
         × IndexBy Raw (now classes) (now pool) (now index)

@@ -59,7 +59,7 @@ module _ {A : Type 0} (d : List A) (at : ℕ) (s : List A) (fits : at + length s
       ∙ drop-append-le a (take at d) s (omega (arith, front))
       ∙ ap (λ l. l ++ s) (drop-take a at d)
 
-word-take : (s : List ℕ) (e p : ℕ) → p + 4 ≤ e → wordAt (take e s) p ≡ wordAt s p
+pub word-take : (s : List ℕ) (e p : ℕ) → p + 4 ≤ e → wordAt (take e s) p ≡ wordAt s p
 unfolding wordAt
 word-take s e p h =
     rw (

@@ -1,5 +1,6 @@
 -- What stands in the output while plans are made.
 use mathlib.Core.Path.{_≡_}
+use mathlib.Core.Bool.{Bool}
 use mathlib.Core.List.{List}
 use Prim.Native.Nat.{ℕ, zero, suc, _+_, _*_, _≤_, _<_}
 use lib.Dec.{eqb}
@@ -58,12 +59,25 @@ abbrev pub memberPut : TreeCounts → ℕ → ℕ → List ℕ → List ℕ
 memberPut c member named out = pick (eqb named 0) out (put out (shownAt c member) (wordBytes named))
 
 -- the number of the line context of a node
-abbrev pub contextWord : List ℕ → List ℕ → ℕ → NodeNote → ℕ
-contextWord f out node note = pick (note .inherits) (wordAbove f out node) (note .lines)
+abbrev pub contextWord : List ℕ → List ℕ → ℕ → Bool → ℕ → ℕ
+contextWord f out node inherits lines = pick inherits (wordAbove f out node) lines
+
+abbrev pub contextNoted : List ℕ → List ℕ → ℕ → NodeNote → ℕ
+contextNoted f out node note = contextWord f out node (note .inherits) (note .lines)
 
 -- a member name that shows a row is a token
 pub record MemberInside (c : TreeCounts) (member named : ℕ) : Type 0 where
   pub inside : 0 < named → member < c .tokens
+
+-- the output with both
+abbrev pub headPut : TreeCounts → ℕ → ℕ → ℕ → ℕ → List ℕ → List ℕ
+headPut c node w member named out = memberPut c member named (put out (nodesStart + 8 * node) (wordBytes w))
+
+pub record HeadReady (c : TreeCounts) (f : List ℕ) (node member named : ℕ) (out : List ℕ) : Type 0 where
+  pub formed : FormedBy c f
+  pub room : fileLength c ≤ length out
+  pub there : node < c .nodes
+  pub name : MemberInside c member named
 
 -- Nothing stands there yet.
 pub record Blank (out : List ℕ) : Type 0 where
@@ -75,6 +89,7 @@ pub record NodeReady (c : TreeCounts) (f : List ℕ) (node first count : ℕ) (n
   pub room : fileLength c ≤ length out
   pub there : node < c .nodes
   pub tokens : first + count ≤ c .tokens
+  pub named-small : note .named < 4294967296
   pub member : 0 < note .named → (first ≤ note .member) × (note .member < first + count)
   pub blank : (t : ℕ) → first ≤ t → t < c .tokens → wordAt out (shownAt c t) ≡ 0
 
@@ -90,10 +105,10 @@ pub record NodePlanned
     (old new : List ℕ) : Type 0 where
   pub size : length new ≡ length old
   pub contexts : (k : ℕ) → k < node → wordAt new (nodesStart + 8 * k) ≡ wordAt old (nodesStart + 8 * k)
-  pub context : wordAt new (nodesStart + 8 * node) ≡ contextWord f old node note
+  pub context : wordAt new (nodesStart + 8 * node) ≡ contextNoted f old node note
   pub earlier : (t : ℕ) → t < first → wordAt new (shownAt c t) ≡ wordAt old (shownAt c t)
   pub here : (k : ℕ) → k < count →
       wordAt new (shownAt c (first + k))
-      ≡ linedWord classes rows pool home (contextWord f old node note) (tokenAt c f (first + k))
+      ≡ linedWord classes rows pool home (contextNoted f old node note) (tokenAt c f (first + k))
       (pick (eqb (first + k) (note .member)) (note .named) 0)
   pub behind : drop (tokensStart c + 12 * (first + count)) new ≡ drop (tokensStart c + 12 * (first + count)) old

@@ -1,13 +1,9 @@
+-- `apply_plans::lines::plan_lines` meets its contract, by the laws of Putting and an invariant that says what is done and what is left.
 use Rattle.apply_plans.proofs.Putting.{lining}
 use Prim.Native.Nat.{_-_}
 use Rattle.apply_plans.specs.inner.Noted.{LinedTo}
 use Rattle.apply_plans.proofs.lines.plan_lines.Statement.{statement}
 use Rattle.apply_plans.proofs.lines.plan_lines.Tie as tie
-use Rattle.apply_plans.proofs.lines.plan_lines.Reads as reads
-use Rattle.apply_plans.proofs.lines.plan_lines.Lts as lts
-use Rattle.apply_members.proofs.noted_line.Reads as noted-line-reads
-use Rattle.tree_words.proofs.put_word.Reads as put-word-reads
-use Rattle.tree_words.proofs.word_at.Reads as word-at-reads
 
 abbrev Inv-loop : tie.InvT-loop
 Inv-loop out₀ tree base count context home chains classes members pool token₀ out token = LinedTo classes members pool home context tree base count out₀ out token
@@ -15,75 +11,57 @@ Inv-loop out₀ tree base count context home chains classes members pool token�
 abbrev μ-loop : tie.MeasureT-loop
 μ-loop out₀ tree base count context home chains classes members pool token₀ out token = count - token
 
--- src/lines.rt:39:5
 loop-holds : tie.Need-loop-holds Inv-loop μ-loop
 loop-holds c = search lining
 
--- src/lines.rt:40:25
 mul-at : tie.Need-mul-at Inv-loop μ-loop
 mul-at c = search lining
 
--- src/lines.rt:40:18
 add-at : tie.Need-add-at Inv-loop μ-loop
 add-at c = search lining
 
--- src/lines.rt:41:9
 add-token : tie.Need-add-token Inv-loop μ-loop
 add-token c = search lining
 
--- src/lines.rt:42:12
 word-at-requires : tie.Need-word-at-requires Inv-loop μ-loop
 word-at-requires c κs = search lining
 
--- src/lines.rt:39:5
 loop-less : tie.Need-loop-less Inv-loop μ-loop
 loop-less c = search lining
 
--- src/lines.rt:39:5
 loop-again : tie.Need-loop-again Inv-loop μ-loop
 loop-again c = search lining
 
--- src/lines.rt:45:33
 add-word-at : tie.Need-add-word-at Inv-loop μ-loop
 add-word-at c = search lining
 
--- src/lines.rt:45:13
 word-at-requires-2 : tie.Need-word-at-requires-2 Inv-loop μ-loop
 word-at-requires-2 c κs = search lining
 
--- src/lines.rt:46:37
 add-word-at-2 : tie.Need-add-word-at-2 Inv-loop μ-loop
 add-word-at-2 c = search lining
 
--- src/lines.rt:46:13
 word-at-requires-3 : tie.Need-word-at-requires-3 Inv-loop μ-loop
 word-at-requires-3 c κs = search lining
 
--- src/lines.rt:47:13
 noted-line-requires : tie.Need-noted-line-requires Inv-loop μ-loop
 noted-line-requires c κs = search lining
 
--- src/lines.rt:48:23
 add-put-word : tie.Need-add-put-word Inv-loop μ-loop
 add-put-word c = search lining
 
--- src/lines.rt:48:9
 put-word-requires : tie.Need-put-word-requires Inv-loop μ-loop
 put-word-requires c κs = search lining
 
--- src/lines.rt:39:5
 loop-less-2 : tie.Need-loop-less-2 Inv-loop μ-loop
 loop-less-2 c = search lining
 
--- src/lines.rt:39:5
 loop-again-2 : tie.Need-loop-again-2 Inv-loop μ-loop
 loop-again-2 c = search lining
 
--- src/lines.rt:18:1
 same-length : tie.Need-same-length Inv-loop μ-loop
 same-length c = search lining
 
--- src/lines.rt:18:1
 returns : tie.Need-returns Inv-loop μ-loop
 returns c = search lining
 

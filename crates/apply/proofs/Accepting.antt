@@ -1,0 +1,118 @@
+-- What is answered, and what the output is. Assumes nothing.
+use mathlib.Core.Path.{_≡_, refl, sym, _∙_, ap}
+use mathlib.Core.Bool.{Bool, true, false, not}
+use mathlib.Core.List.{List, _++_, append-assoc, append-nil}
+use mathlib.Core.Logic.{_⊎_, inl, inr}
+use Prim.Native.Nat.{ℕ, zero, suc, _+_, _-_, _≤_, _<_, min}
+use native.Mathlib.Omega.{arith}
+use lib.Dec.{leb}
+use lib.ListN.{length, take, drop, replicate, length-take, length-replicate, replicate-append-replicate}
+use mir.Val.{Fits}
+use mir.Syntax.{w32}
+use borrow.Author.Needs.{needs}
+use borrow.Author.Tests.{le-leb, lt-leb}
+use Rattle.ground.specs.Choice.{pick, both}
+use Rattle.ground.proofs.Cases.{le-or-lt}
+use Rattle.ground.proofs.Parts.{prefix-whole}
+use Rattle.table_pool.specs.declared.write.Wrote.{Wrote}
+use Rattle.table_pool.specs.declared.write.Wrote.the-variants.{Done, NoRoom}
+use Rattle.table_rows.specs.Rows.{mostClasses, mostMembers}
+use Rattle.table_rows.specs.Tables.{Tables, tables}
+use Rattle.tables.specs.declared.check.Used.{Used}
+use Rattle.tables.specs.Check.{wellFormed}
+use Rattle.tables.proofs.Checking.{formed}
+use Rattle.tree_rule.specs.Checks.{wellFormedFile}
+use Rattle.apply_rule.specs.declared.Applied.{Applied}
+use Rattle.apply_rule.specs.declared.Applied.the-variants as answer
+use Rattle.apply_rule.specs.Applying.{appliedFile, mostTree, fitsIn, outputIn, applyAnswer, applyOutput}
+use Rattle.apply_rule.specs.inner.Plans.{mappingIn}
+use Rattle.apply.specs.inner.Filled.{Zero, FillReady, AcceptReady, FilledTo, NoneFilled, FilledBy, fittingAnswer, fittingOutput}
+
+zero-take : (k n : ℕ) → k ≤ n → _≡_ {A = List ℕ} (take k (replicate n 0)) (replicate k 0)
+zero-take zero n h = refl
+zero-take (suc k) zero h = absurd (omega arith)
+zero-take (suc k) (suc n) h = rw (zero-take k n (omega arith))
+
+zero-drop : (k n : ℕ) → _≡_ {A = List ℕ} (drop k (replicate n 0)) (replicate (n - k) 0)
+zero-drop zero n = let z : n - 0 ≡ n = omega arith in rw z
+zero-drop (suc k) zero = let z : 0 - suc k ≡ 0 = omega arith in rw z
+zero-drop (suc k) (suc n) = let z : suc n - suc k ≡ n - k = omega arith in rw z (zero-drop k n)
+
+module _ (classes rows : List (List ℕ)) (f out : List ℕ) (k : AcceptReady classes rows f out) {room : ℕ} (e : room ≡ min (length out) mostTree) where
+  part-length : length (take room out) ≡ room
+  part-length = length-take room out ∙ (let z : min room (length out) ≡ room = omega arith in z)
+
+  pub part-ready : FillReady classes rows f (take room out)
+  part-ready =
+      record {
+        formed = k .formed;
+        file = k .file;
+        most = omega (arith, part-length);
+        zero = ap (take room) (k .zero) ∙ zero-take room (length out) (omega arith) ∙ ap (λ n. replicate n 0) (sym part-length);
+        few-classes = k .few-classes;
+        few-members = k .few-members;
+      }
+
+  pub room-inside : room ≤ length out
+  room-inside = omega arith
+
+  module _ (file : List ℕ) where
+    fits-yes : length file ≤ room → fitsIn (length out) (length file) ≡ true
+    fits-yes h = rw (le-leb (length file) (length out) (omega arith)) (le-leb (length file) mostTree (omega arith))
+
+    fits-no : room < length file → fitsIn (length out) (length file) ≡ false
+    fits-no h = go (le-or-lt (length file) (length out))
+      where
+        go : (length file ≤ length out) ⊎ (length out < length file) → fitsIn (length out) (length file) ≡ false
+        go (inl l) = rw (le-leb (length file) (length out) l) (lt-leb (length file) mostTree (omega arith))
+        go (inr l) = rw (lt-leb (length file) (length out) l)
+
+    module _ {«end» : ℕ} {part : List ℕ} (d : FilledTo «end» file (take room out) part) where
+      pub end-fits : Fits w32 «end»
+      end-fits = omega (arith, d .room, part-length)
+
+      pub answer-done : answer.Done «end» ≡ fittingAnswer (length out) file
+      answer-done = ap answer.Done (d .past) ∙ sym (rw (fits-yes (omega (arith, d .past, d .room, part-length))))
+
+      pub output-done : {new : List ℕ} → new ≡ part ++ drop room out → new ≡ fittingOutput (length out) file
+      output-done {new} g =
+          let left : length (take room out) - «end» + (length out - room) ≡ length out - length file = omega (arith, d .past, d .room, part-length) in
+          let rest : drop room out ≡ replicate (length out - room) 0 = ap (drop room) (k .zero) ∙ zero-drop room (length out) in
+          g ∙ ap (λ l. l ++ drop room out) (d .is) ∙ ap (λ l. (file ++ replicate (length (take room out) - «end») 0) ++ l) rest
+          ∙ append-assoc file (replicate (length (take room out) - «end») 0) (replicate (length out - room) 0)
+          ∙ ap (λ l. file ++ l) (replicate-append-replicate (length (take room out) - «end») (length out - room) 0)
+          ∙ ap (λ n. file ++ replicate n 0) left
+          ∙ sym (rw (fits-yes (omega (arith, d .past, d .room, part-length))))
+
+    module _ (d : NoneFilled file (take room out)) where
+      pub answer-none : answer.NoRoom ≡ fittingAnswer (length out) file
+      answer-none = sym (rw (fits-no (omega (arith, d .over, part-length))))
+
+      pub output-none : {new : List ℕ} → new ≡ replicate (length out) 0 → new ≡ fittingOutput (length out) file
+      output-none g = g ∙ sym (rw (fits-no (omega (arith, d .over, part-length))))
+
+    -- by the answer of the filling
+    module _ (part : List ℕ) (r : Wrote) (w : FilledBy r file (take room out) part) where
+      told : {«end» : ℕ} → r ≡ Done «end» → FilledTo «end» file (take room out) part
+      told g = rw g at w
+
+      told-none : r ≡ NoRoom → NoneFilled file (take room out)
+      told-none g = rw g at w
+
+      pub fill-fits : {«end» : ℕ} → r ≡ Done «end» → Fits w32 «end»
+      fill-fits g = end-fits (told g)
+
+      pub fill-answer : {«end» : ℕ} → r ≡ Done «end» → answer.Done «end» ≡ fittingAnswer (length out) file
+      fill-answer g = answer-done (told g)
+
+      pub fill-output : {«end» : ℕ} → r ≡ Done «end» → part ++ drop room out ≡ fittingOutput (length out) file
+      fill-output g = output-done (told g) refl
+
+      pub fill-refused : r ≡ NoRoom → answer.NoRoom ≡ fittingAnswer (length out) file
+      fill-refused g = answer-none (told-none g)
+
+      pub fill-zero : r ≡ NoRoom → {new : List ℕ} → new ≡ replicate (length (part ++ drop room out)) 0 → length (part ++ drop room out) ≡ length out →
+          new ≡ fittingOutput (length out) file
+      fill-zero g h l = output-none (told-none g) (h ∙ ap (λ n. replicate n 0) l)
+
+pub ruleset accepting = (part-ready, room-inside, prefix-whole, fill-fits, fill-answer, fill-output, fill-refused, fill-zero, needs)

@@ -1,0 +1,4 @@
+-- Laws of applying.
+pub mod Filling
+pub mod Accepting
+pub mod Answering

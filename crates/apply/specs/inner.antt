@@ -1,0 +1,2 @@
+-- Words of inner contracts: no rule cites them.
+pub mod Filled

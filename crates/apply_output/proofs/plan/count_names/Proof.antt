@@ -1,0 +1,54 @@
+-- `apply_output::plan::count_names` meets its contract, by the laws of Planning and an invariant that says what is done and what is left.
+use Rattle.apply_output.proofs.Planning.{counting, Counting}
+use Prim.Native.Nat.{_-_}
+use Rattle.apply_output.proofs.plan.count_names.Statement.{statement}
+use Rattle.apply_output.proofs.plan.count_names.Tie as tie
+
+abbrev Inv-loop : tie.InvT-loop
+Inv-loop out tree counts tokens token₀ count₀ token count = Counting counts tree out token count
+
+abbrev μ-loop : tie.MeasureT-loop
+μ-loop out tree counts tokens token₀ count₀ token count = counts .tokens - token
+
+cast-tokens : tie.Need-cast-tokens Inv-loop μ-loop
+cast-tokens c = search counting
+
+loop-holds : tie.Need-loop-holds Inv-loop μ-loop
+loop-holds c = search counting
+
+plan-at-requires : tie.Need-plan-at-requires Inv-loop μ-loop
+plan-at-requires c κs = search counting
+
+added-by-requires : tie.Need-added-by-requires Inv-loop μ-loop
+added-by-requires c κs = search counting
+
+add-count : tie.Need-add-count Inv-loop μ-loop
+add-count c = search counting
+
+add-token : tie.Need-add-token Inv-loop μ-loop
+add-token c = search counting
+
+loop-less : tie.Need-loop-less Inv-loop μ-loop
+loop-less c = search counting
+
+loop-again : tie.Need-loop-again Inv-loop μ-loop
+loop-again c = search counting
+
+returns : tie.Need-returns Inv-loop μ-loop
+returns c = search counting
+
+pub count-names-spec : {M : Type 1} → statement M
+count-names-spec =
+    tie.close
+    (tie.spec
+    Inv-loop
+    μ-loop
+    cast-tokens
+    loop-holds
+    plan-at-requires
+    added-by-requires
+    add-count
+    add-token
+    loop-less
+    loop-again
+    returns)

@@ -1,0 +1,4 @@
+-- Words of inner contracts: no rule cites them.
+pub mod Plan
+pub mod Turn
+pub mod Output

@@ -1,0 +1,101 @@
+// What becomes of a token, by what is noted in the output.
+use tree_rule::Token;
+use tree_rule::TreeCounts;
+use tree_words::names_start;
+use tree_words::token_row;
+use tree_words::tokens_start;
+use tree_words::word_at;
+ghost use mathlib.Core.Path.{_≡_};
+ghost use Prim.Native.Nat.{_≤_, _<_};
+ghost use lib.ListN.{length};
+ghost use Rattle.tree_rule.specs.Files.{fileLength};
+ghost use Rattle.tree_rule.specs.Theorems.{FormedBy};
+ghost use Rattle.apply_output.specs.inner.Plan.{memberPlan, namePlan, planAt, added, addedIn};
+
+pub enum Plan {
+    Stays,
+    // A line is put there.
+    Line(u32),
+    // The display name of a member row is appended.
+    Member(usize),
+    // A raw name is appended with its known pieces shown; the first one starts at the place `start` and is that of a class row.
+    Shown {
+        name: usize,
+        start: usize,
+        row: usize,
+    },
+}
+
+// Of a member name, by the number of its row.
+fn member_plan(number: u32) -> Plan
+    ensures { λ r. ⌜ r ≡ memberPlan number ⌝ }
+{
+    if number == 0 {
+        return Plan::Stays;
+    }
+    Plan::Member(number as usize - 1)
+}
+
+// Of a descriptor, by the note about its raw name.
+fn name_plan(out: &[u8], counts: TreeCounts, name: usize) -> Plan
+    requires { ⌜ (fileLength counts ≤ length (now out)) × (name < counts .names) ⌝ }
+    ensures { λ r. ⌜ r ≡ namePlan counts (now (out .entry)) name ⌝ }
+{
+    let at = names_start(counts) + 8 * name;
+    let number = word_at(out, at);
+    let row = word_at(out, at + 4);
+    if number == 0 {
+        return Plan::Stays;
+    }
+    Plan::Shown {
+        name,
+        start: number as usize - 1,
+        row: row as usize,
+    }
+}
+
+// Of a token, by its number.
+pub fn plan_at(out: &[u8], tree: &[u8], counts: TreeCounts, token: usize) -> Plan
+    requires { ⌜ FormedBy counts (now tree) × (fileLength counts ≤ length (now out)) × (token < counts .tokens) ⌝ }
+    ensures { λ r. ⌜ r ≡ planAt counts (now (tree .entry)) (now (out .entry)) token ⌝ }
+{
+    let at = tokens_start(counts) + 12 * token;
+    let word = word_at(out, at + 8);
+    match token_row(tree, at) {
+        Token::Other { a: _, b: _ } => Plan::Stays,
+        Token::MemberName { raw: _, display: _ } => member_plan(word),
+        Token::Descriptor { raw, display: _ } => name_plan(out, counts, raw as usize),
+        Token::SourceLine { raw: _, display: _ } => Plan::Line(word),
+    }
+}
+
+// How many names a token adds.
+pub fn added_by(plan: Plan) -> usize
+    ensures { λ r. ⌜ r ≡ added plan ⌝ }
+{
+    match plan {
+        Plan::Stays => 0,
+        Plan::Line(_) => 0,
+        Plan::Member(_) => 1,
+        Plan::Shown {
+            name: _,
+            start: _,
+            row: _,
+        } => 1,
+    }
+}
+
+// How many names all tokens add.
+pub fn count_names(out: &[u8], tree: &[u8], counts: TreeCounts) -> usize
+    requires { ⌜ FormedBy counts (now tree) × (fileLength counts ≤ length (now out)) ⌝ }
+    ensures { λ r. ⌜ r ≡ addedIn counts (now (tree .entry)) (now (out .entry)) ⌝ }
+{
+    let tokens = counts.tokens as usize;
+    let mut token = 0;
+    let mut count = 0;
+    while token < tokens {
+        count += added_by(plan_at(out, tree, counts, token));
+        token += 1;
+    }
+    count
+}
