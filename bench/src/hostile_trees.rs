@@ -2,18 +2,17 @@
 //! nothing is known, so that the output is as long as the tree.
 
 use crate::hostile;
-use crate::times;
+use crate::times::{self, Times};
 use clumarief_compare::lookup_tables::{self, LentTables};
-use clumarief_compare::plain::applying::LONGEST_TREE;
 use clumarief_compare::proved;
 use clumarief_compare::tree_files::TreeFile;
 use std::time::Duration;
 
 /// In KiB, up to the longest that a tree file may be.
-const LENGTHS: [usize; 4] = [512, 1_024, 2_048, 4_096];
+const LENGTHS: [usize; 4] = [64, 256, 1_024, 4_096];
 
-/// A call that takes longer than this is made no longer.
-const MOST: Duration = Duration::from_secs(2);
+/// Where a call takes longer than this, longer trees are left out.
+const MOST: Duration = Duration::from_secs(1);
 
 /// The four counts, the root's row, and a few short names with their rows.
 const HEAD: usize = 128;
@@ -72,24 +71,17 @@ fn overlapping(length: usize, part: &str, tokens: &[[u32; 3]]) -> TreeFile {
     tree
 }
 
-/// A method of the class given, and each node below the one before it, with a line; every other one names the method again.
+/// A method that the mapping knows, and each node below the one before it, with a line.
 fn chain(length: usize) -> TreeFile {
-    let method = [[1, 0, 0], [2, 1, 1]];
-    let count = (length - HEAD) / (8 + 12 + 12);
-    let node = |row: usize| {
-        let parent = (row as u32).checked_sub(1).unwrap_or(u32::MAX);
-        let mut tokens = vec![[3, 5, 5]];
-        if row.is_multiple_of(2) {
-            tokens.extend(method);
-        }
-        (parent, tokens)
-    };
-    tree((0..count).map(node).collect())
+    let count = (length - HEAD) / (8 + 12);
+    let below = (0..count).map(|row| (row as u32, vec![[3, row as u32 % 12, 0]]));
+    let method = (u32::MAX, vec![[1, 0, 0], [2, 1, 1]]);
+    tree([method].into_iter().chain(below).collect())
 }
 
-/// Nothing but lines in one method that the mapping knows.
+/// Nothing but lines in such a method.
 fn lines(length: usize) -> TreeFile {
-    let count = (length - HEAD) / 12 - 2;
+    let count = (length - HEAD) / 12;
     let lines = (0..count).map(|at| [3, at as u32 % 12, 0]);
     let method = [[1, 0, 0], [2, 1, 1]].into_iter();
     tree(vec![(u32::MAX, method.chain(lines).collect())])
@@ -102,7 +94,7 @@ const MEMBER: [[u32; 3]; 2] = [[1, 0, 0], DESCRIPTOR];
 const NAMED: [[u32; 3]; 2] = [[1, 3, 3], [2, 1, 1]];
 const OWNED: [[u32; 3]; 3] = [DESCRIPTOR, [1, 0, 0], [2, 1, 1]];
 
-/// Those in which a piece is known need more than there may be.
+/// The one whose pieces are known needs more than there may be.
 const MADE: [(&str, Maker); 15] = [
     ("one name, pieces", |l| long_name(l, "Lq;", &[DESCRIPTOR])),
     ("one name, long pieces", |l| {
@@ -133,15 +125,51 @@ b.Other -> yy:
     a.Main m -> c
 ";
 
-/// The lengths up to the first at which a call takes too long.
-fn lengths(lent: &LentTables, class: &[u8], made: Maker) -> usize {
-    let in_time = |length: &&usize| {
-        let file = made(**length * 1_024).written();
-        let mut output = vec![0; LONGEST_TREE];
-        let call = || proved::apply(&lent.tables(), class, &file, &mut output);
-        times::time(call).1 < MOST
-    };
-    LENGTHS.iter().take_while(in_time).count()
+/// More output than trees need of which next to nothing is replaced.
+const MORE: usize = 64;
+
+/// The times of calls, and the number that they answered.
+fn times_of(lent: &LentTables, file: &[u8], runs: u64) -> (Times, u32) {
+    let mut output = vec![0; file.len() + MORE];
+    let mut call = || times::time(|| proved::apply(&lent.tables(), b"Lx;", file, &mut output)[0]);
+    let (number, first) = call();
+    let more = if first < MOST { runs } else { 1 };
+    let times = (1..more).map(|_| call().1);
+    (
+        Times::of([first].into_iter().chain(times).collect()),
+        number,
+    )
+}
+
+/// A number of nanoseconds for a column.
+fn column(nanos: f64) -> String {
+    if nanos < 1_000.0 {
+        format!("{nanos:>9.3}")
+    } else {
+        format!("{nanos:>9.0}")
+    }
+}
+
+/// Prints a row as `hostile::print_row_of` does, with - for what is left out.
+fn row(lent: &LentTables, name: &str, made: Maker, runs: u64) {
+    let (mut row, mut last, mut said, mut slow) = (String::new(), String::new(), 0, false);
+    for length in LENGTHS {
+        if slow {
+            row += &format!("{:>9}", "-");
+            continue;
+        }
+        let file = made(length * 1_024).written();
+        let (times, number) = times_of(lent, &file, runs);
+        let of_byte = |time: Duration| time.as_secs_f64() * 1e9 / file.len() as f64;
+        row += &column(of_byte(times.best()));
+        last = format!(
+            "{}{:>7.1}%",
+            column(of_byte(times.median())),
+            times.spread()
+        );
+        (said, slow) = (number, times.best() > MOST);
+    }
+    println!("{name:<26}{said:<9}{row}{last}");
 }
 
 pub fn run(runs: u64) {
@@ -150,16 +178,6 @@ pub fn run(runs: u64) {
     };
     hostile::print_head_of("hostile applying", "answer", &LENGTHS);
     for (name, made) in MADE {
-        let class = b"Lx;";
-        let there = lengths(&lent, class, made);
-        if there < LENGTHS.len() {
-            println!("{name:<26}over 2 seconds at {} KiB", LENGTHS[there]);
-            continue;
-        }
-        let file = |length| made(length).written();
-        hostile::print_row_of(name, &LENGTHS, runs.min(10), file, |file| {
-            let (lent, mut output) = (&lent, vec![0; file.len().max(HEAD)]);
-            move || proved::apply(&lent.tables(), class, &file, &mut output)[0]
-        });
+        row(&lent, name, made, runs.min(10));
     }
 }
