@@ -151,6 +151,23 @@ void clumarief_display_line(const clumarief_class *classes, size_t class_rows,
                             uint32_t line,
                             clumarief_line *answer);
 
+/* What applying answers: number, the output's length. */
+typedef uint32_t clumarief_applied[2];
+
+/* Applies a mapping to a tree file, for a class by its raw descriptor. Numbers: 0 accepted; 14 tables malformed; 1 the tree file has over
+ * 4,194,304 bytes; 12 it is malformed; 13 the output is shorter than needed, or more than 4,194,304 bytes are needed; in this order.
+ * Accepted: the output holds a tree file of the length that is answered, and every byte behind it is zero. It has the same rows; for each
+ * name that is replaced a name row and its bytes are appended, and the number of that row stands for the display name; a line that is
+ * replaced stands for the display line. Refused: the whole output is zero, and so is the length. */
+void clumarief_apply(const clumarief_class *classes, size_t class_rows,
+                     const clumarief_member *members, size_t member_rows,
+                     const uint8_t *pool, size_t pool_length,
+                     const clumarief_used *used,
+                     const uint8_t *class_given, size_t class_length,
+                     const uint8_t *tree, size_t tree_length,
+                     uint8_t *output, size_t output_length,
+                     clumarief_applied *answer);
+
 #ifdef __cplusplus
 }
 #endif

@@ -2,3 +2,4 @@
 pub mod Numbering
 pub mod Naming
 pub mod Membering
+pub mod Outputs

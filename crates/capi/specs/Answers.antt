@@ -5,6 +5,8 @@ use lib.ListN.{getD, replicate}
 use Rattle.load_rule.specs.declared.Load.{Load}
 use Rattle.load_rule.specs.Loading.{refusal, loadNumbers}
 use Rattle.tables.specs.declared.check.Used.{Used}
+use Rattle.apply_rule.specs.declared.Applied.{Applied}
+use Rattle.apply_rule.specs.Applying.{appliedNumber, appliedLength}
 use Rattle.name_members.specs.declared.names.MemberName as named
 use Rattle.name_members.specs.declared.names.MemberName.the-variants as name
 use Rattle.name_members.specs.declared.names.MemberLine as lined
@@ -39,3 +41,7 @@ abbrev pub lineNumbers : lined.MemberLine → List ℕ
 lineNumbers (line.Found row shown) = 0 ∷ 1 ∷ row ∷ shown .0 ∷ []
 lineNumbers line.Unknown = 0 ∷ 0 ∷ 0 ∷ 0 ∷ []
 lineNumbers line.Malformed = 14 ∷ 0 ∷ 0 ∷ 0 ∷ []
+
+-- "number, the output's length"
+abbrev pub appliedNumbers : Applied → List ℕ
+appliedNumbers a = appliedNumber a ∷ appliedLength a ∷ []

@@ -1,8 +1,10 @@
 // The C functions that a service calls. Each takes any bytes and any slices, and writes its answer as numbers.
+mod applying;
 mod loading;
 mod members;
 mod names;
 
+pub use applying::clumarief_apply;
 pub use loading::clumarief_parse;
 pub use loading::clumarief_parse_str;
 pub use members::clumarief_display_field_name;
