@@ -6,7 +6,8 @@ use mathlib.Core.Logic.{_⊎_, inl, inr}
 use Prim.Native.Nat.{ℕ, zero, suc, _+_, _-_, _≤_, _<_, min}
 use native.Mathlib.Omega.{arith}
 use lib.Dec.{leb}
-use lib.ListN.{length, take, drop, replicate, length-take, length-replicate, replicate-append-replicate}
+use lib.ListN.{length, take, drop, replicate, length-append, length-take, length-replicate, replicate-append-replicate}
+use lib.Seq.{take-at, drop-at}
 use mir.Val.{Fits}
 use mir.Syntax.{w32}
 use borrow.Author.Needs.{needs}
@@ -55,6 +56,9 @@ module _ (classes rows : List (List ℕ)) (f out : List ℕ) (k : AcceptReady cl
 
   pub room-inside : room ≤ length out
   room-inside = omega arith
+
+  pub filled-inside : (part : List ℕ) → length part ≡ length (take room out) → room ≤ length (part ++ drop room out)
+  filled-inside part l = omega (arith, length-append part (drop room out), part-length)
 
   module _ (file : List ℕ) where
     fits-yes : length file ≤ room → fitsIn (length out) (length file) ≡ true
@@ -111,8 +115,19 @@ module _ (classes rows : List (List ℕ)) (f out : List ℕ) (k : AcceptReady cl
       pub fill-refused : r ≡ NoRoom → answer.NoRoom ≡ fittingAnswer (length out) file
       fill-refused g = answer-none (told-none g)
 
-      pub fill-zero : r ≡ NoRoom → {new : List ℕ} → new ≡ replicate (length (part ++ drop room out)) 0 → length (part ++ drop room out) ≡ length out →
-          new ≡ fittingOutput (length out) file
-      fill-zero g h l = output-none (told-none g) (h ∙ ap (λ n. replicate n 0) l)
+      -- the part that was written is made zero again
+      pub fill-zero : r ≡ NoRoom → length part ≡ length (take room out) → {mid : List ℕ} →
+          mid ≡ replicate (length (take room (part ++ drop room out))) 0 →
+          mid ++ drop room (part ++ drop room out) ≡ fittingOutput (length out) file
+      fill-zero g l {mid} h =
+          let size : length part ≡ room = l ∙ part-length in
+          let front : take room (part ++ drop room out) ≡ part = take-at part (drop room out) room size in
+          let back : drop room (part ++ drop room out) ≡ drop room out = drop-at part (drop room out) room size in
+          let rest : drop room out ≡ replicate (length out - room) 0 = ap (drop room) (k .zero) ∙ zero-drop room (length out) in
+          let whole : room + (length out - room) ≡ length out = omega arith in
+          output-none (told-none g)
+          (ap (λ x. x ++ drop room (part ++ drop room out)) (h ∙ ap (λ x. replicate (length x) 0) front ∙ ap (λ n. replicate n 0) size)
+          ∙ ap (λ x. replicate room 0 ++ x) (back ∙ rest)
+          ∙ replicate-append-replicate room (length out - room) 0 ∙ ap (λ n. replicate n 0) whole)
 
-pub ruleset accepting = (part-ready, room-inside, prefix-whole, fill-fits, fill-answer, fill-output, fill-refused, fill-zero, needs)
+pub ruleset accepting = (part-ready, room-inside, filled-inside, prefix-whole, fill-fits, fill-answer, fill-output, fill-refused, fill-zero, needs)

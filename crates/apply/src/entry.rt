@@ -35,7 +35,8 @@ fn apply_accepted(
 {
     let room = lesser(out.len(), MOST_TREE);
     let Wrote::Done(end) = fill_output(&mut out[..room], class, tree, classes, members, pool) else {
-        zero_bytes(out);
+        // only that part was written
+        zero_bytes(&mut out[..room]);
         return Applied::NoRoom;
     };
     Applied::Done(end as u32)

@@ -56,6 +56,10 @@ module _ (c : TreeCounts) (f : List ℕ) (i : ℕ) {a : ℕ} (e : a ≡ tokensSt
       pub descriptor-there : t ≡ Descriptor x y → x < c .names
       descriptor-there h = below-descriptor h .0
 
+      -- for no function, but so that one that reads the descriptor as shown is refused for what it answers
+      pub shown-there : t ≡ Descriptor x y → y < c .names
+      shown-there h = below-descriptor h .1
+
       module _ {s : List ℕ} (w : s ≡ textAt c f x) where
         pub name-of-member : t ≡ MemberName x y → s ≡ rawNameOf name (tokenAt c f i)
         name-of-member h = w ∙ sym (name-at c f x (below-member h .0)) ∙ ap (rawNameOf name) (sym (here ∙ h))
@@ -64,7 +68,7 @@ module _ (c : TreeCounts) (f : List ℕ) (i : ℕ) {a : ℕ} (e : a ≡ tokensSt
         name-of-descriptor h = w ∙ sym (name-at c f x (below-descriptor h .0)) ∙ ap (rawNameOf name) (sym (here ∙ h))
 
 pub ruleset raw-naming =
-    (no-name-other, no-name-line, member-there, descriptor-there, name-of-member, name-of-descriptor, row-inside, names-inside, needs)
+    (no-name-other, no-name-line, member-there, descriptor-there, shown-there, name-of-member, name-of-descriptor, row-inside, names-inside, needs)
 
 -- The member that two tokens and an owner name.
 pub owner-there : (n : ℕ) (o : Owner) {i : ℕ} → OwnerInside n o → o ≡ At i → i < n

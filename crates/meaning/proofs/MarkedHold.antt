@@ -13,8 +13,9 @@ use Rattle.table_rows.specs.Classes.{shown}
 use Rattle.descriptor.specs.Pieces.{partsFrom}
 use Rattle.load_rule.specs.Fates.{fatesFrom, faultsFrom}
 use Rattle.load_rule.specs.Classes.{classesOf}
+use Rattle.apply_rule.specs.Changes.{pieceKnown}
 use Rattle.meaning.specs.Marked.{AllHold, marked}
 
 pub marked-hold : AllHold marked
-unfolding ascii rawLines crEnd firstFrom lastFrom checkFrom fatesFrom faultsFrom classesOf digitsFrom plain numberOf same partsFrom join shown baseEnd bracketCount runOf trimEnd allWhite piecesFrom sequenceOf afterLead leadOf tails isWhite inRanges whiteRanges
+unfolding ascii rawLines crEnd firstFrom lastFrom checkFrom fatesFrom faultsFrom classesOf digitsFrom plain numberOf same partsFrom pieceKnown join shown baseEnd bracketCount runOf trimEnd allWhite piecesFrom sequenceOf afterLead leadOf tails isWhite inRanges whiteRanges
 marked-hold = ((λ n. refl), ((λ n. refl), ((λ n. refl), (refl, (refl, (refl, (refl, (refl, (refl, (refl, (refl, (refl, tt))))))))))))

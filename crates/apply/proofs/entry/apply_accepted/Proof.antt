@@ -21,6 +21,12 @@ enum-known-end c = search accepting
 enum-told : tie.Need-enum-told
 enum-told c = search accepting
 
+slice-relend-prefix-zero-bytes : tie.Need-slice-relend-prefix-zero-bytes
+slice-relend-prefix-zero-bytes c = search accepting
+
+slice-aggregate-zero-bytes : tie.Need-slice-aggregate-zero-bytes
+slice-aggregate-zero-bytes c = search accepting
+
 zero-bytes-requires : tie.Need-zero-bytes-requires
 zero-bytes-requires c κs = search accepting
 
@@ -49,6 +55,8 @@ apply-accepted-spec =
     fill-output-requires
     enum-known-end
     enum-told
+    slice-relend-prefix-zero-bytes
+    slice-aggregate-zero-bytes
     zero-bytes-requires
     same-length
     returns
