@@ -17,6 +17,14 @@ const SOURCE: &str = "CLUMARIEF_SOURCE";
 /// The original's file for mapping files.
 const MAPPING: &str = "src--asm_server--src--mapping.rs.txt";
 
+/// The original's file for trees, and what is taken of it: it uses too much else to be built as a whole.
+const SMALI: &str = "src--asm--src--smali.rs.txt";
+const TYPES: [&str; 3] = [
+    "pub struct MappedName {",
+    "pub struct SmaliNode {",
+    "pub enum SmaliToken {",
+];
+
 fn main() -> Result<(), Box<dyn Error>> {
     println!("cargo:rerun-if-changed=build.rs");
     println!("cargo:rerun-if-changed=libraries.txt");
@@ -39,14 +47,37 @@ fn link_proved() -> Result<(), Box<dyn Error>> {
     Ok(())
 }
 
+/// A type that starts so, from what it derives to the brace that ends it.
+fn item<'a>(text: &'a str, head: &str) -> Option<&'a str> {
+    let at = text.find(head)?;
+    let start = text[..at].rfind("#[derive")?;
+    let end = at + text[at..].find("\n}\n")? + 3;
+    Some(&text[start..end])
+}
+
+/// The three types of a tree, as they stand in the original's file.
+fn hand_on_types(source: &Path, target: &Path) -> Result<(), Box<dyn Error>> {
+    let path = source.join(SMALI);
+    println!("cargo:rerun-if-changed={}", path.display());
+    let text = fs::read_to_string(&path).map_err(|error| format!("{}: {error}", path.display()))?;
+    let mut types = String::new();
+    for head in TYPES {
+        types += item(&text, head).ok_or_else(|| format!("{}: no {head}", path.display()))?;
+    }
+    fs::write(target.join("smali.rs"), types)?;
+    Ok(())
+}
+
 fn hand_on_original() -> Result<(), Box<dyn Error>> {
     println!("cargo:rustc-check-cfg=cfg(original)");
     println!("cargo:rerun-if-env-changed={SOURCE}");
     if let Some(source) = env::var_os(SOURCE).filter(|source| !source.is_empty()) {
-        let mapping = Path::new(&source).join(MAPPING);
+        let (source, target) = (Path::new(&source), env::var("OUT_DIR")?);
+        let mapping = source.join(MAPPING);
         println!("cargo:rerun-if-changed={}", mapping.display());
-        let copy = Path::new(&env::var("OUT_DIR")?).join("mapping.rs");
+        let copy = Path::new(&target).join("mapping.rs");
         fs::copy(&mapping, copy).map_err(|error| format!("{}: {error}", mapping.display()))?;
+        hand_on_types(source, Path::new(&target))?;
         println!("cargo:rustc-cfg=original");
     }
     Ok(())

@@ -1,7 +1,10 @@
 //! Times the proved functions beside Rust's standard library and the original, in one process, and alone on texts made to be
 //! slow. What it is asked by and what its status says stands in usage.txt.
 
+mod apply_trees;
+mod applying;
 mod hostile;
+mod hostile_trees;
 mod loads;
 mod lookups;
 mod parts;
@@ -109,11 +112,14 @@ fn bench(asked: &Asked<2>) -> Result<(), String> {
         .map_err(|Unequal(name)| format!("proved and original disagree on {name}"))?;
     lookups::run(runs, asked.real.as_deref())
         .map_err(|Unequal(name)| format!("proved and original disagree on a {name}"))?;
+    applying::run(runs, asked.real.as_deref())
+        .map_err(|Unequal(name)| format!("proved and original disagree on applying: {name}"))?;
     shared_marks::run(runs);
     println!("\nnanoseconds a byte: best at lengths in KiB; median and spread at the last");
     loads::run_hostile(runs);
     parts::run(runs);
     trees::run(seed, runs);
+    hostile_trees::run(runs);
     Ok(())
 }
 

@@ -13,7 +13,8 @@ const LISTS: &str = "faults/lists";
 
 /// The plain program, and the files that stand below it as modules.
 const PLAIN: &str = "src/plain.rs";
-const MODULES: [&str; 7] = [
+const MODULES: [&str; 8] = [
+    "applying",
     "characters",
     "descriptors",
     "json",
@@ -22,7 +23,7 @@ const MODULES: [&str; 7] = [
     "names",
     "trees",
 ];
-const DOORS: [&str; 8] = [
+const DOORS: [&str; 9] = [
     "slices",
     "text_doors",
     "comment_doors",
@@ -31,6 +32,7 @@ const DOORS: [&str; 8] = [
     "name_doors",
     "member_doors",
     "tree_doors",
+    "apply_doors",
 ];
 
 struct Fault {

@@ -1,26 +1,15 @@
-//! What the original's file takes from its crate `java_asm`, as far as that file needs it to compile.
+//! What the original's file takes from its crate `java_asm`: shared strings, and the types of a tree, which `build.rs` hands on
+//! from that crate's own file.
 
 use std::sync::Arc;
 
+pub type ConstStr = &'static str;
 pub type StrRef = Arc<str>;
 pub type DescriptorRef = StrRef;
 
+#[allow(clippy::all)]
 pub mod smali {
-    use super::StrRef;
+    use super::{ConstStr, StrRef};
 
-    pub struct MappedName {
-        pub raw_name: StrRef,
-        pub display_name: StrRef,
-    }
-
-    pub struct SmaliNode {
-        pub content: Vec<SmaliToken>,
-        pub children: Vec<SmaliNode>,
-    }
-
-    pub enum SmaliToken {
-        MemberName(MappedName),
-        Descriptor(MappedName),
-        SourceLine { raw_line: u32, display_line: u32 },
-    }
+    include!(concat!(env!("OUT_DIR"), "/smali.rs"));
 }

@@ -6,9 +6,19 @@
 //! comment, `parts` those about a line, by way of `original`. For loading, `plain` is a program of its own: `load_tables`
 //! sets it beside the original's `tables`, `load_rooms` the proved program beside it, and `load_held` holds both pairs, over
 //! `load_texts`, `load_files` and `load_largest`; `load_examples` has answers of its own. `lookup_tables` makes and damages
-//! what look-ups are lent, `tree_files` makes tree files. Each of the other modules is one part of the comparison; `main`
-//! lists them. No two modules use each other, by whatever way round (tests/modules.rs).
+//! what look-ups are lent, `tree_files` makes tree files, `tree_damage` damages them. For applying, `apply_trees` makes trees of
+//! a mapping's names, `apply_mappings` some of these mappings, `apply_every` and `apply_limits` trees of their own, `smali_trees`
+//! turns a tree file into the original's tree and back, and `apply_held` holds the answers; `apply_list` makes the list that
+//! crates/apply_cases replays. Each of the other modules is one part of the comparison; `main` lists them. No two modules use
+//! each other, by whatever way round (tests/modules.rs).
 
+pub mod apply_every;
+pub mod apply_held;
+pub mod apply_limits;
+pub mod apply_list;
+pub mod apply_mappings;
+pub mod apply_trees;
+pub mod applying;
 pub mod arguments;
 pub mod bytes;
 pub mod case;
@@ -51,6 +61,8 @@ pub mod random;
 pub mod ranges;
 pub mod reading;
 pub mod report;
+#[cfg(original)]
+pub mod smali_trees;
 #[cfg(feature = "stand_in")]
 mod stand_in;
 pub mod synthetic;
@@ -58,6 +70,7 @@ pub mod synthetic;
 pub mod tables;
 pub mod texts;
 pub mod timing;
+pub mod tree_damage;
 pub mod tree_files;
 pub mod trees;
 pub mod trims;

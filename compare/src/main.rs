@@ -3,8 +3,8 @@
 
 use clumarief_compare::report::{Disagreement, Held, Report, Settings};
 use clumarief_compare::{
-    arguments, bytes, comments, lines, loading, mapped, members, names, numbers, ranges, trees,
-    trims, utf8, white,
+    applying, arguments, bytes, comments, lines, loading, mapped, members, names, numbers, ranges,
+    trees, trims, utf8, white,
 };
 use std::env;
 use std::process::ExitCode;
@@ -27,6 +27,7 @@ const PARTS: &[(&str, Part)] = &[
     ("names", names::run),
     ("members", members::run),
     ("trees", trees::run),
+    ("applying", applying::run),
 ];
 
 const USAGE: &str = include_str!("../usage.txt");

@@ -182,7 +182,7 @@ const LOADED: Subject<Looked, Option<Found>> = Subject {
 // Few names, so that members meet.
 const CLASSES: [&str; 4] = ["a", "b", "a.b", "\u{E9}"];
 const RAW_CLASSES: [&str; 3] = ["x", "y", "a"];
-const SHOWN: [&str; 4] = ["f", "g", "run", "\u{4E2D}"];
+const SHOWN: [&str; 5] = ["f", "g", "run", "\u{4E2D}", "c"];
 const RAWS: [&str; 3] = ["c", "d", "\u{E9}"];
 const TYPES: [&str; 5] = ["int", "a", "b", "int[]", "void"];
 const ARGUMENTS: [&str; 5] = ["", "", "int", "a", "a,int"];
@@ -241,7 +241,8 @@ fn member(random: &mut Random, own: &str) -> String {
     line
 }
 
-fn mapping(random: &mut Random) -> String {
+/// A small mapping in which members meet.
+pub fn mapping(random: &mut Random) -> String {
     let mut text = String::new();
     for _ in 0..1 + random.below(4) {
         let (class, raw) = (random.pick(&CLASSES), random.pick(&RAW_CLASSES));
@@ -254,7 +255,7 @@ fn mapping(random: &mut Random) -> String {
 }
 
 /// A line inside of the ranges of a row, at their edges, outside of them, or any.
-fn near_line(random: &mut Random, row: &MemberRow) -> u32 {
+pub fn near_line(random: &mut Random, row: &MemberRow) -> u32 {
     let edge = row[11 + random.below(4)];
     match random.below(8) {
         0 => edge.wrapping_add(1),

@@ -124,6 +124,10 @@ pub mod doors {
             self.0.display_line(&key.owner, &key.key, line)
         }
 
+        pub fn apply_to_smali(&self, class: &str, tree: &mut super::SmaliNode) {
+            self.0.apply_to_smali(class, tree);
+        }
+
         /// What the class is shown as, what it is turned back to, and what is mapped.
         pub fn names(&self, name: &str) -> (Option<Vec<u8>>, Option<Vec<u8>>, Vec<u8>) {
             let display = self.0.display_class_name(name);

@@ -1,8 +1,9 @@
-//! A plain program for loading, written to document 01 with the original and the rule of loading at hand: the second opinion
-//! that the proved one is held against.
+//! A plain program for loading, look-ups and applying, written to document 01 with the original and the rules at hand: the second
+//! opinion that the proved one is held against.
 //!
 //! It takes its time and its memory as it likes, but for the pool, of which it makes no more than was lent.
 
+pub mod applying;
 mod characters;
 mod descriptors;
 mod json;

@@ -1,5 +1,6 @@
 //! Tree files that are well formed: as a shrinker's reader would get them, with names that overlap, and made to be slow.
 
+use crate::plain::trees;
 use crate::random::Random;
 use crate::texts;
 
@@ -31,6 +32,103 @@ impl TreeFile {
         let mut file: Vec<u8> = numbers.into_iter().flat_map(u32::to_le_bytes).collect();
         file.extend(&self.bytes);
         file
+    }
+
+    /// How many tokens there are.
+    pub fn tokens(&self) -> usize {
+        self.nodes.iter().map(|(_, tokens)| tokens.len()).sum()
+    }
+
+    /// What a file that is well formed is written from.
+    pub fn read(file: &[u8]) -> Option<Self> {
+        let tree = trees::read(file).filter(trees::Tree::is_well_formed)?;
+        let mut tokens = tree.tokens.iter().copied();
+        let node = |[parent, count]: &[u32; 2]| {
+            let own = tokens.by_ref().take(*count as usize);
+            (*parent, own.collect())
+        };
+        Some(TreeFile {
+            nodes: tree.nodes.iter().map(node).collect(),
+            names: tree.names.clone(),
+            bytes: tree.bytes.to_vec(),
+        })
+    }
+
+    /// The same without a node, whose children go to its parent.
+    fn without_node(&self, row: usize) -> Self {
+        let mut tree = self.clone();
+        let (parent, _) = tree.nodes.remove(row);
+        for (other, _) in &mut tree.nodes[row..] {
+            if *other as usize == row {
+                *other = parent;
+            } else if *other as usize > row {
+                *other -= 1;
+            }
+        }
+        tree
+    }
+
+    /// The same with the names alone that tokens have, side by side.
+    fn compact(&self) -> Self {
+        let mut tree = TreeFile {
+            nodes: self.nodes.clone(),
+            ..TreeFile::default()
+        };
+        let mut numbers = vec![None; self.names.len()];
+        let tokens = tree.nodes.iter_mut().flat_map(|(_, tokens)| tokens);
+        for token in tokens.filter(|token| token[0] == 1 || token[0] == 2) {
+            for name in &mut token[1..] {
+                let at = *name as usize;
+                *name = *numbers[at].get_or_insert_with(|| {
+                    let [place, length] = self.names[at].map(|number| number as usize);
+                    let row = [tree.bytes.len() as u32, length as u32];
+                    tree.names.push(row);
+                    tree.bytes.extend(&self.bytes[place..place + length]);
+                    tree.names.len() as u32 - 1
+                });
+            }
+        }
+        tree
+    }
+
+    /// Smaller trees: without a node, without a token, without what no token names.
+    pub fn simpler(&self) -> impl Iterator<Item = Self> + use<> {
+        let tree = self.clone();
+        let rows = (1..self.nodes.len()).rev();
+        let nodes = rows.map({
+            let tree = tree.clone();
+            move |row| tree.without_node(row)
+        });
+        let places = self.nodes.iter().enumerate();
+        let places: Vec<(usize, usize)> = places
+            .flat_map(|(row, (_, tokens))| (0..tokens.len()).map(move |at| (row, at)))
+            .collect();
+        let tokens = places.into_iter().map({
+            let tree = tree.clone();
+            move |(row, at)| {
+                let mut tree = tree.clone();
+                tree.nodes[row].1.remove(at);
+                tree
+            }
+        });
+        let compact = Some(tree.compact()).filter(|compact| {
+            compact.names.len() < tree.names.len() || compact.bytes.len() < tree.bytes.len()
+        });
+        compact.into_iter().chain(nodes).chain(tokens)
+    }
+
+    /// The rows, and the texts of the names.
+    pub fn show(&self) -> String {
+        let mut said = String::new();
+        for (row, (parent, tokens)) in self.nodes.iter().enumerate() {
+            said += &format!("  node {row} below {parent}: {tokens:?}\n");
+        }
+        for (at, row) in self.names.iter().enumerate() {
+            let [place, length] = row.map(|number| number as usize);
+            let text = self.bytes.get(place..place + length).unwrap_or_default();
+            said += &format!("  name {at}: {:?}\n", String::from_utf8_lossy(text));
+        }
+        said
     }
 }
 

@@ -5,6 +5,7 @@ use crate::plain::trees;
 use crate::proved;
 use crate::random::Random;
 use crate::report::{Comparison, Held, Report, Settings, Subject};
+use crate::tree_damage;
 use crate::tree_files::{self, TreeFile};
 
 const FILES: Subject<Text, u32> = Subject {
@@ -77,24 +78,6 @@ struct Trees {
     signatures: Comparison<Tokens, [u64; 5]>,
 }
 
-/// Numbers that a number of a file may be in place of itself. Rows of eight or twelve bytes lose the bits 29 to 31 of a count
-/// where their length is taken in 32 bits.
-fn others(random: &mut Random, number: u32) -> [u32; 11] {
-    [
-        number ^ 1 << 29,
-        number ^ 1 << 30,
-        number ^ 1 << 31,
-        0,
-        number.wrapping_add(1),
-        number.wrapping_sub(1),
-        1 << 31,
-        u32::MAX,
-        4,
-        random.below(9) as u32,
-        random.draw() as u32,
-    ]
-}
-
 impl Trees {
     fn file(&mut self, file: Vec<u8>) -> Held {
         self.files.hold(&Text(file))
@@ -102,54 +85,6 @@ impl Trees {
 
     fn long_file(&mut self, tree: &TreeFile) -> Held {
         self.long.hold(&Text(tree.written()))
-    }
-
-    /// Every four bytes before the name bytes as another number.
-    fn every_number(&mut self, random: &mut Random, file: &[u8], names: usize) -> Held {
-        for at in (0..file.len() - names).step_by(4) {
-            let number = u32::from_le_bytes([file[at], file[at + 1], file[at + 2], file[at + 3]]);
-            for other in others(random, number) {
-                let mut damaged = file.to_vec();
-                damaged[at..at + 4].copy_from_slice(&other.to_le_bytes());
-                self.file(damaged)?;
-            }
-        }
-        Ok(())
-    }
-
-    /// Half of 2^32 more in the token counts of two nodes, so that their sum is the same in 32 bits.
-    fn counts_beyond(&mut self, tree: &TreeFile) -> Held {
-        let mut file = tree.written();
-        for row in 0..2.min(tree.nodes.len()) {
-            // the highest byte of the second number of a node row
-            file[16 + 8 * row + 7] ^= 0x80;
-        }
-        self.file(file)
-    }
-
-    /// Every name byte as another.
-    fn every_name_byte(&mut self, random: &mut Random, file: &[u8], names: usize) -> Held {
-        for at in file.len() - names..file.len() {
-            for other in [b'a', 0x80, 0xC3, 0xE2, 0xED, 0xF0, 0xFF, random.byte()] {
-                let mut damaged = file.to_vec();
-                damaged[at] = other;
-                self.file(damaged)?;
-            }
-        }
-        Ok(())
-    }
-
-    /// Cut at every byte, and longer by up to three.
-    fn every_length(&mut self, random: &mut Random, file: &[u8]) -> Held {
-        for length in 0..=file.len() {
-            self.file(file[..length].to_vec())?;
-        }
-        let mut longer = file.to_vec();
-        for _ in 0..3 {
-            longer.push(random.byte());
-            self.file(longer.clone())?;
-        }
-        Ok(())
     }
 
     /// The tokens of every node, and those from any token on.
@@ -178,46 +113,21 @@ fn small(settings: &Settings, held: &mut Trees) -> Held {
         let file = tree.written();
         held.every_node(&mut random, &tree)?;
         held.file(file.clone())?;
-        held.counts_beyond(&tree)?;
+        held.file(tree_damage::counts_beyond(&tree))?;
         if turn % 20 == 0 {
-            held.every_number(&mut random, &file, tree.bytes.len())?;
-            held.every_name_byte(&mut random, &file, tree.bytes.len())?;
-            held.every_length(&mut random, &file)?;
+            let mut hold = |file| held.file(file);
+            tree_damage::every_number(&mut random, &tree, &mut hold)?;
+            tree_damage::every_name_byte(&mut random, &tree, &mut hold)?;
+            tree_damage::every_length(&mut random, &file, &mut hold)?;
         }
         let mut damaged = tree;
         for _ in 0..1 + random.below(2) {
-            damage(&mut random, &mut damaged);
+            tree_damage::damage(&mut random, &mut damaged);
             held.file(damaged.written())?;
         }
         held.every_node(&mut random, &damaged)?;
     }
     Ok(())
-}
-
-/// One row or name byte is another, while the counts still agree.
-fn damage(random: &mut Random, tree: &mut TreeFile) {
-    let row = random.below(tree.nodes.len());
-    match random.below(5) {
-        0 => tree.nodes[row].0 = random.below(row + 2) as u32,
-        1 => {
-            let kind = random.below(5) as u32;
-            let mut name = || random.below(tree.names.len() + 2) as u32;
-            let (raw, display) = (name(), name());
-            tree.nodes[row].1.push([kind, raw, display]);
-        }
-        2 => {
-            let length = tree.bytes.len();
-            let place = random.below(length + 2) as u32;
-            tree.names.push([place, random.below(length + 2) as u32]);
-        }
-        3 => tree.bytes.push(random.byte()),
-        _ => {
-            let at = random.below(tree.bytes.len());
-            if let Some(byte) = tree.bytes.get_mut(at) {
-                *byte = random.byte();
-            }
-        }
-    }
 }
 
 /// Files of about the least length, of a few bytes each; every other has counts that agree with its length.

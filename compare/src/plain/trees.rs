@@ -108,6 +108,12 @@ impl Tree<'_> {
             && self.names.iter().all(|row| self.name_is_fine(row))
     }
 
+    /// The raw name of a token that has one.
+    pub fn raw_name(&self, at: usize) -> &[u8] {
+        let row = self.names.get(self.tokens[at][1] as usize);
+        row.and_then(|row| self.name(row)).unwrap_or_default()
+    }
+
     /// A descriptor "not starting `(`", by its raw name.
     fn is_owner(&self, token: &[u32; 3]) -> bool {
         let name = self.names.get(token[1] as usize);

@@ -1,0 +1,51 @@
+//! Mappings whose names share one mark of an index: `Aa` and `BB` weigh the same where a byte counts 31 times the next.
+
+use crate::random::Random;
+
+/// Pairs of letters that weigh the same.
+const PAIRS: [&str; 2] = ["Aa", "BB"];
+
+/// One of eight names of six letters.
+fn name(random: &mut Random) -> String {
+    (0..3).map(|_| *random.pick(&PAIRS)).collect()
+}
+
+/// Ranges that mostly hold the lines from 1 to 9.
+const RANGES: [(&str, &str); 5] = [
+    ("", ""),
+    ("1:9:", ":10:18"),
+    ("1:4:", ":30:31"),
+    ("5:9:", ""),
+    ("3:3:", ":7"),
+];
+
+fn member(random: &mut Random) -> String {
+    let (shown, raw, declared) = (name(random), name(random), name(random));
+    if random.once_in(3) {
+        return format!("    {declared} {shown} -> {raw}\n");
+    }
+    let (before, after) = *random.pick(&RANGES);
+    let owner = if random.once_in(4) {
+        name(random) + "."
+    } else {
+        String::new()
+    };
+    let argument = if random.once_in(2) {
+        name(random)
+    } else {
+        String::new()
+    };
+    format!("    {before}{declared} {owner}{shown}({argument}){after} -> {raw}\n")
+}
+
+/// Up to 14 classes, so that some are asked one by one and some by an index; up to six members each.
+pub fn alike(random: &mut Random) -> String {
+    let mut text = String::new();
+    for _ in 0..1 + random.below(14) {
+        text += &format!("{} -> {}:\n", name(random), name(random));
+        for _ in 0..random.below(7) {
+            text += &member(random);
+        }
+    }
+    text
+}
