@@ -27,17 +27,13 @@ use Rattle.apply_rule.specs.declared.Applied.{Applied}
 use Rattle.apply_rule.specs.declared.Applied.the-variants as answer
 use Rattle.apply_rule.specs.Applying.{appliedFile, mostTree, fitsIn, outputIn, applyAnswer, applyOutput}
 use Rattle.apply_rule.specs.inner.Plans.{mappingIn}
+use Rattle.apply.proofs.Filling.{zero-drop}
 use Rattle.apply.specs.inner.Filled.{Zero, FillReady, AcceptReady, FilledTo, NoneFilled, FilledBy, fittingAnswer, fittingOutput}
 
 zero-take : (k n : ℕ) → k ≤ n → _≡_ {A = List ℕ} (take k (replicate n 0)) (replicate k 0)
 zero-take zero n h = refl
 zero-take (suc k) zero h = absurd (omega arith)
 zero-take (suc k) (suc n) h = rw (zero-take k n (omega arith))
-
-zero-drop : (k n : ℕ) → _≡_ {A = List ℕ} (drop k (replicate n 0)) (replicate (n - k) 0)
-zero-drop zero n = let z : n - 0 ≡ n = omega arith in rw z
-zero-drop (suc k) zero = let z : 0 - suc k ≡ 0 = omega arith in rw z
-zero-drop (suc k) (suc n) = let z : suc n - suc k ≡ n - k = omega arith in rw z (zero-drop k n)
 
 module _ (classes rows : List (List ℕ)) (f out : List ℕ) (k : AcceptReady classes rows f out) {room : ℕ} (e : room ≡ min (length out) mostTree) where
   part-length : length (take room out) ≡ room

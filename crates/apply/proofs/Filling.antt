@@ -42,7 +42,7 @@ zero-at zero i = refl
 zero-at (suc n) zero = refl
 zero-at (suc n) (suc i) = zero-at n i
 
-zero-drop : (k n : ℕ) → _≡_ {A = List ℕ} (drop k (replicate n 0)) (replicate (n - k) 0)
+pub zero-drop : (k n : ℕ) → _≡_ {A = List ℕ} (drop k (replicate n 0)) (replicate (n - k) 0)
 zero-drop zero n = let z : n - 0 ≡ n = omega arith in rw z
 zero-drop (suc k) zero = let z : 0 - suc k ≡ 0 = omega arith in rw z
 zero-drop (suc k) (suc n) = let z : suc n - suc k ≡ n - k = omega arith in rw z (zero-drop k n)
