@@ -1,34 +1,25 @@
 -- What is answered, and what the output is. Assumes nothing.
 use mathlib.Core.Path.{_≡_, refl, sym, _∙_, ap}
-use mathlib.Core.Bool.{Bool, true, false, not}
-use mathlib.Core.List.{List, _++_, append-assoc, append-nil}
+use mathlib.Core.Bool.{true, false}
+use mathlib.Core.List.{List, _++_, append-assoc}
 use mathlib.Core.Logic.{_⊎_, inl, inr}
 use Prim.Native.Nat.{ℕ, zero, suc, _+_, _-_, _≤_, _<_, min}
 use native.Mathlib.Omega.{arith}
-use lib.Dec.{leb}
-use lib.ListN.{length, take, drop, replicate, length-append, length-take, length-replicate, replicate-append-replicate}
+use lib.ListN.{length, take, drop, replicate, length-append, length-take, replicate-append-replicate}
 use lib.Seq.{take-at, drop-at}
 use mir.Val.{Fits}
 use mir.Syntax.{w32}
 use borrow.Author.Needs.{needs}
 use borrow.Author.Tests.{le-leb, lt-leb}
-use Rattle.ground.specs.Choice.{pick, both}
 use Rattle.ground.proofs.Cases.{le-or-lt}
 use Rattle.ground.proofs.Parts.{prefix-whole}
 use Rattle.table_pool.specs.declared.write.Wrote.{Wrote}
 use Rattle.table_pool.specs.declared.write.Wrote.the-variants.{Done, NoRoom}
-use Rattle.table_rows.specs.Rows.{mostClasses, mostMembers}
-use Rattle.table_rows.specs.Tables.{Tables, tables}
-use Rattle.tables.specs.declared.check.Used.{Used}
-use Rattle.tables.specs.Check.{wellFormed}
 use Rattle.tables.proofs.Checking.{formed}
-use Rattle.tree_rule.specs.Checks.{wellFormedFile}
-use Rattle.apply_rule.specs.declared.Applied.{Applied}
 use Rattle.apply_rule.specs.declared.Applied.the-variants as answer
-use Rattle.apply_rule.specs.Applying.{appliedFile, mostTree, fitsIn, outputIn, applyAnswer, applyOutput}
-use Rattle.apply_rule.specs.inner.Plans.{mappingIn}
+use Rattle.apply_rule.specs.Applying.{mostTree, fitsIn}
 use Rattle.apply.proofs.Filling.{zero-drop}
-use Rattle.apply.specs.inner.Filled.{Zero, FillReady, AcceptReady, FilledTo, NoneFilled, FilledBy, fittingAnswer, fittingOutput}
+use Rattle.apply.specs.inner.Filled.{FillReady, AcceptReady, FilledTo, NoneFilled, FilledBy, fittingAnswer, fittingOutput}
 
 zero-take : (k n : ℕ) → k ≤ n → _≡_ {A = List ℕ} (take k (replicate n 0)) (replicate k 0)
 zero-take zero n h = refl

@@ -1,5 +1,5 @@
 -- The answer of each way through the entry point. Assumes nothing.
-use mathlib.Core.Path.{_≡_, refl, sym, _∙_, ap}
+use mathlib.Core.Path.{_≡_, sym, _∙_, ap}
 use mathlib.Core.Bool.{Bool, true, false, not}
 use mathlib.Core.List.{List}
 use Prim.Native.Nat.{ℕ, _≤_, _<_}
@@ -7,19 +7,17 @@ use native.Mathlib.Omega.{arith}
 use lib.ListN.{length, take, replicate, length-take, length-replicate}
 use borrow.Author.Needs.{needs}
 use borrow.Author.Tests.{le-leb, lt-leb, not-true, not-false}
-use Rattle.ground.specs.Choice.{pick}
 use Rattle.ground.proofs.Parts.{prefix-whole}
-use Rattle.table_rows.specs.Rows.{mostClasses, mostMembers}
 use Rattle.table_rows.specs.Tables.{tables}
 use Rattle.tables.specs.declared.check.Used.{Used}
 use Rattle.tables.specs.Check.{wellFormed}
 use Rattle.tables.proofs.Checking.{formed}
 use Rattle.tree_rule.specs.Checks.{wellFormedFile}
 use Rattle.apply_rule.specs.declared.Applied.{Applied}
-use Rattle.apply_rule.specs.declared.Applied.the-variants.{Done, Malformed, TooLong, BadTree, NoRoom}
-use Rattle.apply_rule.specs.Applying.{appliedFile, mostTree, applied, applyAnswer, applyOutput}
+use Rattle.apply_rule.specs.declared.Applied.the-variants.{Malformed, TooLong, BadTree}
+use Rattle.apply_rule.specs.Applying.{appliedFile, mostTree, applyAnswer, applyOutput}
 use Rattle.apply_rule.specs.inner.Plans.{mappingIn}
-use Rattle.apply.specs.inner.Filled.{Zero, AcceptReady, fittingAnswer, fittingOutput}
+use Rattle.apply.specs.inner.Filled.{AcceptReady, fittingAnswer, fittingOutput}
 
 module _ (c m : List (List ℕ)) (p class f : List ℕ) (used : Used) (room : ℕ) {b : Bool} (w : b ≡ wellFormed c m p used) where
   -- tables malformed

@@ -1,32 +1,25 @@
 -- The passes, one after the other. Assumes nothing.
 use mathlib.Core.Path.{_≡_, refl, sym, _∙_, ap, subst}
-use mathlib.Core.Bool.{true}
 use mathlib.Core.List.{List, _++_}
-use Prim.Native.Nat.{ℕ, zero, suc, _+_, _*_, _-_, _^_, _≤_, _<_}
+use Prim.Native.Nat.{ℕ, zero, suc, _+_, _-_, _≤_, _<_}
 use native.Mathlib.Omega.{arith}
-use lib.ListN.{length, getD, take, drop, replicate, length-append, length-replicate}
-use lib.Seq.{drop-drop, getD-take}
+use lib.ListN.{length, getD, drop, replicate}
+use lib.Seq.{drop-drop}
 use mir.Val.{Fits}
 use mir.Syntax.{w8}
 use borrow.Author.Needs.{needs}
-use Rattle.ground.specs.Join.{join}
-use Rattle.ground.specs.Put.{between}
 use Rattle.table_pool.specs.declared.write.Wrote.{Wrote}
 use Rattle.table_pool.specs.declared.write.Wrote.the-variants.{Done, NoRoom}
-use Rattle.table_rows.specs.Rows.{mostClasses}
 use Rattle.tables.specs.declared.search.Side.the-variants.{Raw}
 use Rattle.table_index.specs.inner.Index.{IndexBy}
 use Rattle.tree_rule.specs.declared.TreeCounts.{TreeCounts}
 use Rattle.tree_rule.specs.Words.{wordAt}
-use Rattle.tree_rule.specs.Files.{countsIn, tokensStart, namesStart, bytesStart, fileLength, treeBy}
-use Rattle.tree_rule.specs.Checks.{wellFormedFile}
+use Rattle.tree_rule.specs.Files.{countsIn, namesStart, bytesStart, fileLength}
 use Rattle.tree_rule.specs.Theorems.{FormedBy}
 use Rattle.tree_rule.proofs.Formed.{formed-tree}
-use Rattle.tree_rule.proofs.WordLaws.{word-here}
 use Rattle.tree_rule.proofs.PutWords.{word-take}
-use Rattle.apply_rule.specs.Changes.{Changed}
-use Rattle.apply_rule.specs.Applying.{newNames, appliedFile, mostTree}
-use Rattle.apply_rule.specs.inner.Plans.{mappingIn, changesIn, shownAt, Planned, RowsPlanned, plannedChanges, laidOut}
+use Rattle.apply_rule.specs.Applying.{appliedFile}
+use Rattle.apply_rule.specs.inner.Plans.{mappingIn, changesIn, shownAt, Planned, plannedChanges, laidOut}
 use Rattle.apply_rule.proofs.Laid.{laid-applied}
 use Rattle.apply_rule.proofs.Planned.{planned-rows, planned-same, changes-length}
 use Rattle.apply_pieces.specs.inner.Notes.{Noted}
@@ -34,7 +27,7 @@ use Rattle.apply_plans.specs.inner.Noted.{Blank}
 use Rattle.apply_plans.specs.inner.Passed.{PlansMade}
 use Rattle.apply_output.proofs.Listing.{laid-length}
 use Rattle.apply_output.specs.inner.Output.{Ready, OutputIs, OutputOver, OutputBy}
-use Rattle.apply.specs.inner.Filled.{Zero, PassReady, FillReady, FilledTo, NoneFilled, FilledBy}
+use Rattle.apply.specs.inner.Filled.{PassReady, FillReady, FilledTo, NoneFilled, FilledBy}
 
 -- Zeros.
 zero-at : (n i : ℕ) → _≡_ {A = ℕ} (getD (replicate n 0) i 0) 0

@@ -3,7 +3,7 @@ use mathlib.Core.Path.{_≡_, refl, sym, _∙_, ap}
 use mathlib.Core.List.{List, []}
 use Prim.Native.Nat.{ℕ, zero, suc, _-_, _≤_, _<_}
 use native.Mathlib.Omega.{arith}
-use lib.ListN.{length, getD}
+use lib.ListN.{getD}
 use borrow.Author.Needs.{needs}
 use Rattle.table_rows.specs.Rows.{unpackClass}
 use Rattle.tables.specs.declared.search.Found.the-variants.{Row}
@@ -13,11 +13,10 @@ use Rattle.name_lines.specs.declared.lines.RawLine.{RawLine}
 use Rattle.name_lines.specs.declared.lines.DisplayLine.{DisplayLine}
 use Rattle.name_lines.specs.declared.lines.LineName.{LineName}
 use Rattle.name_lines.specs.declared.lines.LineName.the-variants.{Line, Unknown}
-use Rattle.name_lines.specs.LineNames.{rawLine}
 use Rattle.name_rule.specs.Mappings.{mapping, entriesBack}
 use Rattle.name_rule.specs.MemberNames.{lineOfMethod}
 use Rattle.name_index.specs.inner.Chains.{keyOfRow, ownRow}
-use Rattle.apply_members.specs.inner.Notes.{Meant, MeantBy, lineBy, lineNumber}
+use Rattle.apply_members.specs.inner.Notes.{MeantBy, lineBy, lineNumber}
 
 module _ (classes rows : List (List ℕ)) (pool : List ℕ) (home : ℕ) {context : ℕ} where
   pub no-context : (n : RawLine) (display : ℕ) → context ≡ 0 → display ≡ lineNumber display (lineBy classes rows pool home context n)

@@ -8,8 +8,8 @@ use lib.ListN.{length, getD}
 use mir.Val.{Fits}
 use mir.Syntax.{w32}
 use borrow.Author.Needs.{needs}
-use Rattle.ground.specs.Choice.{pick, both}
-use Rattle.ground.specs.Look.{Look, known, unknown}
+use Rattle.ground.specs.Choice.{pick}
+use Rattle.ground.specs.Look.{known, unknown}
 use Rattle.ground.proofs.Cases.{both-left, both-right, clash}
 use Rattle.text_places.specs.Places.{same}
 use Rattle.table_rows.specs.declared.rows.Member.{Member}
@@ -18,9 +18,9 @@ use Rattle.table_rows.specs.Rows.{unpackClass, unpackMember, mostMembers}
 use Rattle.tables.specs.declared.search.Found.{Found}
 use Rattle.tables.specs.declared.search.Found.the-variants.{Row, Unknown}
 use Rattle.tables.specs.Back.{textIn, readBack}
-use Rattle.tables.specs.Search.{orRow, lastRowFrom, lastRaw}
+use Rattle.tables.specs.Search.{orRow, lastRaw}
 use Rattle.tables.proofs.Searching.{raw-found, raw-unknown}
-use Rattle.name_rule.specs.Mappings.{kindBack, memberBack, entryBack}
+use Rattle.name_rule.specs.Mappings.{kindBack, entryBack}
 use Rattle.name_rule.specs.MemberNames.{Key, key, matches, isMethodKind, ownedBy, ownerMatches, methodMatches}
 use Rattle.name_rule.specs.MemberRows.{lastMember, fieldRow, methodRow}
 use Rattle.name_rule.proofs.Rows.{field-found, method-found, none-found}

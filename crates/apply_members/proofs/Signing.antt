@@ -1,8 +1,8 @@
 -- What is noted of a node, by its signature. Assumes nothing.
 use mathlib.Core.Path.{_≡_, refl, sym, _∙_, ap}
-use mathlib.Core.Bool.{Bool, true}
+use mathlib.Core.Bool.{true}
 use mathlib.Core.List.{List, []}
-use Prim.Native.Nat.{ℕ, zero, _+_, _*_, _≤_, _<_}
+use Prim.Native.Nat.{ℕ, _+_, _*_, _≤_, _<_}
 use native.Mathlib.Omega.{arith}
 use lib.ListN.{length, getD}
 use borrow.Author.Needs.{needs}
@@ -23,7 +23,7 @@ use Rattle.tree_rule.proofs.RowLaws.{list-length, list-at}
 use Rattle.tree_rule.proofs.Reading.{name-at}
 use Rattle.tree_rule.proofs.Present.{OwnerInside, PresentAt, present-told}
 use Rattle.tree_signature.proofs.TokenLaws.{row-inside, names-inside}
-use Rattle.apply_rule.specs.Changes.{rawNameOf, rawNameAt, ownerName, signed, signedBy, signedOf}
+use Rattle.apply_rule.specs.Changes.{rawNameOf, rawNameAt, ownerName, signedBy, signedOf}
 use Rattle.apply_members.specs.declared.member.MemberNote.{MemberNote}
 use Rattle.apply_members.specs.declared.node.NodeNote.{NodeNote}
 use Rattle.apply_members.specs.inner.Notes.{note, memberNote, ownerText, nodeNote, noteSigned}

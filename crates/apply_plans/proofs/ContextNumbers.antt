@@ -1,17 +1,16 @@
 -- What the number of a line context stands for. Assumes nothing.
 use mathlib.Core.Path.{_≡_, refl, sym, _∙_, ap}
-use mathlib.Core.Bool.{Bool, true, false, not}
+use mathlib.Core.Bool.{Bool, true, false}
 use mathlib.Core.List.{List, []}
-use Prim.Native.Nat.{ℕ, zero, suc, _-_, _≤_, _<_}
+use Prim.Native.Nat.{ℕ, suc, _-_, _≤_, _<_}
 use native.Mathlib.Omega.{arith}
 use lib.ListN.{length, getD}
 use Rattle.ground.specs.Choice.{pick, both}
-use Rattle.ground.specs.Look.{unknown}
 use Rattle.ground.proofs.Cases.{both-left, both-right, clash}
 use Rattle.text_places.specs.Places.{same}
 use Rattle.text_places.proofs.PlaceLaws.{same-equal}
 use Rattle.table_rows.specs.Classes.{Pair, shown}
-use Rattle.table_rows.specs.Rows.{unpackClass, unpackMember}
+use Rattle.table_rows.specs.Rows.{unpackClass}
 use Rattle.tables.specs.declared.search.Found.{Found}
 use Rattle.tables.specs.declared.search.Found.the-variants.{Row, Unknown}
 use Rattle.tables.specs.Back.{textIn, readBack}
@@ -20,30 +19,17 @@ use Rattle.tables.proofs.Searching.{raw-unknown, scanning-from, scanning-ends}
 use Rattle.load_rule.specs.Members.{Entry}
 use Rattle.name_lines.specs.declared.lines.RawLine.{RawLine}
 use Rattle.name_lines.specs.declared.lines.LineName.the-variants as line
-use Rattle.name_rule.specs.Mappings.{entryBack, entriesBack, mapping}
+use Rattle.name_rule.specs.Mappings.{entryBack}
 use Rattle.name_rule.specs.MemberNames.{Key, key, rawOfRow, isText, matches, ownedBy, ownerMatches, lineOfMethod}
-use Rattle.name_rule.specs.MemberRows.{kindHolds, lineMatches, lineRow}
+use Rattle.name_rule.specs.MemberRows.{kindHolds, lineMatches}
 use Rattle.name_rule.proofs.Rows.{line-unknown, none-matches}
 use Rattle.name_index.specs.inner.Chains.{keyOfRow, ownRow}
 use Rattle.name_index.proofs.LastRows.{last-none, last-told, raw-has}
 use Rattle.tree_rule.specs.Signatures.{opens}
 use Rattle.apply_rule.specs.Changes.{Signed, unsigned, signed, Context, noMethod, inMethod, contextBy, lineIn}
 use Rattle.apply_rule.specs.inner.Plans.{mappingIn}
-use Rattle.apply_members.specs.declared.member.MemberNote.{MemberNote}
 use Rattle.apply_members.specs.declared.node.NodeNote.{NodeNote}
-use Rattle.apply_members.specs.inner.Notes.{
-  rowNumber,
-  isHome,
-  methodNote,
-  fieldNote,
-  memberNote,
-  noteSigned,
-  contextNumber,
-  homeRow,
-  Meant,
-  MeantBy,
-  lineBy,
-}
+use Rattle.apply_members.specs.inner.Notes.{rowNumber, memberNote, noteSigned, contextNumber, homeRow, Meant, MeantBy, lineBy}
 
 module _ (classes rows : List (List ℕ)) (pool class : List ℕ) where
   abbrev cs : List Pair

@@ -3,7 +3,7 @@ use mathlib.Core.Path.{_≡_, refl, sym, _∙_, ap, subst}
 use mathlib.Core.Bool.{Bool, true, false}
 use mathlib.Core.List.{List, [], _∷_, _++_, append-assoc}
 use mathlib.Core.Logic.{_⊎_, inl, inr}
-use Prim.Native.Nat.{ℕ, zero, suc, _+_, _*_, _-_, _^_, _≤_, _<_}
+use Prim.Native.Nat.{ℕ, zero, suc, _+_, _*_, _-_, _≤_, _<_}
 use native.Mathlib.Omega.{arith}
 use lib.Dec.{eqb}
 use lib.ListN.{length, getD, drop, length-append, List·getD-append}
@@ -26,11 +26,10 @@ use Rattle.name_index.specs.inner.Chains.{Chained}
 use Rattle.tree_rule.specs.declared.TreeCounts.{TreeCounts}
 use Rattle.tree_rule.specs.declared.Token.{Token}
 use Rattle.tree_rule.specs.declared.Token.the-variants.{Other}
-use Rattle.tree_rule.specs.declared.Owner.{Owner}
 use Rattle.tree_rule.specs.declared.NodeSignature.{NodeSignature}
 use Rattle.tree_rule.specs.declared.NodeSignature.the-variants.{Absent, Present}
 use Rattle.tree_rule.specs.Words.{wordAt, listFrom, sumFrom}
-use Rattle.tree_rule.specs.Trees.{Parent, noParent, parentRow, nameIn}
+use Rattle.tree_rule.specs.Trees.{noParent, parentRow, nameIn}
 use Rattle.tree_rule.specs.Files.{
   nodesStart,
   tokensStart,
@@ -45,28 +44,11 @@ use Rattle.tree_rule.specs.Files.{
 }
 use Rattle.tree_rule.specs.Signatures.{opens, nodeSignature}
 use Rattle.tree_rule.specs.Theorems.{FormedBy}
-use Rattle.tree_rule.proofs.WordLaws.{word-drop, word-here}
+use Rattle.tree_rule.proofs.WordLaws.{word-here}
 use Rattle.tree_rule.proofs.RowLaws.{list-length, list-at, sum-append}
-use Rattle.tree_rule.proofs.Reading.{nodeFrom, node-tokens}
+use Rattle.tree_rule.proofs.Reading.{node-tokens}
 use Rattle.tree_rule.proofs.Present.{present-told}
-use Rattle.apply_rule.specs.Changes.{
-  Context,
-  noMethod,
-  contextAbove,
-  contextBy,
-  contextOf,
-  rawNameAt,
-  ownerName,
-  signed,
-  unsigned,
-  Signed,
-  signedBy,
-  signedOf,
-  changeOf,
-  changedFrom,
-  Changed,
-  changedNodes,
-}
+use Rattle.apply_rule.specs.Changes.{Context, noMethod, contextAbove, contextBy, rawNameAt, ownerName, Signed, signedBy, signedOf, changeOf, Changed, changedNodes}
 use Rattle.apply_rule.specs.Applying.{allChanged, mostTree}
 use Rattle.apply_rule.specs.inner.Plans.{mappingIn, changesIn, shownAt, PlannedAs, noChange, changeAt, Planned}
 use Rattle.apply_rule.proofs.Numbering.{changed-length, changed-at}

@@ -17,23 +17,13 @@ use Rattle.ground.proofs.Cases.{clash, le-or-lt}
 use Rattle.ground.proofs.PutLaws.{length-put}
 use Rattle.tree_rule.specs.declared.TreeCounts.{TreeCounts}
 use Rattle.tree_rule.specs.Words.{wordAt, wordBytes}
-use Rattle.tree_rule.specs.Files.{nodesStart, tokensStart, fileLength, tokenRow, tokenAt}
-use Rattle.tree_rule.proofs.WordLaws.{bytes-length, word-drop}
+use Rattle.tree_rule.specs.Files.{nodesStart, tokensStart, tokenRow, tokenAt}
+use Rattle.tree_rule.proofs.WordLaws.{bytes-length}
 use Rattle.tree_rule.proofs.PutWords.{drop-put, word-before, word-after, word-put}
 use Rattle.apply_rule.specs.inner.Plans.{shownAt}
 use Rattle.apply_members.specs.declared.node.NodeNote.{NodeNote}
 use Rattle.apply_members.specs.inner.Notes.{MeantBy}
-use Rattle.apply_plans.specs.inner.Noted.{
-  linedWord,
-  Lined,
-  memberPut,
-  contextNoted,
-  MemberInside,
-  headPut,
-  HeadReady,
-  NodeReady,
-  NodePlanned,
-}
+use Rattle.apply_plans.specs.inner.Noted.{linedWord, Lined, contextNoted, headPut, HeadReady, NodeReady, NodePlanned}
 
 apart : (a b : ℕ) → (a ≡ b → ⊥) → b < a + 1 → b < a
 apart a b n h = go (le-or-lt a b)

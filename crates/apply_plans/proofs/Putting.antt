@@ -17,29 +17,14 @@ use Rattle.ground.specs.Put.{put}
 use Rattle.ground.proofs.Cases.{clash, le-or-lt}
 use Rattle.ground.proofs.PutLaws.{length-put}
 use Rattle.tree_rule.specs.declared.TreeCounts.{TreeCounts}
-use Rattle.tree_rule.specs.declared.Token.{Token}
 use Rattle.tree_rule.specs.declared.Token.the-variants.{Other, MemberName, Descriptor, SourceLine}
 use Rattle.tree_rule.specs.Words.{wordAt, wordBytes}
-use Rattle.tree_rule.specs.Files.{nodesStart, tokensStart, fileLength, tokenBy, tokenRow, tokenAt}
-use Rattle.tree_rule.specs.Theorems.{FormedBy}
+use Rattle.tree_rule.specs.Files.{nodesStart, tokensStart, fileLength, tokenBy, tokenRow}
 use Rattle.tree_rule.proofs.WordLaws.{bytes-length, word-drop}
-use Rattle.tree_rule.proofs.PutWords.{drop-put, word-before, word-after, word-put}
+use Rattle.tree_rule.proofs.PutWords.{drop-put, word-before, word-put}
 use Rattle.name_lines.specs.LineNames.{rawLine}
-use Rattle.apply_rule.specs.inner.Plans.{shownAt}
 use Rattle.apply_members.specs.inner.Notes.{lineBy, lineNumber}
-use Rattle.apply_plans.specs.inner.Noted.{
-  wordAbove,
-  ParentBelow,
-  linedWord,
-  LinedTo,
-  Lined,
-  memberPut,
-  contextWord,
-  MemberInside,
-  headPut,
-  HeadReady,
-}
-use Rattle.apply_members.specs.declared.node.NodeNote.{NodeNote}
+use Rattle.apply_plans.specs.inner.Noted.{ParentBelow, linedWord, LinedTo, Lined, memberPut, MemberInside, headPut, HeadReady}
 
 -- The row of a member name.
 module _ (c : TreeCounts) (member named : ℕ) (out : List ℕ) where

@@ -1,8 +1,8 @@
 -- What is noted of a token is the plan of its change. Assumes nothing.
-use mathlib.Core.Path.{_≡_, refl, sym, _∙_, ap, subst}
+use mathlib.Core.Path.{_≡_, refl, ap}
 use mathlib.Core.Bool.{Bool, true, false}
 use mathlib.Core.List.{List, []}
-use Prim.Native.Nat.{ℕ, zero, suc, _+_, _≤_, _<_}
+use Prim.Native.Nat.{ℕ, _+_, _<_}
 use native.Mathlib.Omega.{arith}
 use lib.Dec.{eqb}
 use lib.ListN.{length, getD}
@@ -39,10 +39,9 @@ use Rattle.apply_rule.specs.Changes.{
   lineIn,
   changeOf,
 }
-use Rattle.apply_rule.specs.Applying.{nameOf, tokenWith}
 use Rattle.apply_rule.specs.inner.Plans.{mappingIn, PlannedAs}
 use Rattle.apply_members.specs.declared.node.NodeNote.{NodeNote}
-use Rattle.apply_members.specs.inner.Notes.{rowNumber, memberNote, noteSigned, contextNumber, homeRow, lineBy, lineNumber}
+use Rattle.apply_members.specs.inner.Notes.{rowNumber, memberNote, noteSigned, contextNumber, homeRow, lineNumber}
 use Rattle.apply_plans.specs.inner.Noted.{linedWord}
 use Rattle.apply_plans.proofs.ContextNumbers.{number-line}
 

@@ -2,7 +2,7 @@
 -- equal, its number put in b; a replaced line goes into b. An accepted apply returns the output's length."
 use mathlib.Core.Bool.{Bool}
 use mathlib.Core.List.{List, [], _∷_, _++_}
-use Prim.Native.Nat.{ℕ, zero, suc, _+_, _-_}
+use Prim.Native.Nat.{ℕ, _+_, _-_}
 use lib.Dec.{leb}
 use lib.ListN.{length, replicate}
 use Rattle.ground.specs.Choice.{pick, both}

@@ -1,21 +1,20 @@
 -- Small trees with a mapping applied, computed from the rules.
 use mathlib.Core.Path.{_≡_, refl}
-use mathlib.Core.Bool.{Bool, true, false}
+use mathlib.Core.Bool.{true, false}
 use mathlib.Core.List.{List, [], _∷_, _++_}
 use Prim.Native.Nat.{ℕ}
-use lib.ListN.{length}
 use Rattle.ground.specs.Ascii.{ascii}
 use Rattle.ground.specs.Join.{join}
 use Rattle.ground.specs.Look.{known, unknown}
 use Rattle.text_places.specs.Places.{same}
-use Rattle.table_rows.specs.declared.rows.Ranges.the-variants.{None, Both}
+use Rattle.table_rows.specs.declared.rows.Ranges.the-variants.{Both}
 use Rattle.table_rows.specs.declared.rows.Text.{Text}
 use Rattle.table_rows.specs.Rows.{text}
 use Rattle.table_rows.specs.Classes.{pair, shown}
 use Rattle.descriptor.specs.Pieces.{partsFrom}
 use Rattle.load_rule.specs.Members.{MemberKind, field, method, Entry}
 use Rattle.name_rule.specs.Mappings.{Mapping, mapping}
-use Rattle.name_rule.specs.MemberNames.{key, rawOfRow, lastNamed, lastTranslated}
+use Rattle.name_rule.specs.MemberNames.{rawOfRow, lastNamed, lastTranslated}
 use Rattle.tree_rule.specs.declared.Token.{Token}
 use Rattle.tree_rule.specs.declared.Token.the-variants.{Other, MemberName, Descriptor, SourceLine}
 use Rattle.tree_rule.specs.Trees.{Parent, noParent, parentRow, Node, Tree, other, memberName, descriptor, sourceLine, meaningOf}

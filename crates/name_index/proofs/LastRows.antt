@@ -1,12 +1,11 @@
 -- The last row that answers, by places: it does, and no row behind it. Assumes nothing.
-use mathlib.Core.Path.{_≡_, refl, sym, _∙_, ap}
+use mathlib.Core.Path.{_≡_, refl, _∙_}
 use mathlib.Core.Bool.{Bool, true, false}
 use mathlib.Core.List.{List, [], _∷_}
 use Prim.Native.Nat.{ℕ, zero, suc, _-_, _≤_, _<_}
 use native.Mathlib.Omega.{arith}
 use lib.ListN.{length, getD}
 use Rattle.ground.specs.Choice.{pick}
-use Rattle.text_places.specs.Places.{same}
 use Rattle.text_places.proofs.PlaceLaws.{same-equal}
 use Rattle.table_rows.specs.Rows.{unpackClass}
 use Rattle.tables.specs.declared.search.Found.{Found}

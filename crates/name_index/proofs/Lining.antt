@@ -1,8 +1,8 @@
 -- Lines by the last row of a method. Assumes nothing.
 use mathlib.Core.Path.{_≡_, refl, sym, _∙_, ap}
 use mathlib.Core.Bool.{Bool, true, false}
-use mathlib.Core.List.{List, [], _∷_}
-use Prim.Native.Nat.{ℕ, zero, suc, _+_, _*_, _-_, _≤_, _<_}
+use mathlib.Core.List.{List, []}
+use Prim.Native.Nat.{ℕ, _+_, _*_, _-_, _≤_, _<_}
 use native.Mathlib.Omega.{arith}
 use lib.Dec.{eqb}
 use lib.ListN.{length, getD}
@@ -22,7 +22,7 @@ use Rattle.tables.specs.declared.search.Found.the-variants.{Row, Unknown}
 use Rattle.tables.specs.Back.{textIn, readBack}
 use Rattle.tables.specs.Search.{lastRaw}
 use Rattle.tables.proofs.Searching.{scanning-from, scanning-found, raw-found}
-use Rattle.load_rule.specs.Members.{MemberKind, field, method, Entry}
+use Rattle.load_rule.specs.Members.{field, method, Entry}
 use Rattle.name_lines.specs.declared.lines.RawLine.{RawLine}
 use Rattle.name_lines.specs.declared.lines.LineName.{LineName}
 use Rattle.name_lines.specs.declared.lines.LineName.the-variants as line

@@ -1,31 +1,29 @@
 -- The last member row that answers, by the index: rows of another mark do not match. Assumes nothing.
 use mathlib.Core.Path.{_≡_, refl, sym, _∙_, ap}
 use mathlib.Core.Bool.{Bool, true, false}
-use mathlib.Core.List.{List, [], _∷_}
+use mathlib.Core.List.{List, []}
 use mathlib.Core.Logic.{_⊎_, inl, inr}
-use Prim.Native.Nat.{ℕ, suc, _+_, _*_, _-_, _≤_, _<_}
+use Prim.Native.Nat.{ℕ, _+_, _*_, _-_, _≤_, _<_}
 use native.Mathlib.Omega.{arith}
 use lib.ListN.{length, getD}
 use mir.Val.{Fits}
 use mir.Syntax.{w64}
 use borrow.Author.Needs.{needs}
-use Rattle.ground.specs.Choice.{pick, both}
-use Rattle.ground.specs.Look.{Look, known, unknown}
+use Rattle.ground.specs.Choice.{both}
+use Rattle.ground.specs.Look.{Look, known}
 use Rattle.ground.proofs.Cases.{le-or-lt, clash, both-left, both-right}
 use Rattle.text_places.specs.Places.{same}
 use Rattle.text_places.proofs.PlaceLaws.{same-equal}
 use Rattle.table_rows.specs.declared.rows.Member.{Member}
-use Rattle.table_rows.specs.Classes.{Pair, shown}
+use Rattle.table_rows.specs.Classes.{Pair}
 use Rattle.table_rows.specs.Rows.{unpackClass, unpackMember}
 use Rattle.tables.specs.declared.search.Found.{Found}
 use Rattle.tables.specs.declared.search.Found.the-variants.{Row, Unknown}
 use Rattle.tables.specs.Back.{textIn, pairOf, readBack}
-use Rattle.tables.specs.declared.search.Side.the-variants.{Raw}
-use Rattle.tables.specs.Search.{orRow, lastRowFrom, hasName, lastRaw}
-use Rattle.tables.proofs.Searching.{Scanning, scanning-from, scanning-found, scanning-ends, raw-found}
-use Rattle.table_index.specs.inner.Marks.{markCount}
+use Rattle.tables.specs.Search.{lastRaw}
+use Rattle.tables.proofs.Searching.{scanning-from, scanning-found, scanning-ends, raw-found}
 use Rattle.name_rule.specs.Mappings.{memberBack, entryBack}
-use Rattle.name_rule.specs.MemberNames.{Key, key, rawOfRow, isText, matches}
+use Rattle.name_rule.specs.MemberNames.{key, rawOfRow, isText}
 use Rattle.name_rule.specs.MemberRows.{lastMember}
 use Rattle.name_rule.proofs.Rows.{row-raw, row-beyond}
 use Rattle.name_members.specs.declared.rows.Asked.{Asked}

@@ -29,7 +29,7 @@ use Rattle.tree_rule.specs.Files.{
   countBytes,
 }
 use Rattle.tree_rule.specs.Signatures.{isMemberName}
-use Rattle.apply_rule.specs.Changes.{Change, stays, named, lined, nameChange, shownDescriptor, Changed, ChangedNode}
+use Rattle.apply_rule.specs.Changes.{Change, stays, named, lined, nameChange, shownDescriptor, Changed}
 use Rattle.apply_rule.specs.Applying.{tokenWith, nameOf, newNames, numbered, nameRows, allChanged, changedIn}
 
 -- the mapping of tables of which all rows are used
