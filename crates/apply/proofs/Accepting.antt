@@ -19,7 +19,7 @@ use Rattle.tables.proofs.Checking.{formed}
 use Rattle.apply_rule.specs.declared.Applied.the-variants as answer
 use Rattle.apply_rule.specs.Applying.{mostTree, fitsIn}
 use Rattle.apply.proofs.Filling.{zero-drop}
-use Rattle.apply.specs.inner.Filled.{FillReady, AcceptReady, FilledTo, NoneFilled, FilledBy, fittingAnswer, fittingOutput}
+use Rattle.apply.specs.inner.Filled.{FillReady, AcceptReady, FilledTo, NoneFilled, OutputFilledBy, fittingAnswer, fittingOutput}
 
 zero-take : (k n : ℕ) → k ≤ n → _≡_ {A = List ℕ} (take k (replicate n 0)) (replicate k 0)
 zero-take zero n h = refl
@@ -83,7 +83,7 @@ module _ (classes rows : List (List ℕ)) (f out : List ℕ) (k : AcceptReady cl
       output-none g = g ∙ sym (rw (fits-no (omega (arith, d .over, part-length))))
 
     -- by the answer of the filling
-    module _ (part : List ℕ) (r : Wrote) (w : FilledBy r file (take room out) part) where
+    module _ (part : List ℕ) (r : Wrote) (w : OutputFilledBy r file (take room out) part) where
       told : {«end» : ℕ} → r ≡ Done «end» → FilledTo «end» file (take room out) part
       told g = rw g at w
 

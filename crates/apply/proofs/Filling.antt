@@ -27,7 +27,7 @@ use Rattle.apply_plans.specs.inner.Noted.{Blank}
 use Rattle.apply_plans.specs.inner.Passed.{PlansMade}
 use Rattle.apply_output.proofs.Listing.{laid-length}
 use Rattle.apply_output.specs.inner.Output.{Ready, OutputIs, OutputOver, OutputBy}
-use Rattle.apply.specs.inner.Filled.{PassReady, FillReady, FilledTo, NoneFilled, FilledBy}
+use Rattle.apply.specs.inner.Filled.{PassReady, FillReady, FilledTo, NoneFilled, OutputFilledBy}
 
 -- Zeros.
 zero-at : (n i : ℕ) → _≡_ {A = ℕ} (getD (replicate n 0) i 0) 0
@@ -116,7 +116,7 @@ module _ (classes rows : List (List ℕ)) (pool class : List ℕ) (c : TreeCount
 pub pass-by : (classes rows : List (List ℕ)) (pool class : List ℕ) (c : TreeCounts) (f old : List ℕ) → PassReady classes c f old →
     {mid : List ℕ} → PlansMade classes rows pool class c f old mid → {noted : List ℕ} → Noted c f classes pool mid noted →
     (r : Wrote) (new : List ℕ) → OutputBy r classes rows pool c f noted new →
-    FilledBy r (laidOut c f (changesIn classes rows pool class c f)) old new
+    OutputFilledBy r (laidOut c f (changesIn classes rows pool class c f)) old new
 pass-by classes rows pool class c f old k p n (Done e) new o = pass-done classes rows pool class c f old k p n o
 pass-by classes rows pool class c f old k p n NoRoom new o = pass-over classes rows pool class c f old k p n o
 
@@ -152,8 +152,8 @@ module _ (classes rows : List (List ℕ)) (pool class : List ℕ) (f old : List 
           few = k .few-classes;
         })
 
-    pub fill-done : (r : Wrote) (new : List ℕ) → FilledBy r (laidOut c f (changesIn classes rows pool class c f)) old new →
-        FilledBy r (appliedFile (mappingIn classes rows pool) class f) old new
-    fill-done r new = subst (λ x. FilledBy r x old new) (file-is e)
+    pub fill-done : (r : Wrote) (new : List ℕ) → OutputFilledBy r (laidOut c f (changesIn classes rows pool class c f)) old new →
+        OutputFilledBy r (appliedFile (mappingIn classes rows pool) class f) old new
+    fill-done r new = subst (λ x. OutputFilledBy r x old new) (file-is e)
 
 pub ruleset filling = (fill-over, fill-head, fill-ready, fill-done, needs)

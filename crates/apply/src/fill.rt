@@ -20,7 +20,7 @@ ghost use Rattle.table_index.specs.inner.Index.{IndexBy};
 ghost use Rattle.name_index.specs.inner.Chains.{Chained};
 ghost use Rattle.apply_rule.specs.Applying.{appliedFile};
 ghost use Rattle.apply_rule.specs.inner.Plans.{mappingIn, changesIn, laidOut};
-ghost use Rattle.apply.specs.inner.Filled.{PassReady, FillReady, FilledBy};
+ghost use Rattle.apply.specs.inner.Filled.{PassReady, FillReady, OutputFilledBy};
 
 // All passes, by both indexes.
 fn pass(
@@ -40,7 +40,7 @@ fn pass(
     ensures { λ r.
         let f = now (tree .entry) in
         let cs = changesIn (now (classes .entry)) (now (members .entry)) (now (pool .entry)) (now (class .entry)) counts f in
-        ⌜ FilledBy r (laidOut counts f cs) (now (out .entry)) (now (out .exit)) ⌝ }
+        ⌜ OutputFilledBy r (laidOut counts f cs) (now (out .entry)) (now (out .exit)) ⌝ }
 {
     plan_nodes(
         out,
@@ -69,7 +69,7 @@ pub fn fill_output(
     requires { ⌜ FillReady (now classes) (now members) (now tree) (now out) ⌝ }
     ensures { λ r.
         let m = mappingIn (now (classes .entry)) (now (members .entry)) (now (pool .entry)) in
-        ⌜ FilledBy r (appliedFile m (now (class .entry)) (now (tree .entry))) (now (out .entry)) (now (out .exit)) ⌝ }
+        ⌜ OutputFilledBy r (appliedFile m (now (class .entry)) (now (tree .entry))) (now (out .entry)) (now (out .exit)) ⌝ }
 {
     if out.len() < tree.len() {
         return Wrote::NoRoom;

@@ -34,22 +34,22 @@ use Rattle.name_index.proofs.LastRows.{last-none, last-told, raw-has}
 use Rattle.tree_rule.specs.Signatures.{opens}
 use Rattle.tree_signature.specs.inner.Tokens.{startsAs}
 use Rattle.apply_members.specs.declared.member.MemberNote.{MemberNote}
-use Rattle.apply_members.specs.inner.Notes.{rowNumber, note, isHome, fieldNote, methodNote, memberNote}
+use Rattle.apply_members.specs.inner.Notes.{notedRow, note, isHome, fieldNote, methodNote, memberNote}
 
 -- The number of a row.
 module _ (o : Found) {i : ℕ} (e : o ≡ Row i) where
-  pub number-of : i + 1 ≡ rowNumber o
-  number-of = let z : i + 1 ≡ suc i = omega arith in z ∙ sym (ap rowNumber e)
+  pub number-of : i + 1 ≡ notedRow o
+  number-of = let z : i + 1 ≡ suc i = omega arith in z ∙ sym (ap notedRow e)
 
-  module _ (h : rowNumber o ≤ mostMembers) where
+  module _ (h : notedRow o ≤ mostMembers) where
     pub row-fits : Fits w32 i
     row-fits = let z : suc i ≤ 32768 = rw e at h in omega arith
 
     pub number-fits : Fits w32 (i + 1)
     number-fits = let z : suc i ≤ 32768 = rw e at h in omega arith
 
-pub no-number : (o : Found) → o ≡ Unknown → 0 ≡ rowNumber o
-no-number o e = sym (ap rowNumber e)
+pub no-number : (o : Found) → o ≡ Unknown → 0 ≡ notedRow o
+no-number o e = sym (ap notedRow e)
 
 pub ruleset row-numbers = (number-of, row-fits, number-fits, no-number, needs)
 
@@ -83,32 +83,32 @@ module _ (classes rows : List (List ℕ)) (pool : List ℕ) where
   cs = readBack classes pool
 
   module _ {chains : List ℕ} (x : Chained classes pool rows chains (length rows)) (k : Key) {z : Found} where
-    pub field-few : z ≡ rowAsked asked.Field cs k rows pool → rowNumber z ≤ mostMembers
+    pub field-few : z ≡ rowAsked asked.Field cs k rows pool → notedRow z ≤ mostMembers
     field-few e = go z refl
       where
-        go : (y : Found) → z ≡ y → rowNumber y ≤ mostMembers
+        go : (y : Found) → z ≡ y → notedRow y ≤ mostMembers
         go (Row i) f = let h = field-found cs k rows pool (sym e ∙ f) .0 in let g = x .few in omega arith
         go Unknown f = omega arith
 
-    pub method-few : z ≡ rowAsked asked.Method cs k rows pool → rowNumber z ≤ mostMembers
+    pub method-few : z ≡ rowAsked asked.Method cs k rows pool → notedRow z ≤ mostMembers
     method-few e = go z refl
       where
-        go : (y : Found) → z ≡ y → rowNumber y ≤ mostMembers
+        go : (y : Found) → z ≡ y → notedRow y ≤ mostMembers
         go (Row i) f = let h = method-found cs k rows pool (sym e ∙ f) .0 in let g = x .few in omega arith
         go Unknown f = omega arith
 
-  pub field-noted : (k : Key) {z : Found} → z ≡ rowAsked asked.Field cs k rows pool → {n : ℕ} → n ≡ rowNumber z →
+  pub field-noted : (k : Key) {z : Found} → z ≡ rowAsked asked.Field cs k rows pool → {n : ℕ} → n ≡ notedRow z →
       note n true 0 ≡ fieldNote classes rows pool k
-  field-noted k e f = ap (λ n. note n true 0) (f ∙ ap rowNumber e)
+  field-noted k e f = ap (λ n. note n true 0) (f ∙ ap notedRow e)
 
-  module _ (k : Key) {z : Found} (e : z ≡ rowAsked asked.Method cs k rows pool) {n : ℕ} (f : n ≡ rowNumber z) (home : Bool) where
-    named-is : n ≡ rowNumber (methodRow cs k rows pool)
-    named-is = f ∙ ap rowNumber e
+  module _ (k : Key) {z : Found} (e : z ≡ rowAsked asked.Method cs k rows pool) {n : ℕ} (f : n ≡ notedRow z) (home : Bool) where
+    named-is : n ≡ notedRow (methodRow cs k rows pool)
+    named-is = f ∙ ap notedRow e
 
     owns : List ℕ → Bool
     owns r = ownerMatches cs k (entryBack pool r)
 
-    noted : (i : Bool) (l : ℕ) → i ≡ not home → l ≡ pick home (rowNumber (ownRow classes rows pool k)) 0 →
+    noted : (i : Bool) (l : ℕ) → i ≡ not home → l ≡ pick home (notedRow (ownRow classes rows pool k)) 0 →
         note n i l ≡ methodNote classes rows pool k home
     noted i l p q = rw (named-is, p, q)
 
@@ -124,12 +124,12 @@ module _ (classes rows : List (List ℕ)) (pool : List ℕ) where
     method-none h =
         let o : ownRow classes rows pool k ≡ Unknown =
         first-none (ownRow classes rows pool k) (lastMember (methodMatches cs k) rows pool) (sym e ∙ h) in
-        noted (not home) 0 refl (sym (ap (λ y. pick home (rowNumber y) 0) o ∙ never home))
+        noted (not home) 0 refl (sym (ap (λ y. pick home (notedRow y) 0) o ∙ never home))
 
     pub method-away : not home ≡ true → note n true 0 ≡ methodNote classes rows pool k home
     method-away h = go home h (λ p q. noted true 0 p q)
       where
-        go : (b : Bool) → not b ≡ true → (true ≡ not b → 0 ≡ pick b (rowNumber (ownRow classes rows pool k)) 0 →
+        go : (b : Bool) → not b ≡ true → (true ≡ not b → 0 ≡ pick b (notedRow (ownRow classes rows pool k)) 0 →
             note n true 0 ≡ methodNote classes rows pool k home) → note n true 0 ≡ methodNote classes rows pool k home
         go true q given = clash q refl
         go false q given = given refl refl
@@ -172,19 +172,19 @@ module _ (classes rows : List (List ℕ)) (pool : List ℕ) where
             go Unknown c p r = refl
 
         module _ (t : not home ≡ false) where
-          at-home : {l : ℕ} → l ≡ rowNumber (ownRow classes rows pool k) → note n false l ≡ methodNote classes rows pool k home
+          at-home : {l : ℕ} → l ≡ notedRow (ownRow classes rows pool k) → note n false l ≡ methodNote classes rows pool k home
           at-home {l} q = go home t (λ u v. noted false l u v)
             where
-              go : (c : Bool) → not c ≡ false → (false ≡ not c → l ≡ pick c (rowNumber (ownRow classes rows pool k)) 0 →
+              go : (c : Bool) → not c ≡ false → (false ≡ not c → l ≡ pick c (notedRow (ownRow classes rows pool k)) 0 →
                   note n false l ≡ methodNote classes rows pool k home) → note n false l ≡ methodNote classes rows pool k home
               go true s given = given refl q
               go false s given = clash refl s
 
           pub method-own : b ≡ true → note n false n ≡ methodNote classes rows pool k home
-          method-own u = at-home (f ∙ ap rowNumber (h ∙ sym (own-yes u)))
+          method-own u = at-home (f ∙ ap notedRow (h ∙ sym (own-yes u)))
 
           pub method-other : b ≡ false → note n false 0 ≡ methodNote classes rows pool k home
-          method-other u = at-home (sym (ap rowNumber (own-no u)))
+          method-other u = at-home (sym (ap notedRow (own-no u)))
 
 pub class-shown : (classes : List (List ℕ)) (pool : List ℕ) (i : ℕ) →
     lastRaw classes pool (textIn pool (unpackClass (getD classes i []) .raw)) ≡ Row i →

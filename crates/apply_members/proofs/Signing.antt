@@ -26,7 +26,7 @@ use Rattle.tree_signature.proofs.TokenLaws.{row-inside, names-inside}
 use Rattle.apply_rule.specs.Changes.{rawNameOf, rawNameAt, ownerName, signedBy, signedOf}
 use Rattle.apply_members.specs.declared.member.MemberNote.{MemberNote}
 use Rattle.apply_members.specs.declared.node.NodeNote.{NodeNote}
-use Rattle.apply_members.specs.inner.Notes.{note, memberNote, ownerText, nodeNote, noteSigned}
+use Rattle.apply_members.specs.inner.Notes.{note, memberNote, tokenOwner, nodeNote, noteSigned}
 
 -- The raw name of a token.
 module _ (c : TreeCounts) (f : List ℕ) (i : ℕ) {a : ℕ} (e : a ≡ tokensStart c) {t : Token} (g : t ≡ tokenRow f (a + 12 * i)) where
@@ -77,19 +77,19 @@ owner-there n o h e = rw e at h
 module _ (classes rows : List (List ℕ)) (pool class : List ℕ) (c : TreeCounts) (f : List ℕ) (o : Owner) (m d : ℕ)
     {n t : List ℕ} (p : n ≡ rawNameOf (nameIn (treeBy c f)) (tokenAt c f m)) (q : t ≡ rawNameOf (nameIn (treeBy c f)) (tokenAt c f d)) {r : MemberNote} where
   pub given-note : o ≡ Given → r ≡ memberNote classes rows pool class (key class n t) →
-      r ≡ memberNote classes rows pool class (key (ownerText class (nameIn (treeBy c f)) (tokenAt c f) o) (rawNameOf (nameIn (treeBy c f)) (tokenAt c f m)) (rawNameOf (nameIn (treeBy c f)) (tokenAt c f d)))
+      r ≡ memberNote classes rows pool class (key (tokenOwner class (nameIn (treeBy c f)) (tokenAt c f) o) (rawNameOf (nameIn (treeBy c f)) (tokenAt c f m)) (rawNameOf (nameIn (treeBy c f)) (tokenAt c f d)))
   given-note e h =
       h ∙ ap (λ x. memberNote classes rows pool class (key class x t)) p
       ∙ ap (λ x. memberNote classes rows pool class (key class (rawNameOf (nameIn (treeBy c f)) (tokenAt c f m)) x)) q
-      ∙ ap (λ x. memberNote classes rows pool class (key (ownerText class (nameIn (treeBy c f)) (tokenAt c f) x) (rawNameOf (nameIn (treeBy c f)) (tokenAt c f m)) (rawNameOf (nameIn (treeBy c f)) (tokenAt c f d)))) (sym e)
+      ∙ ap (λ x. memberNote classes rows pool class (key (tokenOwner class (nameIn (treeBy c f)) (tokenAt c f) x) (rawNameOf (nameIn (treeBy c f)) (tokenAt c f m)) (rawNameOf (nameIn (treeBy c f)) (tokenAt c f d)))) (sym e)
 
   pub owned-note : {i : ℕ} → o ≡ At i → {w : List ℕ} → w ≡ rawNameOf (nameIn (treeBy c f)) (tokenAt c f i) → r ≡ memberNote classes rows pool class (key w n t) →
-      r ≡ memberNote classes rows pool class (key (ownerText class (nameIn (treeBy c f)) (tokenAt c f) o) (rawNameOf (nameIn (treeBy c f)) (tokenAt c f m)) (rawNameOf (nameIn (treeBy c f)) (tokenAt c f d)))
+      r ≡ memberNote classes rows pool class (key (tokenOwner class (nameIn (treeBy c f)) (tokenAt c f) o) (rawNameOf (nameIn (treeBy c f)) (tokenAt c f m)) (rawNameOf (nameIn (treeBy c f)) (tokenAt c f d)))
   owned-note {i} e v h =
       h ∙ ap (λ x. memberNote classes rows pool class (key x n t)) v
       ∙ ap (λ x. memberNote classes rows pool class (key (rawNameOf (nameIn (treeBy c f)) (tokenAt c f i)) x t)) p
       ∙ ap (λ x. memberNote classes rows pool class (key (rawNameOf (nameIn (treeBy c f)) (tokenAt c f i)) (rawNameOf (nameIn (treeBy c f)) (tokenAt c f m)) x)) q
-      ∙ ap (λ x. memberNote classes rows pool class (key (ownerText class (nameIn (treeBy c f)) (tokenAt c f) x) (rawNameOf (nameIn (treeBy c f)) (tokenAt c f m)) (rawNameOf (nameIn (treeBy c f)) (tokenAt c f d)))) (sym e)
+      ∙ ap (λ x. memberNote classes rows pool class (key (tokenOwner class (nameIn (treeBy c f)) (tokenAt c f) x) (rawNameOf (nameIn (treeBy c f)) (tokenAt c f m)) (rawNameOf (nameIn (treeBy c f)) (tokenAt c f d)))) (sym e)
 
 pub ruleset owner-noting = (owner-there, given-note, owned-note, needs)
 
@@ -165,16 +165,16 @@ module _ (c : TreeCounts) (f : List ℕ) (first count : ℕ) where
       name-is : (i : ℕ) → i < length ts → {n : ℕ} → n ≡ first + i → rawNameAt names ts i ≡ rawNameOf names (tokenAt c f n)
       name-is i l p = ap (rawNameOf names) (token-is i l ∙ ap (tokenAt c f) (sym p))
 
-      owner-name : (class : List ℕ) → ownerName class names ts (placed h .at-owner) ≡ ownerText class names (tokenAt c f) o
+      owner-name : (class : List ℕ) → ownerName class names ts (placed h .at-owner) ≡ tokenOwner class names (tokenAt c f) o
       owner-name class = go (placed h .at-owner) (placed h .owner-is) (told .owner-inside)
         where
-          go : (x : Owner) → o ≡ ownerFrom first x → OwnerInside (length ts) x → ownerName class names ts x ≡ ownerText class names (tokenAt c f) o
-          go Given p q = sym (ap (ownerText class names (tokenAt c f)) p)
-          go (At i) p q = ap (rawNameOf names) (token-is i q) ∙ sym (ap (ownerText class names (tokenAt c f)) p)
+          go : (x : Owner) → o ≡ ownerFrom first x → OwnerInside (length ts) x → ownerName class names ts x ≡ tokenOwner class names (tokenAt c f) o
+          go Given p q = sym (ap (tokenOwner class names (tokenAt c f)) p)
+          go (At i) p q = ap (rawNameOf names) (token-is i q) ∙ sym (ap (tokenOwner class names (tokenAt c f)) p)
 
       pub signed-note : (classes rows : List (List ℕ)) (pool class : List ℕ) {r : MemberNote} →
           r ≡ memberNote classes rows pool class
-          (key (ownerText class names (tokenAt c f) o) (rawNameOf names (tokenAt c f m)) (rawNameOf names (tokenAt c f d))) →
+          (key (tokenOwner class names (tokenAt c f) o) (rawNameOf names (tokenAt c f m)) (rawNameOf names (tokenAt c f d))) →
           record { member = m; named = r .named; inherits = r .inherits; lines = r .lines }
           ≡ noteSigned classes rows pool class first (signedOf class names ts)
       signed-note classes rows pool class {r} q =

@@ -27,7 +27,7 @@ ghost use Rattle.table_index.specs.inner.Index.{IndexBy};
 ghost use Rattle.name_rule.specs.Mappings.{kindBack};
 ghost use Rattle.name_rule.specs.MemberNames.{key, ownedBy};
 ghost use Rattle.name_index.specs.inner.Chains.{Chained};
-ghost use Rattle.apply_members.specs.inner.Notes.{rowNumber, isHome, fieldNote, methodNote, memberNote};
+ghost use Rattle.apply_members.specs.inner.Notes.{notedRow, isHome, fieldNote, methodNote, memberNote};
 
 pub struct MemberNote {
     // The row whose name is shown.
@@ -39,8 +39,8 @@ pub struct MemberNote {
 }
 
 fn row_number(found: Found) -> u32
-    requires { ⌜ rowNumber found ≤ mostMembers ⌝ }
-    ensures { λ r. ⌜ r ≡ rowNumber found ⌝ }
+    requires { ⌜ notedRow found ≤ mostMembers ⌝ }
+    ensures { λ r. ⌜ r ≡ notedRow found ⌝ }
 {
     match found {
         Found::Row(row) => row as u32 + 1,

@@ -24,7 +24,7 @@ ghost use Rattle.tree_rule.specs.Files.{tokenAt, treeBy};
 ghost use Rattle.tree_rule.specs.Theorems.{FormedBy};
 ghost use Rattle.tree_rule.proofs.Present.{OwnerInside};
 ghost use Rattle.apply_rule.specs.Changes.{rawNameOf, signedOf};
-ghost use Rattle.apply_members.specs.inner.Notes.{memberNote, noteSigned, ownerText};
+ghost use Rattle.apply_members.specs.inner.Notes.{memberNote, noteSigned, tokenOwner};
 
 pub struct NodeNote {
     // The token that is the member's name, by its number.
@@ -72,7 +72,7 @@ fn named_note(
     ensures { λ r.
         let f = now (tree .entry) in
         let name = nameIn (treeBy counts f) in
-        let k = key (ownerText (now (class .entry)) name (tokenAt counts f) owner) (rawNameOf name (tokenAt counts f member))
+        let k = key (tokenOwner (now (class .entry)) name (tokenAt counts f) owner) (rawNameOf name (tokenAt counts f member))
         (rawNameOf name (tokenAt counts f descriptor)) in
         ⌜ r ≡ memberNote (now (classes .entry)) (now (members .entry)) (now (pool .entry)) (now (class .entry)) k ⌝ }
 {

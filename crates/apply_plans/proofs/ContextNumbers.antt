@@ -26,10 +26,10 @@ use Rattle.name_rule.proofs.Rows.{line-unknown, none-matches}
 use Rattle.name_index.specs.inner.Chains.{keyOfRow, ownRow}
 use Rattle.name_index.proofs.LastRows.{last-none, last-told, raw-has}
 use Rattle.tree_rule.specs.Signatures.{opens}
-use Rattle.apply_rule.specs.Changes.{Signed, unsigned, signed, Context, noMethod, inMethod, contextBy, lineIn}
+use Rattle.apply_rule.specs.Changes.{Signed, unsigned, signed, Context, noMethod, inMethod, contextBy, contextLine}
 use Rattle.apply_rule.specs.inner.Plans.{mappingIn}
 use Rattle.apply_members.specs.declared.node.NodeNote.{NodeNote}
-use Rattle.apply_members.specs.inner.Notes.{rowNumber, memberNote, noteSigned, contextNumber, homeRow, Meant, MeantBy, lineBy}
+use Rattle.apply_members.specs.inner.Notes.{notedRow, memberNote, noteSigned, contextNumber, homeRow, Meant, MeantBy, lineBy}
 
 module _ (classes rows : List (List ℕ)) (pool class : List ℕ) where
   abbrev cs : List Pair
@@ -85,9 +85,9 @@ module _ (classes rows : List (List ℕ)) (pool class : List ℕ) where
       where
         go : (o : Found) → ownRow classes rows pool (key class n d) ≡ o → 0 < w → Meant classes rows pool home (w - 1)
         go (Row i) f l =
-            let z : w - 1 ≡ i = let y : w ≡ suc i = e ∙ ap rowNumber f in omega arith in
+            let z : w - 1 ≡ i = let y : w ≡ suc i = e ∙ ap notedRow f in omega arith in
             rw z (own-meant n d f h)
-        go Unknown f l = absurd (let y : w ≡ 0 = e ∙ ap rowNumber f in omega arith)
+        go Unknown f l = absurd (let y : w ≡ 0 = e ∙ ap notedRow f in omega arith)
 
     -- no row is owned: no line is known
     no-lines : (k : Key) → ownRow classes rows pool k ≡ Unknown → (n : RawLine) → lineOfMethod (mappingIn classes rows pool) k n ≡ line.Unknown
@@ -108,16 +108,16 @@ module _ (classes rows : List (List ℕ)) (pool class : List ℕ) where
             (last-none (λ r. ownerMatches cs k (entryBack pool r)) 0 rows f i m)
 
     pub number-line : (x : Context) {w : ℕ} → w ≡ contextNumber classes rows pool class x → (n : RawLine) →
-        lineBy classes rows pool home w n ≡ lineIn (mappingIn classes rows pool) class x (n .0)
+        lineBy classes rows pool home w n ≡ contextLine (mappingIn classes rows pool) class x (n .0)
     number-line noMethod e n = ap (λ v. lineBy classes rows pool home v n) e
     number-line (inMethod a d) {w} e n = go (ownRow classes rows pool (key class a d)) refl
       where
         go : (o : Found) → ownRow classes rows pool (key class a d) ≡ o →
-            lineBy classes rows pool home w n ≡ lineIn (mappingIn classes rows pool) class (inMethod a d) (n .0)
+            lineBy classes rows pool home w n ≡ contextLine (mappingIn classes rows pool) class (inMethod a d) (n .0)
         go (Row i) f =
-            ap (λ v. lineBy classes rows pool home v n) (e ∙ ap rowNumber f)
+            ap (λ v. lineBy classes rows pool home v n) (e ∙ ap notedRow f)
             ∙ ap (λ k. lineOfMethod (mappingIn classes rows pool) k n) (key-is a d f h)
-        go Unknown f = ap (λ v. lineBy classes rows pool home v n) (e ∙ ap rowNumber f) ∙ sym (no-lines (key class a d) f n)
+        go Unknown f = ap (λ v. lineBy classes rows pool home v n) (e ∙ ap notedRow f) ∙ sym (no-lines (key class a d) f n)
 
   -- The number that a node's note and its parent's number give.
   pub noted-context : (first : ℕ) (s : Signed) (above : Context) {w : ℕ} → w ≡ contextNumber classes rows pool class above → {note : NodeNote} →
@@ -132,6 +132,6 @@ module _ (classes rows : List (List ℕ)) (pool class : List ℕ) where
           ≡ contextNumber classes rows pool class (contextBy class (signed at k) above)
       go true true p q =
           let owner : k .owner ≡ class = same-equal (k .owner) class q in
-          rw (p, q) (ap (λ x. rowNumber (ownRow classes rows pool (key x (k .name) (k .descriptor)))) owner)
+          rw (p, q) (ap (λ x. notedRow (ownRow classes rows pool (key x (k .name) (k .descriptor)))) owner)
       go true false p q = rw (p, q) e
       go false a p q = rw p e

@@ -54,7 +54,7 @@ use Rattle.apply_rule.specs.inner.Plans.{mappingIn, changesIn, shownAt, Planned
 use Rattle.apply_rule.proofs.Numbering.{changed-length, changed-at}
 use Rattle.apply_rule.proofs.Planned.{contextFrom, changesFrom, nodes-step}
 use Rattle.apply_members.specs.declared.node.NodeNote.{NodeNote}
-use Rattle.apply_members.specs.inner.Notes.{rowNumber, memberNote, noteSigned, contextNumber, homeRow, MeantBy}
+use Rattle.apply_members.specs.inner.Notes.{notedRow, memberNote, noteSigned, contextNumber, homeRow, MeantBy}
 use Rattle.apply_plans.specs.inner.Noted.{wordAbove, contextNoted, Blank, NodeReady, NodePlanned}
 use Rattle.apply_plans.specs.inner.Passed.{PlansMade, PlannedTo}
 use Rattle.apply_plans.proofs.ContextNumbers.{number-meant, noted-context}
@@ -124,7 +124,7 @@ module _ (classes rows : List (List ℕ)) (pool class : List ℕ) (c : TreeCount
           member-few : (q : Key) → memberNote classes rows pool class q .named ≤ mostMembers
           member-few q = go (opens (q .descriptor)) refl
             where
-              few : (o : Found) → ((j : ℕ) → o ≡ Row j → j < length rows) → rowNumber o ≤ mostMembers
+              few : (o : Found) → ((j : ℕ) → o ≡ Row j → j < length rows) → notedRow o ≤ mostMembers
               few (Row j) l = let y = l j refl in let z = x .few in omega arith
               few Unknown l = omega arith
 

@@ -36,12 +36,12 @@ use Rattle.apply_rule.specs.Changes.{
   memberName,
   memberChange,
   Context,
-  lineIn,
+  contextLine,
   changeOf,
 }
 use Rattle.apply_rule.specs.inner.Plans.{mappingIn, PlannedAs}
 use Rattle.apply_members.specs.declared.node.NodeNote.{NodeNote}
-use Rattle.apply_members.specs.inner.Notes.{rowNumber, memberNote, noteSigned, contextNumber, homeRow, lineNumber}
+use Rattle.apply_members.specs.inner.Notes.{notedRow, memberNote, noteSigned, contextNumber, homeRow, lineNumber}
 use Rattle.apply_plans.specs.inner.Noted.{linedWord}
 use Rattle.apply_plans.proofs.ContextNumbers.{number-line}
 
@@ -51,7 +51,7 @@ module _ (classes rows : List (List ℕ)) (pool class : List ℕ) (name : ℕ �
 
   -- A member name shows the name of the row that answers for it.
   found-plan : (o : Found) (l : Look) → ((i : ℕ) → o ≡ Row i → (i < length rows) × (l ≡ known (textIn pool (unpackMember (getD rows i []) .name)))) →
-      (o ≡ Unknown → l ≡ unknown) → (raw display : ℕ) → Plans (MemberName raw display) (rowNumber o) (nameChange l)
+      (o ≡ Unknown → l ≡ unknown) → (raw display : ℕ) → Plans (MemberName raw display) (notedRow o) (nameChange l)
   found-plan (Row i) l f g raw display = let t = f i refl in (t .0, ap nameChange (t .1))
   found-plan Unknown l f g raw display = ap nameChange (g refl)
 
@@ -105,4 +105,4 @@ module _ (classes rows : List (List ℕ)) (pool class : List ℕ) (name : ℕ �
     token-plan k (MemberName raw display) = member-plan first k s raw display e
     token-plan k (Descriptor raw display) = refl
     token-plan k (SourceLine raw display) =
-        rw (number-line classes rows pool class h x g (rawLine raw)) (line-plan (lineIn (mappingIn classes rows pool) class x raw) raw display)
+        rw (number-line classes rows pool class h x g (rawLine raw)) (line-plan (contextLine (mappingIn classes rows pool) class x raw) raw display)

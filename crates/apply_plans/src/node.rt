@@ -13,7 +13,8 @@ ghost use lib.ListN.{length};
 ghost use Rattle.tree_rule.specs.Files.{fileLength};
 ghost use Rattle.name_index.specs.inner.Chains.{Chained};
 ghost use Rattle.apply_members.specs.inner.Notes.{MeantBy};
-ghost use Rattle.apply_plans.specs.inner.Noted.{memberPut, headPut, contextWord, contextNoted, MemberInside, HeadReady, NodeReady, NodePlanned};
+ghost use Rattle.apply_plans.specs.inner.Noted.{memberPut, headPut, contextWord, contextNoted};
+ghost use Rattle.apply_plans.specs.inner.Noted.{MemberInside, HeadReady, NodeReady, NodePlanned};
 
 // The row whose name a member name shows, if there is one, in the place of its display name.
 fn put_member(out: &mut [u8], counts: TreeCounts, member: usize, named: u32)
@@ -69,8 +70,8 @@ pub fn plan_node(
         × MeantBy (now classes) (now members) (now pool) home (contextNoted (now tree) (now out) node note)
         × Chained (now classes) (now pool) (now members) (now chains) (length (now members)) ⌝ }
     ensures { λ _.
-        ⌜ NodePlanned (now (classes .entry)) (now (members .entry)) (now (pool .entry)) home counts (now (tree .entry)) node first count note
-        (now (out .entry)) (now (out .exit)) ⌝ }
+        ⌜ NodePlanned (now (classes .entry)) (now (members .entry)) (now (pool .entry)) home counts (now (tree .entry)) node first
+        count note (now (out .entry)) (now (out .exit)) ⌝ }
 {
     let context = put_head(
         out,

@@ -59,7 +59,7 @@ use Rattle.apply_rule.specs.Changes.{
   noMethod,
   inMethod,
   contextOf,
-  lineIn,
+  contextLine,
   memberChange,
   changeOf,
   Changed,
@@ -179,7 +179,7 @@ module _ (m : Mapping) (w : ShowsWell m) (class : List ℕ) (name : ℕ → List
       (named-fine (methodMatches (m .classes) k) (m .members) (w .names)))
       (named-fine (fieldMatches (m .classes) k) (m .members) (w .names))
 
-  line-fits : (c : Context) (n : ℕ) → LineFits (lineIn m class c n)
+  line-fits : (c : Context) (n : ℕ) → LineFits (contextLine m class c n)
   line-fits noMethod n = omega arith
   line-fits (inMethod x d) n = translated-fits (ownerMatches (m .classes) (key class x d)) (rawLine n) (m .members) (w .lines)
 
@@ -194,7 +194,7 @@ module _ (m : Mapping) (w : ShowsWell m) (class : List ℕ) (name : ℕ → List
   change-fits s c at (Descriptor raw display) =
       name-change-fits (shownDescriptor (shown (m .classes)) (name raw))
       (turned-fine (shown (m .classes)) (shown-fine (m .classes) (w .classes)) (name raw) (texts raw))
-  change-fits s c at (SourceLine raw display) = line-change-fits (lineIn m class c raw) (line-fits c raw)
+  change-fits s c at (SourceLine raw display) = line-change-fits (contextLine m class c raw) (line-fits c raw)
 
   node-fits : (s : Signed) (c : Context) (at : ℕ) (ts : List Token) →
       Every (λ x. ChangeFits (x .change)) (changedFrom (changeOf m class name s c) at ts)

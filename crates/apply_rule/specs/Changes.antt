@@ -106,9 +106,9 @@ contextAbove done (parentRow p) = getD done p noMethod
 abbrev pub contextOf : List ℕ → (ℕ → List ℕ) → List Context → Node → Context
 contextOf class name done n = contextBy class (signedOf class name (n .tokens)) (contextAbove done (n .parent))
 
-abbrev pub lineIn : Mapping → List ℕ → Context → ℕ → LineName
-lineIn m class noMethod line = Unknown
-lineIn m class (inMethod n d) line = lineOfMethod m (key class n d) (rawLine line)
+abbrev pub contextLine : Mapping → List ℕ → Context → ℕ → LineName
+contextLine m class noMethod line = Unknown
+contextLine m class (inMethod n d) line = lineOfMethod m (key class n d) (rawLine line)
 
 -- Tokens.
 
@@ -122,7 +122,7 @@ abbrev pub changeOf : Mapping → List ℕ → (ℕ → List ℕ) → Signed →
 changeOf m class name s c at (Other a b) = stays
 changeOf m class name s c at (MemberName raw display) = memberChange m s at
 changeOf m class name s c at (Descriptor raw display) = nameChange (shownDescriptor (shown (m .classes)) (name raw))
-changeOf m class name s c at (SourceLine raw display) = lineChange (lineIn m class c raw)
+changeOf m class name s c at (SourceLine raw display) = lineChange (contextLine m class c raw)
 
 -- a token and what becomes of it
 pub record Changed : Type 0 where

@@ -53,9 +53,9 @@ pub record FilledTo («end» : ℕ) (file old new : List ℕ) : Type 0 where
 pub record NoneFilled (file old : List ℕ) : Type 0 where
   pub over : length old < length file
 
-abbrev pub FilledBy : Wrote → List ℕ → List ℕ → List ℕ → Type 0
-FilledBy (Done «end») file old new = FilledTo «end» file old new
-FilledBy NoRoom file old new = NoneFilled file old
+abbrev pub OutputFilledBy : Wrote → List ℕ → List ℕ → List ℕ → Type 0
+OutputFilledBy (Done «end») file old new = FilledTo «end» file old new
+OutputFilledBy NoRoom file old new = NoneFilled file old
 
 -- where tables and tree are accepted: the answer and the output, of which `room` bytes are lent
 abbrev pub fittingAnswer : ℕ → List ℕ → answers.Applied

@@ -26,9 +26,9 @@ use Rattle.apply_rule.specs.Changes.{rawNameOf, Signed, unsigned, signed, Conte
 use Rattle.apply_members.specs.declared.member.MemberNote.{MemberNote}
 use Rattle.apply_members.specs.declared.node.NodeNote.{NodeNote}
 
-abbrev pub rowNumber : Found → ℕ
-rowNumber (Row i) = suc i
-rowNumber Unknown = 0
+abbrev pub notedRow : Found → ℕ
+notedRow (Row i) = suc i
+notedRow Unknown = 0
 
 abbrev pub note : ℕ → Bool → ℕ → MemberNote
 note n i l = record { named = n; inherits = i; lines = l }
@@ -38,11 +38,11 @@ abbrev pub isHome : List ℕ → List ℕ → List ℕ → Bool
 isHome class owner descriptor = both (opens descriptor) (same owner class)
 
 abbrev pub fieldNote : List (List ℕ) → List (List ℕ) → List ℕ → Key → MemberNote
-fieldNote classes rows pool k = note (rowNumber (fieldRow (readBack classes pool) k rows pool)) true 0
+fieldNote classes rows pool k = note (notedRow (fieldRow (readBack classes pool) k rows pool)) true 0
 
 abbrev pub methodNote : List (List ℕ) → List (List ℕ) → List ℕ → Key → Bool → MemberNote
 methodNote classes rows pool k home =
-    note (rowNumber (methodRow (readBack classes pool) k rows pool)) (not home) (pick home (rowNumber (ownRow classes rows pool k)) 0)
+    note (notedRow (methodRow (readBack classes pool) k rows pool)) (not home) (pick home (notedRow (ownRow classes rows pool k)) 0)
 
 abbrev pub memberNote : List (List ℕ) → List (List ℕ) → List ℕ → List ℕ → Key → MemberNote
 memberNote classes rows pool class k =
@@ -50,9 +50,9 @@ memberNote classes rows pool class k =
     (fieldNote classes rows pool k)
 
 -- the owner of a member, where `token` gives a token by its number in the file
-abbrev pub ownerText : List ℕ → (ℕ → List ℕ) → (ℕ → Token) → Owner → List ℕ
-ownerText class name token Given = class
-ownerText class name token (At i) = rawNameOf name (token i)
+abbrev pub tokenOwner : List ℕ → (ℕ → List ℕ) → (ℕ → Token) → Owner → List ℕ
+tokenOwner class name token Given = class
+tokenOwner class name token (At i) = rawNameOf name (token i)
 
 -- the note of a node whose first token has the number `first`: its member name goes by the number of its token
 abbrev pub nodeNote : ℕ → ℕ → MemberNote → NodeNote
@@ -65,7 +65,7 @@ noteSigned classes rows pool class first (signed at k) = nodeNote first at (memb
 -- the number by which a line context is noted
 abbrev pub contextNumber : List (List ℕ) → List (List ℕ) → List ℕ → List ℕ → Context → ℕ
 contextNumber classes rows pool class noMethod = 0
-contextNumber classes rows pool class (inMethod n d) = rowNumber (ownRow classes rows pool (key class n d))
+contextNumber classes rows pool class (inMethod n d) = notedRow (ownRow classes rows pool (key class n d))
 
 -- the class row of the class given; any where there is none
 abbrev pub homeRow : Found → ℕ

@@ -48,10 +48,12 @@ pub record LinedTo
   pub size : length new ≡ length old
   pub before : (p : ℕ) → p + 4 ≤ base → wordAt new p ≡ wordAt old p
   pub done : (k : ℕ) → k < n →
-      wordAt new (base + 12 * k + 8) ≡ linedWord classes rows pool home context (tokenRow f (base + 12 * k)) (wordAt old (base + 12 * k + 8))
+      wordAt new (base + 12 * k + 8) ≡
+      linedWord classes rows pool home context (tokenRow f (base + 12 * k)) (wordAt old (base + 12 * k + 8))
   pub behind : drop (base + 12 * n) new ≡ drop (base + 12 * n) old
 
-abbrev pub Lined : (classes rows : List (List ℕ)) (pool : List ℕ) (home context : ℕ) (f : List ℕ) (base count : ℕ) (old new : List ℕ) → Type 0
+abbrev pub Lined : (classes rows : List (List ℕ)) (pool : List ℕ) (home context : ℕ) (f : List ℕ) (base count : ℕ) (old new : List ℕ) →
+    Type 0
 Lined classes rows pool home context f base count old new = LinedTo classes rows pool home context f base count old new count
 
 -- The row of a member name, if there is one, in the place of its display name.
