@@ -2,6 +2,7 @@
 
 use crate::hostile::{self, Hostile};
 use crate::race::{self, Race, Unequal};
+use crate::shared_marks;
 use clumarief_compare::comment_parts::residual_comment;
 use clumarief_compare::plain::{self, Lent};
 use clumarief_compare::proved::{self, Rooms};
@@ -94,11 +95,9 @@ fn synthetic(seed: u64, runs: u64) -> Result<(), Unequal> {
 
 const SMALL: &str = include_str!("../../examples/small.map");
 
-/// So many names that share one mark of the index: `Aa` and `BB` weigh the same where a byte counts 31 times the next.
+/// So many names that share one mark of the index.
 fn alike(count: usize) -> Vec<String> {
-    let half = |at: usize, bit: usize| if at >> bit & 1 == 1 { "BB" } else { "Aa" };
-    let name = |at: usize| (0..12).map(|bit| half(at, bit)).collect();
-    (0..count).map(name).collect()
+    (0..count).map(|at| shared_marks::name(at, 12)).collect()
 }
 
 /// So many classes with such names, and methods that name one after the other, up to the length.

@@ -6,30 +6,29 @@ use crate::times::{self, Times};
 use clumarief_compare::proved::{self, Tables};
 use std::hint::black_box;
 
-/// Pairs of letters that weigh the same: 31 times the first and the second.
-const PAIRS: [&str; 2] = ["Aa", "BB"];
-
-/// Bits of a number as pairs, so that all names of one length have one mark.
-fn name(number: usize, pairs: usize) -> String {
-    let pair = |bit: usize| PAIRS[number >> bit & 1];
-    (0..pairs).map(pair).collect()
+/// A number by its bits as letters, between four letters and twelve: a mark goes by these and by the length, so that all names of
+/// as many bits have one mark.
+pub fn name(number: usize, bits: usize) -> String {
+    let letter = |bit: usize| if number >> bit & 1 == 1 { 'b' } else { 'a' };
+    let between: String = (0..bits).map(letter).collect();
+    format!("Same{between}TwelveLetter")
 }
 
-/// One class with `1 << pairs` methods, each with a name of its own.
+/// One class with `1 << bits` methods, each with a name of its own.
 struct Shared {
     members: Vec<[u32; 15]>,
     pool: Vec<u8>,
 }
 
 impl Shared {
-    fn new(pairs: usize) -> Self {
+    fn new(bits: usize) -> Self {
         // the class's raw descriptor, its display descriptor, the members' descriptor and display name
         let mut pool = b"Lx;LA;()Vm".to_vec();
-        let members = (0..1 << pairs)
+        let members = (0..1 << bits)
             .map(|number| {
-                let (place, length) = (pool.len() as u32, 2 * pairs as u32);
-                pool.extend(name(number, pairs).bytes());
-                [1, 0, place, length, 6, 3, 9, 1, 3, 3, 0, 0, 0, 0, 0]
+                let (place, name) = (pool.len() as u32, name(number, bits));
+                pool.extend(name.bytes());
+                [1, 0, place, name.len() as u32, 6, 3, 9, 1, 3, 3, 0, 0, 0, 0, 0]
             })
             .collect();
         Shared { members, pool }
@@ -56,14 +55,14 @@ pub fn run(runs: u64) {
         "\nmicroseconds a call that checks the tables, makes the index of members and looks one up; all members share one mark\n\
          members     name of no mark     first of the chain asked last     the look-up"
     );
-    for pairs in [9, 11, 13, 15] {
-        let shared = Shared::new(pairs);
+    for bits in [9, 11, 13, 15] {
+        let shared = Shared::new(bits);
         let (without, unknown) = shared.time("other", runs);
-        let (with, found) = shared.time(&name(0, pairs), runs);
+        let (with, found) = shared.time(&name(0, bits), runs);
         assert_eq!((unknown, found), (1, 2), "the index answers otherwise");
         println!(
             "{:>7}{without:>20.1}{with:>34.1}{:>16.1}",
-            1 << pairs,
+            1 << bits,
             with - without
         );
     }

@@ -1,13 +1,11 @@
-//! Mappings whose names share one mark of an index: `Aa` and `BB` weigh the same where a byte counts 31 times the next.
+//! Mappings whose names share one mark of an index, which goes by the length, the first four bytes and the last twelve.
 
 use crate::random::Random;
 
-/// Pairs of letters that weigh the same.
-const PAIRS: [&str; 2] = ["Aa", "BB"];
-
-/// One of eight names of six letters.
+/// One of eight names that differ between their first four letters and their last twelve.
 fn name(random: &mut Random) -> String {
-    (0..3).map(|_| *random.pick(&PAIRS)).collect()
+    let between: String = (0..3).map(|_| *random.pick(&["a", "b"])).collect();
+    format!("Same{between}TwelveLetter")
 }
 
 /// Ranges that mostly hold the lines from 1 to 9.

@@ -18,7 +18,7 @@ use Rattle.table_rows.specs.declared.rows.Member.{Member}
 use Rattle.table_rows.specs.Rows.{unpackClass, unpackMember, mostMembers}
 use Rattle.tables.specs.Back.{textIn}
 use Rattle.table_index.specs.inner.Marks.{markCount, markFrom}
-use Rattle.table_index.proofs.Marking.{mark-from-below}
+use Rattle.table_index.proofs.Marking.{mark-from-below, marked-below, plain-marked}
 use Rattle.name_index.specs.inner.Chains.{lastBelow, chained, memberIndexSize, memberMark, rowMark, markAt, Chained}
 
 module _ (f : ℕ → ℕ) (h : ℕ) where
@@ -92,22 +92,13 @@ unfolding lastBelow
 none-below f h = refl
 
 -- Marks.
-pub two-below : (raw name : List ℕ) {m : ℕ} → m ≡ markFrom (markFrom 0 raw) name → m < markCount
-two-below raw name e = rw e (mark-from-below (markFrom 0 raw) name (mark-from-below 0 raw (omega arith)))
-
-pub one-below : (raw : List ℕ) {m : ℕ} → m ≡ markFrom 0 raw → m < markCount
-one-below raw e = rw e (mark-from-below 0 raw (omega arith))
-
 pub three-marked : (raw name descriptor : List ℕ) {a b c : ℕ} → a ≡ markFrom 0 raw → b ≡ markFrom a name → c ≡ markFrom b descriptor → c ≡ memberMark raw name descriptor
 three-marked raw name descriptor e f g = g ∙ ap (λ x. markFrom x descriptor) (f ∙ ap (λ x. markFrom x name) e)
 
-pub name-below : (raw name : List ℕ) {a b : ℕ} → a ≡ markFrom 0 raw → b ≡ markFrom a name → b < markCount
-name-below raw name e f = two-below raw name (f ∙ ap (λ x. markFrom x name) e)
-
-pub ruleset marking-member = (one-below, name-below, three-marked, needs)
+pub ruleset marking-member = (marked-below, plain-marked, three-marked, needs)
 
 pub mark-below : (raw name descriptor : List ℕ) → memberMark raw name descriptor < markCount
-mark-below raw name descriptor = mark-from-below (markFrom (markFrom 0 raw) name) descriptor (two-below raw name refl)
+mark-below raw name descriptor = mark-from-below (markFrom (markFrom 0 raw) name) descriptor
 
 -- The raw descriptor of a class row, which may not be there.
 getD-beyond : (rows : List (List ℕ)) (i : ℕ) → length rows ≤ i → getD rows i [] ≡ []

@@ -15,7 +15,7 @@ use borrow.Author.Tests.{eqb-true, eqb-false}
 use borrow.Author.Needs.{needs}
 use Rattle.ground.proofs.Cases.{le-or-lt}
 use Rattle.table_rows.specs.Rows.{mostClasses}
-use Rattle.table_index.specs.inner.Marks.{markCount, markFrom, markOf, marksOf}
+use Rattle.table_index.specs.inner.Marks.{markCount, markOf, marksOf}
 use Rattle.table_index.specs.inner.Heads.{orNumber, firstWith, headOf, countWith}
 use Rattle.table_index.specs.inner.Index.{headsAt, endsAt, marksAt, indexSize, joined, Grouped}
 use Rattle.table_index.proofs.Marking.{mark-below, mark-is}
@@ -112,7 +112,7 @@ module _ (n : ℕ) (ms index : List ℕ) (k f : ℕ) (few : n ≤ mostClasses) (
 module _ (keys : List (List ℕ)) {n k : ℕ} {index : List ℕ} (g : Grouped n (marksOf keys) index k) (h : k < n)
     {t : List ℕ} (e : t ≡ getD keys k []) {mark : ℕ} (f : mark ≡ markOf t) where
   told : mark ≡ getD (marksOf keys) k 0
-  told = f ∙ ap (λ d. markFrom 0 d) e ∙ sym (mark-is keys k)
+  told = f ∙ ap markOf e ∙ sym (mark-is keys k)
 
   below : mark < markCount
   below = let b = mark-below t in omega arith

@@ -1,168 +1,151 @@
 -- Marks of descriptors, and the code that computes them. Assumes nothing.
 use mathlib.Core.Path.{_≡_, refl, sym, _∙_, ap}
 use mathlib.Core.Bool.{Bool, true, false}
-use mathlib.Core.List.{List, [], _∷_, _++_}
-use Prim.Native.Nat.{ℕ, _+_, _*_, _/_, _%_, _-_, _≤_, _<_}
-use native.Mathlib.Numerals.{add-one}
-use native.Mathlib.Nat.{mod-lt, mod-add-div', add-mul-mod-self-right}
+use mathlib.Core.List.{List, [], _∷_, _++_, map-id}
+use Prim.Native.Nat.{ℕ, suc, _+_, _*_, _/_, _%_, _-_, _≤_, _<_}
+use native.Mathlib.Nat.{mod-lt, div-lt-self}
 use native.Mathlib.Omega.{arith}
-use lib.Dec.{eqb}
-use lib.ListN.{length, getD, drop-of-length-le, List·getD-map}
-use lib.Seq.{drop-cons}
+use lib.Dec.{ltb}
+use lib.ListN.{length, getD, List·getD-map, length-map, length-append}
+use lib.Seq.{take-at}
 use mir.Val.{Fits}
 use mir.Syntax.{w64}
 use borrow.Author.Needs.{needs}
+use borrow.Author.Tests.{lt-ltb, le-ltb}
 use Rattle.ground.specs.Choice.{pick}
-use Rattle.table_pool.specs.Names.{slash}
-use Rattle.table_pool.specs.inner.Named.{slashIf, nameBytes}
+use Rattle.ground.specs.Put.{between}
+use Rattle.table_pool.specs.inner.Named.{slashIf, nameBytes, classPiece}
 use Rattle.table_index.specs.declared.forms.NameForm.{NameForm}
 use Rattle.table_index.specs.declared.forms.NameForm.the-variants.{Whole, Piece}
 use Rattle.table_index.specs.inner.Forms.{spelled}
-use Rattle.table_index.specs.inner.Marks.{markCount, markAfter, markFrom, markOf, marksOf, Marked}
+use Rattle.table_index.specs.inner.Marks.{markCount, fourAt, fewBytes, mixed, manyMark, markFrom, markOf, marksOf}
 
--- a slash is one already
-slash-again : (x : ℕ) → slash (slash x) ≡ slash x
-slash-again x = go (eqb x 0x2E) refl
-  where
-    go : (t : Bool) → eqb x 0x2E ≡ t → slash (pick t 0x2F x) ≡ pick t 0x2F x
-    go true e = refl
-    go false e = rw e
+-- a byte of a name
+stored-at : (dots : Bool) (s : List ℕ) (i : ℕ) → getD (nameBytes dots s) i 0 ≡ slashIf dots (getD s i 0)
+stored-at true s i = List·getD-map (slashIf true) s i 0
+stored-at false s i = List·getD-map (slashIf false) s i 0
 
-slash-stored : (dots : Bool) (x : ℕ) → slash (slashIf dots x) ≡ slash x
-slash-stored true x = slash-again x
-slash-stored false x = refl
+stored-size : (dots : Bool) (s : List ℕ) → length (nameBytes dots s) ≡ length s
+stored-size dots s = length-map s (slashIf dots)
 
--- the mark does not know dots from slashes
-mark-stored : (dots : Bool) (h : ℕ) (s z : List ℕ) → markFrom h (nameBytes dots s ++ z) ≡ markFrom (markFrom h s) z
-unfolding markFrom
-mark-stored dots h [] z = refl
-mark-stored dots h (x ∷ s) z =
-    ap (λ y. markFrom ((h * 31 + y) % markCount) (nameBytes dots s ++ z)) (slash-stored dots x)
-    ∙ mark-stored dots ((h * 31 + slash x) % markCount) s z
-
--- a mark is the number of an entry
-pub mark-from-below : (h : ℕ) (d : List ℕ) → h < markCount → markFrom h d < markCount
-unfolding markFrom
-mark-from-below h [] i = i
-mark-from-below h (b ∷ d) i = mark-from-below ((h * 31 + slash b) % markCount) d (mod-lt (h * 31 + slash b) (omega arith))
-
-pub mark-below : (d : List ℕ) → markOf d < markCount
-mark-below d = mark-from-below 0 d (omega arith)
-
--- Four bytes at once.
-step-mod : (a b : ℕ) → (a % markCount * 31 + b) % markCount ≡ (a * 31 + b) % markCount
-step-mod a b =
-    let d = mod-add-div' a markCount in
-    let e : a * 31 + b ≡ a % markCount * 31 + b + a / markCount * 31 * markCount = omega arith in
-    sym (ap (λ x. x % markCount) e ∙ add-mul-mod-self-right (a % markCount * 31 + b) (a / markCount * 31) markCount)
-
-four-mod : (h a b c d : ℕ) →
-    ((((h * 31 + a) % markCount * 31 + b) % markCount * 31 + c) % markCount * 31 + d) % markCount
-    ≡ (h * 923521 + (a * 29791 + b * 961 + c * 31 + d)) % markCount
-four-mod h a b c d =
-    let sum : (((h * 31 + a) * 31 + b) * 31 + c) * 31 + d ≡ h * 923521 + (a * 29791 + b * 961 + c * 31 + d) = omega arith in
-    ap (λ x. ((x * 31 + c) % markCount * 31 + d) % markCount) (step-mod (h * 31 + a) b)
-    ∙ ap (λ x. (x * 31 + d) % markCount) (step-mod ((h * 31 + a) * 31 + b) c)
-    ∙ step-mod (((h * 31 + a) * 31 + b) * 31 + c) d ∙ ap (λ x. x % markCount) sum
-
-pub four-told : (h a b c d : ℕ) {w x y z : ℕ} → w ≡ slash a → x ≡ slash b → y ≡ slash c → z ≡ slash d →
-    (h * 923521 + (w * 29791 + x * 961 + y * 31 + z)) % markCount ≡ markAfter (markAfter (markAfter (markAfter h a) b) c) d
-four-told h a b c d {w} {x} {y} {z} e f g i = sym (rw (← e, ← f, ← g, ← i) (four-mod h w x y z))
+pub four-told : (dots : Bool) (s : List ℕ) (at : ℕ) {w x y z : ℕ} →
+    w ≡ slashIf dots (getD s at 0) → x ≡ slashIf dots (getD s (at + 1) 0) →
+    y ≡ slashIf dots (getD s (at + 2) 0) → z ≡ slashIf dots (getD s (at + 3) 0) →
+    w + 256 * x + 65536 * (y + 256 * z) ≡ fourAt (nameBytes dots s) at
+four-told dots s at e f g h =
+    rw (stored-at dots s at, stored-at dots s (at + 1), stored-at dots s (at + 2), stored-at dots s (at + 3), ← e, ← f, ← g, ← h)
 
 pub ruleset fours = (four-told, needs)
 
--- The loops: the mark of what was read, and what is left.
--- one byte, by its place
-marked-one : {start : ℕ} {s : List ℕ} {mark k : ℕ} → Marked start s mark k → k < length s →
-    Marked start s (markAfter mark (getD s k 0)) (k + 1)
+pub none-told : (dots : Bool) (s : List ℕ) → length s ≡ 0 → 0 ≡ fewBytes (nameBytes dots s)
+none-told true [] e = refl
+none-told false [] e = refl
+none-told true (x ∷ s) e = absurd (omega arith)
+none-told false (x ∷ s) e = absurd (omega arith)
+
+pub few-told : (dots : Bool) (s : List ℕ) {w x y : ℕ} →
+    w ≡ slashIf dots (getD s 0 0) → x ≡ slashIf dots (getD s (length s / 2) 0) → y ≡ slashIf dots (getD s (length s - 1) 0) →
+    w + 256 * x + 65536 * y ≡ fewBytes (nameBytes dots s)
+few-told dots s e f g =
+    rw (stored-size dots s, stored-at dots s 0, stored-at dots s (length s / 2), stored-at dots s (length s - 1), ← e, ← f, ← g)
+
+pub ruleset few = (none-told, few-told, needs)
+
+-- a mark is the number of an entry
+mixed-below : (seed a b c d : ℕ) → mixed seed a b c d < markCount
+mixed-below seed a b c d = mod-lt ((a * 375761393 + d * 291746501 + b * 426508747 + c * 331804471 + seed * 506832829) / 1048576) (omega arith)
+
+pub mark-from-below : (h : ℕ) (s : List ℕ) → markFrom h s < markCount
 unfolding markFrom
-marked-one {start} {s} {mark} {k} m h = record {
-  inside = omega arith;
-  small = mod-lt (mark * 31 + slash (getD s k 0)) (omega arith);
-  decides = rw add-one (rw (drop-cons s k 0 h) at (m .decides));
-}
+mark-from-below h s = go (ltb (length s) 4)
+  where
+    go : (t : Bool) → pick t (mixed (h + length s % markCount) (fewBytes s) 0 0 0)
+        (manyMark (h + length s % markCount) s (length s - 4 - 8) (length s - 4)) < markCount
+    go true = mixed-below (h + length s % markCount) (fewBytes s) 0 0 0
+    go false = mixed-below (h + length s % markCount) (fourAt s 0) (fourAt s (length s - 4 - 8)) (fourAt s ((length s - 4 - 8 + (length s - 4)) / 2)) (fourAt s (length s - 4))
 
-pub marked-starts : (start : ℕ) (s : List ℕ) → start < markCount → Marked start s start 0
-marked-starts start s h = record { inside = omega arith; small = h; decides = refl }
+pub marked-below : (h : ℕ) (dots : Bool) (s : List ℕ) {m : ℕ} → m ≡ markFrom h (nameBytes dots s) → m < markCount
+marked-below h dots s e = rw e (mark-from-below h (nameBytes dots s))
 
-module _ {start : ℕ} {s : List ℕ} {mark k : ℕ} (m : Marked start s mark k) where
-  pub marked-times : Fits w64 (mark * 31)
-  marked-times = let i = m .small in omega arith
+pub mark-below : (d : List ℕ) → markOf d < markCount
+unfolding markOf
+mark-below d = go (ltb (length d) 2)
+  where
+    go : (t : Bool) → pick t 0 (markFrom 0 (between d 1 (length d - 1))) < markCount
+    go true = omega arith
+    go false = mark-from-below 0 (between d 1 (length d - 1))
 
-  pub marked-ends : length s ≤ k → mark ≡ markFrom start s
+-- A text by its parts.
+module _ (start : ℕ) (dots : Bool) (s : List ℕ) where
+  abbrev t : List ℕ
+  t = nameBytes dots s
+
+  pub short-marked : length s < 4 → {x y : ℕ} → x ≡ fewBytes (nameBytes dots s) →
+      y ≡ mixed (start + length s % markCount) x 0 0 0 → y ≡ markFrom start (nameBytes dots s)
   unfolding markFrom
-  marked-ends h = rw (drop-of-length-le s h) at (m .decides)
+  short-marked h e f =
+      f ∙ ap (λ x. mixed (start + length s % markCount) x 0 0 0) e
+      ∙ sym (rw (stored-size dots s, lt-ltb (length s) 4 h))
 
-  pub marked-sum : {x : ℕ} → x < 256 → Fits w64 (mark * 31 + x)
-  marked-sum l = let i = m .small in omega arith
-
-  pub marked-more : {x : ℕ} → x ≡ slash (getD s k 0) → k < length s → Marked start s ((mark * 31 + x) % markCount) (k + 1)
+  pub long-marked : 4 ≤ length s → {n a b c d y : ℕ} → n ≡ length s - 4 - 8 →
+      a ≡ fourAt (nameBytes dots s) 0 → b ≡ fourAt (nameBytes dots s) n → c ≡ fourAt (nameBytes dots s) ((n + (length s - 4)) / 2) →
+      d ≡ fourAt (nameBytes dots s) (length s - 4) →
+      y ≡ mixed (start + length s % markCount) a b c d → y ≡ markFrom start (nameBytes dots s)
   unfolding markFrom
-  marked-more {x} e h = record {
-    inside = omega arith;
-    small = mod-lt (mark * 31 + x) (omega arith);
-    decides = rw (add-one, e) (rw (drop-cons s k 0 h) at (m .decides));
-  }
+  long-marked h {n} {a} {b} {c} {d} i e f g k l =
+      let parts : mixed (start + length s % markCount) a b c d ≡ manyMark (start + length s % markCount) t n (length s - 4) =
+      rw (e, f, g, k) in
+      let whole : manyMark (start + length s % markCount) t (length s - 4 - 8) (length s - 4) ≡ markFrom start t =
+      sym (rw (stored-size dots s, le-ltb (length s) 4 h)) in
+      l ∙ parts ∙ ap (λ x. manyMark (start + length s % markCount) t x (length s - 4)) i ∙ whole
 
-  pub marked-small : mark < markCount
-  marked-small = m .small
+pub seed-small : {start : ℕ} (n : ℕ) → start < markCount → start + n % markCount < 16384
+seed-small n h = omega arith
 
-  module _ (h : 4 ≤ length s - k) where
-    pub four-first : k < length s
-    four-first = let i = m .inside in omega arith
+pub middle-inside : (s : List ℕ) → 4 ≤ length s → {n : ℕ} → n ≡ length s - 4 - 8 → (n + (length s - 4)) / 2 + 4 ≤ length s
+middle-inside s h e = omega arith
 
-    pub four-second : k + 1 < length s
-    four-second = let i = m .inside in omega arith
-
-    pub four-third : k + 2 < length s
-    four-third = let i = m .inside in omega arith
-
-    pub four-fourth : k + 3 < length s
-    four-fourth = let i = m .inside in omega arith
-
-    pub four-less : length s - (k + 4) < length s - k
-    four-less = let i = m .inside in omega arith
-
-    pub four-more : {x : ℕ} →
-        x ≡ markAfter (markAfter (markAfter (markAfter mark (getD s k 0)) (getD s (k + 1) 0)) (getD s (k + 2) 0)) (getD s (k + 3) 0) →
-        Marked start s x (k + 4)
-    four-more {x} e =
-        let two : k + 1 + 1 ≡ k + 2 = omega arith in
-        let three : k + 2 + 1 ≡ k + 3 = omega arith in
-        let four : k + 3 + 1 ≡ k + 4 = omega arith in
-        let a = marked-one m four-first in
-        let b = rw two at (marked-one a four-second) in
-        let c = rw three at (marked-one b four-third) in
-        let d = rw four at (marked-one c four-fourth) in
-        rw e d
-
-pub ruleset marking =
-    (marked-times, marked-ends, marked-sum, marked-more, needs)
-
-pub ruleset four-marking =
-    (marked-starts, marked-small, four-first, four-second, four-third, four-fourth, four-less, four-more, needs)
+pub ruleset marking = (short-marked, long-marked, seed-small, middle-inside, needs)
 
 -- What a name stands for.
-module _ (name : List ℕ) {h : ℕ} where
-  pub whole-marked : {form : NameForm} → form ≡ Whole → h ≡ markFrom 0 name → h ≡ markOf (spelled form name)
-  whole-marked e f = f ∙ ap (λ s. markOf (spelled s name)) (sym e)
+plain-name : (s : List ℕ) → nameBytes false s ≡ s
+plain-name s = map-id s
 
-  pub piece-fits : h ≡ markFrom 0x4C name → Fits w64 (h * 31)
-  piece-fits f = let b = mark-from-below 0x4C name (omega arith) in omega arith
+pub plain-marked : (h : ℕ) (s : List ℕ) {m : ℕ} → m ≡ markFrom h (nameBytes false s) → m ≡ markFrom h s
+plain-marked h s e = e ∙ ap (markFrom h) (plain-name s)
 
-  pub piece-sum : h ≡ markFrom 0x4C name → (x : ℕ) → x < 256 → Fits w64 (h * 31 + x)
-  piece-sum f x l = let b = mark-from-below 0x4C name (omega arith) in omega arith
+inner-piece : (dots : Bool) (name : List ℕ) → between (classPiece dots name) 1 (length (classPiece dots name) - 1) ≡ nameBytes dots name
+inner-piece dots name =
+    let n = length-append (nameBytes dots name) (0x3B ∷ []) in
+    take-at (nameBytes dots name) (0x3B ∷ []) (length (classPiece dots name) - 1 - 1) (omega arith)
 
-  pub piece-marked : {form : NameForm} {dots : Bool} → form ≡ Piece dots → h ≡ markFrom 0x4C name →
-      (h * 31 + 0x3B) % markCount ≡ markOf (spelled form name)
-  unfolding markFrom
+module _ (name : List ℕ) {form : NameForm} where
+  pub piece-marked : {h : ℕ} {dots : Bool} → form ≡ Piece dots → h ≡ markFrom 0 (nameBytes dots name) → h ≡ markOf (spelled form name)
+  unfolding markOf
   piece-marked {dots = dots} e f =
-      ap (λ x. (x * 31 + 0x3B) % markCount) f
-      ∙ sym (mark-stored dots 0x4C name (0x3B ∷ [])) ∙ ap (λ s. markOf (spelled s name)) (sym e)
+      let n = length-append (nameBytes dots name) (0x3B ∷ []) in
+      f ∙ ap (markFrom 0) (sym (inner-piece dots name))
+      ∙ ap (λ t. pick t 0 (markFrom 0 (between (classPiece dots name) 1 (length (classPiece dots name) - 1))))
+      (sym (le-ltb (length (classPiece dots name)) 2 (omega arith)))
+      ∙ ap (λ x. markOf (spelled x name)) (sym e)
 
-pub ruleset form-marking = (whole-marked, piece-fits, piece-sum, piece-marked, needs)
+  module _ (e : form ≡ Whole) where
+    pub tiny-marked : length name < 2 → 0 ≡ markOf (spelled form name)
+    unfolding markOf
+    tiny-marked l =
+        ap (λ t. pick t 0 (markFrom 0 (between name 1 (length name - 1)))) (sym (lt-ltb (length name) 2 l))
+        ∙ ap (λ x. markOf (spelled x name)) (sym e)
+
+    pub whole-marked : {h : ℕ} → 2 ≤ length name → h ≡ markFrom 0 (nameBytes false (between name 1 (length name - 1))) → h ≡ markOf (spelled form name)
+    unfolding markOf
+    whole-marked l f =
+        f ∙ ap (markFrom 0) (plain-name (between name 1 (length name - 1)))
+        ∙ ap (λ t. pick t 0 (markFrom 0 (between name 1 (length name - 1)))) (sym (le-ltb (length name) 2 l))
+        ∙ ap (λ x. markOf (spelled x name)) (sym e)
+
+pub ruleset form-marking = (piece-marked, tiny-marked, whole-marked, needs)
 
 -- The marks of all rows.
 pub mark-is : (keys : List (List ℕ)) (r : ℕ) → getD (marksOf keys) r 0 ≡ markOf (getD keys r [])
-unfolding markFrom marksOf
-mark-is keys r = List·getD-map (λ d. markFrom 0 d) keys r []
+unfolding markOf marksOf
+mark-is keys r = List·getD-map markOf keys r []

@@ -21,7 +21,7 @@ use Rattle.tables.specs.Search.{hasName, lastWith}
 use Rattle.tables.proofs.Searching.{Scanning, scanning-from, scanning-starts, scanning-ends, scanning-inside, scanning-found}
 use Rattle.tables.proofs.Searching.{scanning-more}
 use Rattle.table_index.specs.inner.Order.{atMost}
-use Rattle.table_index.specs.inner.Marks.{markCount, markFrom, markOf, marksOf}
+use Rattle.table_index.specs.inner.Marks.{markCount, markOf, marksOf}
 use Rattle.table_index.specs.inner.Keys.{keysOf}
 use Rattle.table_index.specs.inner.Heads.{firstWith, headOf}
 use Rattle.table_index.specs.inner.Shelves.{keyAt, Ranked, Seat, Shelf, Bound, LastSeat, LastOn}
@@ -230,7 +230,7 @@ module _ {side : Side} {rows : List (List ℕ)} {pool index : List ℕ} (found :
     -- a row with the name says what the table has for its mark
     told : (i : ℕ) → i < length rows → getD keys i [] ≡ name → first ≡ headOf ms i + 1
     told i h f =
-        let m : getD ms i 0 ≡ mark = mark-is keys i ∙ ap (λ s. markFrom 0 s) f ∙ sym e in
+        let m : getD ms i 0 ≡ mark = mark-is keys i ∙ ap markOf f ∙ sym e in
         d ∙ x .firsts mark below ∙ ap (λ y. firstWith ms y (length rows)) (sym m) ∙ head-told ms (length rows) i h
 
     pub search-none : first ≡ 0 → Unknown ≡ lastWith side rows pool name

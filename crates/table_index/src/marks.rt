@@ -1,71 +1,102 @@
-// The mark of a descriptor.
+// The mark of a descriptor. It goes by the length and by bounded parts of the text, so that a long one is marked as fast as a short one.
 use crate::forms::NameForm;
-use table_pool::slash_for_dot;
+use table_pool::stored_byte;
 ghost use mathlib.Core.Path.{_≡_};
-ghost use Prim.Native.Nat.{_<_};
-ghost use Rattle.table_pool.specs.Names.{slash};
-ghost use Rattle.table_index.specs.inner.Marks.{markCount, markAfter, markFrom, markOf, Marked};
+ghost use Prim.Native.Nat.{_+_, _-_, _≤_, _<_};
+ghost use lib.ListN.{length};
+ghost use Rattle.table_pool.specs.inner.Named.{slashIf, nameBytes};
+ghost use Rattle.table_index.specs.inner.Marks.{markCount, fourAt, fewBytes, mixed, markFrom, markOf};
 ghost use Rattle.table_index.specs.inner.Forms.{spelled};
 
 // How many marks there are.
 pub const MARKS: usize = 8192;
 
-// The mark of the first bytes of a text, and how many they are.
-struct Begun {
-    mark: usize,
-    read: usize,
+// A byte of a name, with dots as slashes or as they are.
+fn wide_byte(b: u8, dots: bool) -> usize
+    ensures { λ r. ⌜ (r ≡ slashIf dots b) × (r < 256) ⌝ }
+{
+    stored_byte(b, dots) as usize
 }
 
-fn wide_byte(b: u8) -> usize
-    ensures { λ r. ⌜ (r ≡ slash b) × (r < 256) ⌝ }
+// Four bytes as one number: the compiler loads them in one go.
+fn four_at(text: &[u8], at: usize, dots: bool) -> usize
+    requires { ⌜ at + 4 ≤ length (now text) ⌝ }
+    ensures { λ r. ⌜ (r ≡ fourAt (nameBytes dots (now (text .entry))) at) × (r < 4294967296) ⌝ }
 {
-    slash_for_dot(b) as usize
+    let low = wide_byte(text[at], dots) + 256 * wide_byte(text[at + 1], dots);
+    let high = wide_byte(text[at + 2], dots) + 256 * wide_byte(text[at + 3], dots);
+    low + 65536 * high
 }
 
-// The mark with four bytes more: one product for all of them, where byte by byte each would wait for the one before.
-fn mark_four(mark: usize, a: u8, b: u8, c: u8, d: u8) -> usize
-    requires { ⌜ mark < markCount ⌝ }
-    ensures { λ r. ⌜ r ≡ markAfter (markAfter (markAfter (markAfter mark a) b) c) d ⌝ }
+// Of up to three bytes, all.
+fn few_bytes(text: &[u8], dots: bool) -> usize
+    requires { ⌜ length (now text) < 4 ⌝ }
+    ensures { λ r. ⌜ (r ≡ fewBytes (nameBytes dots (now (text .entry)))) × (r < 4294967296) ⌝ }
 {
-    let sum = wide_byte(a) * 29791 + wide_byte(b) * 961 + wide_byte(c) * 31 + wide_byte(d);
-    (mark * 923521 + sum) % MARKS
-}
-
-// As many fours as there are.
-fn mark_fours(start: usize, text: &[u8]) -> Begun
-    requires { ⌜ start < markCount ⌝ }
-    ensures { λ r. ⌜ Marked start (now (text .entry)) (r .mark) (r .read) ⌝ }
-{
-    let mut mark = start;
-    let mut k = 0;
-    while 4 <= text.len() - k {
-        mark = mark_four(mark, text[k], text[k + 1], text[k + 2], text[k + 3]);
-        k += 4;
+    let length = text.len();
+    if length == 0 {
+        return 0;
     }
-    Begun { mark, read: k }
+    let first = wide_byte(text[0], dots);
+    let middle = wide_byte(text[length / 2], dots);
+    let last = wide_byte(text[length - 1], dots);
+    first + 256 * middle + 65536 * last
 }
 
-// The mark of a text, where that of what stands before it is `start`.
-pub fn mark_from(start: usize, text: &[u8]) -> usize
-    requires { ⌜ start < markCount ⌝ }
-    ensures { λ r. ⌜ r ≡ markFrom start (now (text .entry)) ⌝ }
+// One mark of five numbers: products that wait for none of the others.
+fn mixed_mark(seed: usize, a: usize, b: usize, c: usize, d: usize) -> usize
+    requires { ⌜ (seed < 16384) × (a < 4294967296) × (b < 4294967296) × (c < 4294967296) × (d < 4294967296) ⌝ }
+    ensures { λ r. ⌜ r ≡ mixed seed a b c d ⌝ }
 {
-    let begun = mark_fours(start, text);
-    let mut mark = begun.mark;
-    let mut k = begun.read;
-    while k < text.len() {
-        mark = (mark * 31 + wide_byte(text[k])) % MARKS;
-        k += 1;
-    }
-    mark
+    let ends = a * 375761393 + d * 291746501;
+    let sum = ends + b * 426508747 + c * 331804471;
+    (sum + seed * 506832829) / 1048576 % MARKS
 }
 
-// The mark of what a name stands for: of a class piece from its `L`, byte by byte, to its `;`.
+// The place eight bytes before another one, or the first one.
+fn eight_before(place: usize) -> usize
+    ensures { λ r. ⌜ r ≡ place - 8 ⌝ }
+{
+    if place < 8 {
+        return 0;
+    }
+    place - 8
+}
+
+// The mark of a text, where that of what stands before it is `start`: by its length, its first four bytes and its last twelve.
+pub fn mark_from(start: usize, text: &[u8], dots: bool) -> usize
+    requires { ⌜ start < markCount ⌝ }
+    ensures { λ r. ⌜ r ≡ markFrom start (nameBytes dots (now (text .entry))) ⌝ }
+{
+    let length = text.len();
+    let seed = start + length % MARKS;
+    if length < 4 {
+        return mixed_mark(seed, few_bytes(text, dots), 0, 0, 0);
+    }
+    let last = length - 4;
+    let near = eight_before(last);
+    let middle = (near + last) / 2;
+    mixed_mark(
+        seed,
+        four_at(text, 0, dots),
+        four_at(text, near, dots),
+        four_at(text, middle, dots),
+        four_at(text, last, dots),
+    )
+}
+
+// The mark of what a name stands for: of a descriptor the first and the last byte do not count, so that a name has the mark of its piece.
 pub fn mark_of(name: &[u8], form: NameForm) -> usize
     ensures { λ r. ⌜ r ≡ markOf (spelled form (now (name .entry))) ⌝ }
 {
     match form {
-        NameForm::Whole => mark_from(0, name),
-        NameForm::Piece(_) => (mark_from(0x4C, name) * 31 + 0x3B) % MARKS,
+        NameForm::Whole => {
+            if name.len() < 2 {
+                return 0;
+            }
+            let last = name.len() - 1;
+            mark_from(0, &name[1..last], false)
+        }
+        NameForm::Piece(dots) => mark_from(0, name, dots),
     }
 }

@@ -1,9 +1,11 @@
 -- Worked examples, computed.
 use mathlib.Core.Path.{_≡_, refl}
+use mathlib.Core.Bool.{true}
 use mathlib.Core.List.{List, [], _∷_}
 use Prim.Native.Nat.{ℕ}
 use Rattle.ground.specs.Ascii.{ascii}
 use Rattle.table_pool.specs.Names.{classDescriptor}
+use Rattle.table_pool.specs.inner.Named.{nameBytes}
 use Rattle.table_index.specs.declared.texts.Order.the-variants.{Before, Same, After}
 use Rattle.table_index.specs.inner.Order.{compared}
 use Rattle.table_index.specs.inner.Marks.{markFrom, markOf}
@@ -21,8 +23,8 @@ abbrev marks : List ℕ
 marks = 5 ∷ 7 ∷ 5 ∷ 9 ∷ []
 
 heads :
-    -- a name with dots has the mark of its descriptor
-    (markOf (ascii "La.Main;") ≡ markOf (classDescriptor (ascii "a.Main")))
+    -- a name, its dots as slashes, has the mark of its descriptor
+    (markFrom 0 (nameBytes true (ascii "a.Main")) ≡ markOf (classDescriptor (ascii "a.Main")))
     -- the first row with a mark is found by its number
     × (firstWith marks 5 4 ≡ 1)
     × (firstWith marks 9 4 ≡ 4)
@@ -35,5 +37,5 @@ heads :
     × (countWith marks 2 4 ≡ 0)
     × (countBelow marks 1 4 ≡ 2)
     × (countBelow marks 3 4 ≡ 3)
-unfolding ascii markFrom firstWith headOf countWith countBelow
+unfolding ascii markFrom markOf firstWith headOf countWith countBelow
 heads = (refl, refl, refl, refl, refl, refl, refl, refl, refl, refl, refl)

@@ -1,60 +1,74 @@
--- `table_index::marks::mark_from` meets its contract, by the laws of Marking.
 use Rattle.table_index.proofs.Marking.{marking}
-use Prim.Native.Nat.{_-_}
-use lib.ListN.{length}
-use Rattle.table_index.specs.inner.Marks.{Marked}
 use Rattle.table_index.proofs.marks.mark_from.Statement.{statement}
 use Rattle.table_index.proofs.marks.mark_from.Tie as tie
+use Rattle.table_index.proofs.marks.mark_from.Reads as reads
+use Rattle.table_index.proofs.marks.mark_from.Lts as lts
+use Rattle.table_index.proofs.marks.eight_before.Reads as eight-before-reads
+use Rattle.table_index.proofs.marks.few_bytes.Reads as few-bytes-reads
+use Rattle.table_index.proofs.marks.four_at.Reads as four-at-reads
+use Rattle.table_index.proofs.marks.mixed_mark.Reads as mixed-mark-reads
 
-abbrev Inv-loop : tie.InvT-loop
-Inv-loop start text mark₀ k₀ mark k = Marked start text mark k
+-- src/marks.rt:72:16
+add-seed : tie.Need-add-seed
+add-seed c = search marking
 
-abbrev μ-loop : tie.MeasureT-loop
-μ-loop start text mark₀ k₀ mark k = length text - k
+-- src/marks.rt:74:33
+few-bytes-requires : tie.Need-few-bytes-requires
+few-bytes-requires c κs = search marking
 
-mark-fours-requires : tie.Need-mark-fours-requires Inv-loop μ-loop
-mark-fours-requires c κs = search marking
+-- src/marks.rt:74:9
+mixed-mark-requires : tie.Need-mixed-mark-requires
+mixed-mark-requires c κs = search marking
 
-loop-holds : tie.Need-loop-holds Inv-loop μ-loop
-loop-holds c = search marking
-
-mul-mark : tie.Need-mul-mark Inv-loop μ-loop
-mul-mark c = search marking
-
-shared-slice-read-wide-byte : tie.Need-shared-slice-read-wide-byte Inv-loop μ-loop
-shared-slice-read-wide-byte c = search marking
-
-wide-byte-requires : tie.Need-wide-byte-requires Inv-loop μ-loop
-wide-byte-requires c κs = search marking
-
-add-mark : tie.Need-add-mark Inv-loop μ-loop
-add-mark c = search marking
-
-add-k : tie.Need-add-k Inv-loop μ-loop
-add-k c = search marking
-
-loop-less : tie.Need-loop-less Inv-loop μ-loop
-loop-less c = search marking
-
-loop-again : tie.Need-loop-again Inv-loop μ-loop
-loop-again c = search marking
-
-returns : tie.Need-returns Inv-loop μ-loop
+-- src/marks.rt:74:9
+returns : tie.Need-returns
 returns c = search marking
+
+-- src/marks.rt:77:9
+eight-before-requires : tie.Need-eight-before-requires
+eight-before-requires c κs = search marking
+
+-- src/marks.rt:78:19
+add-middle : tie.Need-add-middle
+add-middle c = search marking
+
+-- src/marks.rt:81:9
+four-at-requires : tie.Need-four-at-requires
+four-at-requires c κs = search marking
+
+-- src/marks.rt:82:9
+four-at-requires-2 : tie.Need-four-at-requires-2
+four-at-requires-2 c κs = search marking
+
+-- src/marks.rt:83:9
+four-at-requires-3 : tie.Need-four-at-requires-3
+four-at-requires-3 c κs = search marking
+
+-- src/marks.rt:84:9
+four-at-requires-4 : tie.Need-four-at-requires-4
+four-at-requires-4 c κs = search marking
+
+-- src/marks.rt:79:5
+mixed-mark-requires-2 : tie.Need-mixed-mark-requires-2
+mixed-mark-requires-2 c κs = search marking
+
+-- src/marks.rt:67:1
+returns-2 : tie.Need-returns-2
+returns-2 c = search marking
 
 pub mark-from-spec : {M : Type 1} → statement M
 mark-from-spec =
     tie.close
     (tie.spec
-    Inv-loop
-    μ-loop
-    mark-fours-requires
-    loop-holds
-    mul-mark
-    shared-slice-read-wide-byte
-    wide-byte-requires
-    add-mark
-    add-k
-    loop-less
-    loop-again
-    returns)
+    add-seed
+    few-bytes-requires
+    mixed-mark-requires
+    returns
+    eight-before-requires
+    add-middle
+    four-at-requires
+    four-at-requires-2
+    four-at-requires-3
+    four-at-requires-4
+    mixed-mark-requires-2
+    returns-2)
