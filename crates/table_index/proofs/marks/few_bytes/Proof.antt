@@ -1,59 +1,44 @@
+-- `table_index::marks::few_bytes` meets its contract, by the laws of Marking.
 use Rattle.table_index.proofs.Marking.{few}
 use Rattle.table_index.proofs.marks.few_bytes.Statement.{statement}
 use Rattle.table_index.proofs.marks.few_bytes.Tie as tie
-use Rattle.table_index.proofs.marks.few_bytes.Reads as reads
-use Rattle.table_index.proofs.marks.few_bytes.Lts as lts
-use Rattle.table_index.proofs.marks.wide_byte.Reads as wide-byte-reads
 
--- src/marks.rt:38:9
 returns : tie.Need-returns
 returns c = search few
 
--- src/marks.rt:40:27
 shared-slice-read-wide-byte : tie.Need-shared-slice-read-wide-byte
 shared-slice-read-wide-byte c = search few
 
--- src/marks.rt:40:9
 wide-byte-requires : tie.Need-wide-byte-requires
 wide-byte-requires c κs = search few
 
--- src/marks.rt:41:28
 shared-slice-read-wide-byte-2 : tie.Need-shared-slice-read-wide-byte-2
 shared-slice-read-wide-byte-2 c = search few
 
--- src/marks.rt:41:9
 wide-byte-requires-2 : tie.Need-wide-byte-requires-2
 wide-byte-requires-2 c κs = search few
 
--- src/marks.rt:42:31
 sub-wide-byte : tie.Need-sub-wide-byte
 sub-wide-byte c = search few
 
--- src/marks.rt:42:26
 shared-slice-read-wide-byte-3 : tie.Need-shared-slice-read-wide-byte-3
 shared-slice-read-wide-byte-3 c = search few
 
--- src/marks.rt:42:9
 wide-byte-requires-3 : tie.Need-wide-byte-requires-3
 wide-byte-requires-3 c κs = search few
 
--- src/marks.rt:43:13
 mul-result : tie.Need-mul-result
 mul-result c = search few
 
--- src/marks.rt:43:5
 add-result : tie.Need-add-result
 add-result c = search few
 
--- src/marks.rt:43:28
 mul-result-2 : tie.Need-mul-result-2
 mul-result-2 c = search few
 
--- src/marks.rt:43:5
 add-result-2 : tie.Need-add-result-2
 add-result-2 c = search few
 
--- src/marks.rt:32:1
 returns-2 : tie.Need-returns-2
 returns-2 c = search few
 
