@@ -1,18 +1,14 @@
+-- `tree_checks::tokens::number_bound` meets its contract, by the laws of Checked.
 use Rattle.tree_checks.proofs.Checked.{bounding}
 use Rattle.tree_checks.proofs.tokens.number_bound.Statement.{statement}
 use Rattle.tree_checks.proofs.tokens.number_bound.Tie as tie
-use Rattle.tree_checks.proofs.tokens.number_bound.Reads as reads
-use Rattle.tree_checks.proofs.tokens.number_bound.Lts as lts
 
--- src/tokens.rt:19:9
 returns : tie.Need-returns
 returns c = search bounding
 
--- src/tokens.rt:22:9
 returns-2 : tie.Need-returns-2
 returns-2 c = search bounding
 
--- src/tokens.rt:15:1
 returns-3 : tie.Need-returns-3
 returns-3 c = search bounding
 

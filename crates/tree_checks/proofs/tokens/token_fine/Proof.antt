@@ -1,52 +1,38 @@
+-- `tree_checks::tokens::token_fine` meets its contract, by the laws of Checked.
 use Rattle.tree_checks.proofs.Checked.{token-tests}
 use Rattle.tree_checks.proofs.tokens.token_fine.Statement.{statement}
 use Rattle.tree_checks.proofs.tokens.token_fine.Tie as tie
-use Rattle.tree_checks.proofs.tokens.token_fine.Reads as reads
-use Rattle.tree_checks.proofs.tokens.token_fine.Lts as lts
-use Rattle.tree_checks.proofs.tokens.number_bound.Reads as number-bound-reads
-use Rattle.tree_words.proofs.word_at.Reads as word-at-reads
 
--- src/tokens.rt:32:9
 word-at-requires : tie.Need-word-at-requires
 word-at-requires c κs = search token-tests
 
--- src/tokens.rt:33:9
 number-bound-requires : tie.Need-number-bound-requires
 number-bound-requires c κs = search token-tests
 
--- src/tokens.rt:34:31
 add-word-at : tie.Need-add-word-at
 add-word-at c = search token-tests
 
--- src/tokens.rt:34:17
 word-at-requires-2 : tie.Need-word-at-requires-2
 word-at-requires-2 c κs = search token-tests
 
--- src/tokens.rt:34:17
 cast-if1 : tie.Need-cast-if1
 cast-if1 c = search token-tests
 
--- src/tokens.rt:35:9
 returns : tie.Need-returns
 returns c = search token-tests
 
--- src/tokens.rt:37:31
 add-word-at-2 : tie.Need-add-word-at-2
 add-word-at-2 c = search token-tests
 
--- src/tokens.rt:37:17
 word-at-requires-3 : tie.Need-word-at-requires-3
 word-at-requires-3 c κs = search token-tests
 
--- src/tokens.rt:37:17
 cast-if2 : tie.Need-cast-if2
 cast-if2 c = search token-tests
 
--- src/tokens.rt:38:9
 returns-2 : tie.Need-returns-2
 returns-2 c = search token-tests
 
--- src/tokens.rt:28:1
 returns-3 : tie.Need-returns-3
 returns-3 c = search token-tests
 
