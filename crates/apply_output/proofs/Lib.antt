@@ -1,6 +1,7 @@
 pub mod Planning
 pub mod Rowing
 pub mod Turning
+pub mod Quieting
 pub mod Changing
 pub mod Listing
 pub mod Placing

@@ -102,9 +102,9 @@ module _ (c : TreeCounts) (f out : List ℕ) where
     pub counting-ends : c .tokens ≤ token → count ≡ addedBelow c f out (c .tokens)
     counting-ends h = let z : token ≡ c .tokens = let i = k .inside in omega arith in k .is ∙ ap (addedBelow c f out) z
 
-    module _ {p : Plan} (e : p ≡ planAt c f out token) {n : ℕ} (g : n ≡ added p) where
+    module _ {n : ℕ} (g : n ≡ added (planAt c f out token)) where
       little : n ≤ 1
-      little = rw g (added-little p)
+      little = rw g (added-little (planAt c f out token))
 
       pub count-fits : token < c .tokens → c .tokens < 4294967296 → Fits w64 (count + n)
       count-fits h l = omega (arith, little, k .few)
@@ -114,7 +114,7 @@ module _ (c : TreeCounts) (f out : List ℕ) where
       counting-more h = record {
         inside = omega arith;
         few = omega (arith, little, k .few);
-        is = rw (add-one token, k .is, g, e);
+        is = rw (add-one token, k .is, g);
       }
 
 pub ruleset counting = (counting-starts, counting-ends, count-fits, counting-more, needs)

@@ -50,7 +50,7 @@ module _ (d : List ℕ) (at : ℕ) (h : at + 12 ≤ length d) (x y z : ℕ) wher
   two-words : length (wordBytes x ++ wordBytes y) ≡ 8
   two-words = length-append (wordBytes x) (wordBytes y) ∙ rw (bytes-length x, bytes-length y)
 
-  three-put : put (put (put d at (wordBytes x)) (at + 4) (wordBytes y)) (at + 8) (wordBytes z) ≡ put d at (threeWords x y z)
+  pub three-put : put (put (put d at (wordBytes x)) (at + 4) (wordBytes y)) (at + 8) (wordBytes z) ≡ put d at (threeWords x y z)
   three-put =
       rw (
         word-more d at (wordBytes x) y 4 (bytes-length x) (omega arith),

@@ -6,11 +6,12 @@ use tree_words::token_row;
 use tree_words::tokens_start;
 use tree_words::word_at;
 ghost use mathlib.Core.Path.{_≡_};
-ghost use Prim.Native.Nat.{_≤_, _<_};
+ghost use Prim.Native.Nat.{_+_, _≤_, _<_};
 ghost use lib.ListN.{length};
 ghost use Rattle.tree_rule.specs.Files.{fileLength};
 ghost use Rattle.tree_rule.specs.Theorems.{FormedBy};
 ghost use Rattle.apply_output.specs.inner.Plan.{memberPlan, namePlan, planAt, added, addedIn};
+ghost use Rattle.apply_output.specs.inner.Quiet.{notePlace, addedNote};
 
 pub enum Plan {
     Stays,
@@ -85,6 +86,44 @@ pub fn added_by(plan: Plan) -> usize
     }
 }
 
+// Where what is noted of the token in the row at `at` stands.
+fn note_place(tree: &[u8], counts: TreeCounts, at: usize) -> usize
+    requires { ⌜ at + 12 ≤ length (now tree) ⌝ }
+    ensures { λ r. ⌜ r ≡ notePlace counts (now (tree .entry)) at ⌝ }
+{
+    if word_at(tree, at) == 2 {
+        let raw = word_at(tree, at + 4) as usize;
+        return names_start(counts) + 8 * raw;
+    }
+    at + 8
+}
+
+fn added_note(kind: u32, number: u32) -> usize
+    ensures { λ r. ⌜ r ≡ addedNote kind number ⌝ }
+{
+    if number == 0 {
+        return 0;
+    }
+    if kind == 1 {
+        return 1;
+    }
+    if kind == 2 {
+        return 1;
+    }
+    0
+}
+
+// How many names the token with a number adds. Kinds come in any order, so this is asked without a branch that a processor would guess.
+pub fn added_at(out: &[u8], tree: &[u8], counts: TreeCounts, token: usize) -> usize
+    requires { ⌜ FormedBy counts (now tree) × (fileLength counts ≤ length (now out)) × (token < counts .tokens) ⌝ }
+    ensures { λ r. ⌜ r ≡ added (planAt counts (now (tree .entry)) (now (out .entry)) token) ⌝ }
+{
+    let at = tokens_start(counts) + 12 * token;
+    let place = note_place(tree, counts, at);
+    let number = word_at(out, place);
+    added_note(word_at(tree, at), number)
+}
+
 // How many names all tokens add.
 pub fn count_names(out: &[u8], tree: &[u8], counts: TreeCounts) -> usize
     requires { ⌜ FormedBy counts (now tree) × (fileLength counts ≤ length (now out)) ⌝ }
@@ -94,7 +133,7 @@ pub fn count_names(out: &[u8], tree: &[u8], counts: TreeCounts) -> usize
     let mut token = 0;
     let mut count = 0;
     while token < tokens {
-        count += added_by(plan_at(out, tree, counts, token));
+        count += added_at(out, tree, counts, token);
         token += 1;
     }
     count

@@ -11,6 +11,7 @@ ghost use lib.ListN.{length};
 ghost use Rattle.ground.specs.Put.{put, between};
 ghost use Rattle.tree_rule.specs.Files.{countBytes};
 ghost use Rattle.apply_output.specs.inner.Plan.{added, displayBy, rowBy, nameRowBy};
+ghost use Rattle.apply_output.specs.inner.Quiet.{plainShown, plainRow};
 
 // What a token shows: a name that it adds has the number `next`.
 fn display_by(plan: Plan, next: u32, display: u32) -> u32
@@ -36,6 +37,28 @@ pub fn put_token(out: &mut [u8], tree: &[u8], at: usize, plan: Plan, next: u32)
     put_word(out, at, word_at(tree, at));
     put_word(out, at + 4, word_at(tree, at + 4));
     put_word(out, at + 8, display_by(plan, next, word_at(tree, at + 8)));
+}
+
+// What a token shows that adds no name.
+fn plain_shown(out: &[u8], tree: &[u8], at: usize) -> u32
+    requires { ⌜ (at + 12 ≤ length (now tree)) × (at + 12 ≤ length (now out)) ⌝ }
+    ensures { λ r. ⌜ r ≡ plainShown (now (tree .entry)) (now (out .entry)) at ⌝ }
+{
+    if word_at(tree, at) == 3 {
+        return word_at(out, at + 8);
+    }
+    word_at(tree, at + 8)
+}
+
+// The row of such a token.
+pub fn put_plain(out: &mut [u8], tree: &[u8], at: usize)
+    requires { ⌜ (at + 12 ≤ length (now tree)) × (at + 12 ≤ length (now out)) ⌝ }
+    ensures { λ _. ⌜ now (out .exit) ≡ put (now (out .entry)) at (plainRow (now (tree .entry)) (now (out .entry)) at) ⌝ }
+{
+    let shown = plain_shown(out, tree, at);
+    put_word(out, at, word_at(tree, at));
+    put_word(out, at + 4, word_at(tree, at + 4));
+    put_word(out, at + 8, shown);
 }
 
 // The row of a name that is added, if one is.

@@ -1,8 +1,10 @@
 // The rows of tokens, and the names that they add.
 use crate::plan::Plan;
+use crate::plan::added_at;
 use crate::plan::added_by;
 use crate::plan::plan_at;
 use crate::rows::put_name;
+use crate::rows::put_plain;
 use crate::rows::put_token;
 use apply_pieces::put_shown;
 use table_pool::Wrote;
@@ -97,8 +99,8 @@ fn put_added(
     }
 }
 
-// The row of a token, and the name that it adds.
-pub fn put_change(
+// The row of a token, and the name that its plan adds.
+fn put_planned(
     out: &mut [u8],
     tree: &[u8],
     counts: TreeCounts,
@@ -129,6 +131,45 @@ pub fn put_change(
         members,
         pool,
         bytes,
+        names,
+        end,
+    )
+}
+
+// The row of a token, and the name that it adds. Most tokens add none, which is asked first.
+pub fn put_change(
+    out: &mut [u8],
+    tree: &[u8],
+    counts: TreeCounts,
+    index: &[u16],
+    classes: &[ClassRow],
+    members: &[MemberRow],
+    pool: &[u8],
+    bytes: usize,
+    token: usize,
+    names: usize,
+    end: usize,
+) -> Added
+    requires { ⌜ TurnReady (now index) (now classes) (now members) (now pool) counts (now tree) bytes token names «end» (now out) ⌝ }
+    ensures { λ r.
+        ⌜ TurnedBy r (now (classes .entry)) (now (members .entry)) (now (pool .entry)) counts (now (tree .entry)) bytes token names «end»
+        (now (out .entry)) (now (out .exit)) ⌝ }
+{
+    if added_at(out, tree, counts, token) == 0 {
+        let at = tokens_start(counts) + 12 * token;
+        put_plain(out, tree, at);
+        return Added::Done { names, end };
+    }
+    put_planned(
+        out,
+        tree,
+        counts,
+        index,
+        classes,
+        members,
+        pool,
+        bytes,
+        token,
         names,
         end,
     )

@@ -2,6 +2,7 @@
 use mathlib.Core.Path.{_≡_, refl, sym, _∙_, ap}
 use mathlib.Core.Bool.{Bool, true, false, not}
 use mathlib.Core.List.{List}
+use mathlib.Core.Logic.{_⊎_, inl, inr}
 use Prim.Native.Nat.{ℕ, suc, _+_, _*_, _-_, _^_, _≤_, _<_}
 use native.Mathlib.Numerals.{add-one}
 use native.Mathlib.Omega.{arith}
@@ -9,7 +10,7 @@ use lib.Dec.{eqb, leb, ltb}
 use lib.ListN.{length, take, drop, length-replicate}
 use mir.Syntax.{w32}
 use mir.Val.{Fits}
-use borrow.Author.Tests.{eq-eqb, ne-eqb, le-leb, lt-leb, lt-ltb, le-ltb, not-true, not-false}
+use borrow.Author.Tests.{eq-eqb, ne-eqb, eqb-true, eqb-false, le-leb, lt-leb, lt-ltb, le-ltb, not-true, not-false}
 use borrow.Author.Needs.{needs}
 use Rattle.ground.specs.Choice.{pick, both}
 use Rattle.ground.specs.Put.{between}
@@ -32,6 +33,7 @@ use Rattle.tree_rule.specs.Checks.{
   nameInside,
   nameUtf8,
 }
+use Rattle.tree_checks.specs.inner.Bound.{numberBound}
 use Rattle.tree_checks.specs.inner.Lie.{NamesLie}
 use Rattle.tree_rule.proofs.Reading.{bytes-count}
 
@@ -54,30 +56,79 @@ lower-told f i e = ap (λ w. ltb w i) e
 pub ruleset node-tests = (length-told, no-root, root-told, lower-told, needs)
 
 -- A token.
-module _ (f : List ℕ) (at n : ℕ) {a : ℕ} (e : a ≡ wordAt f (at + 4)) where
-  pub raw-beyond : n ≤ a → false ≡ both (ltb (wordAt f (at + 4)) n) (ltb (wordAt f (at + 8)) n)
-  raw-beyond h = sym (rw (← e, le-ltb a n h))
+module _ (names : ℕ) {k : ℕ} where
+  pub bound-member : k ≡ 1 → names ≡ numberBound names k
+  bound-member h = sym (rw (eq-eqb k 1 h))
 
-  pub raw-there : a < n → {b : ℕ} → b ≡ wordAt f (at + 8) →
-      ltb b n ≡ both (ltb (wordAt f (at + 4)) n) (ltb (wordAt f (at + 8)) n)
-  raw-there h g = ap (λ x. ltb x n) g ∙ sym (rw (← e, lt-ltb a n h))
+  module _ (h : k ≡ 1 → ⊥) where
+    pub bound-descriptor : k ≡ 2 → names ≡ numberBound names k
+    bound-descriptor i = sym (rw (ne-eqb k 1 h, eq-eqb k 2 i))
 
-module _ (n a b : ℕ) {k w : ℕ} (e : k ≡ w) where
-  pub kind-other : k ≡ 0 → true ≡ tokenFine n w a b
-  kind-other h = sym (rw (← e, eq-eqb k 0 h))
+    pub bound-other : (k ≡ 2 → ⊥) → _≡_ {A = ℕ} 4294967296 (numberBound names k)
+    bound-other i = sym (rw (ne-eqb k 1 h, ne-eqb k 2 i))
 
-  module _ (h : k ≡ 0 → ⊥) where
-    pub kind-member : k ≡ 1 → {r : Bool} → r ≡ both (ltb a n) (ltb b n) → r ≡ tokenFine n w a b
-    kind-member i g = g ∙ sym (rw (← e, ne-eqb k 0 h, eq-eqb k 1 i))
+pub ruleset bounding = (bound-member, bound-descriptor, bound-other, needs)
 
-    module _ (i : k ≡ 1 → ⊥) where
-      pub kind-descriptor : k ≡ 2 → {r : Bool} → r ≡ both (ltb a n) (ltb b n) → r ≡ tokenFine n w a b
-      kind-descriptor j g = g ∙ sym (rw (← e, ne-eqb k 0 h, ne-eqb k 1 i, eq-eqb k 2 j))
+-- a token of a kind with names, and one of another kind
+named-fine : (n k a b : ℕ) → (k ≡ 1) ⊎ (k ≡ 2) → tokenFine n k a b ≡ both (ltb a n) (ltb b n)
+named-fine n k a b (inl h) = rw (ne-eqb k 0 (λ e. omega arith), eq-eqb k 1 h)
+named-fine n k a b (inr h) = rw (ne-eqb k 0 (λ e. omega arith), ne-eqb k 1 (λ e. omega arith), eq-eqb k 2 h)
 
-      pub kind-line : (k ≡ 2 → ⊥) → eqb k 3 ≡ tokenFine n w a b
-      kind-line j = sym (rw (← e, ne-eqb k 0 h, ne-eqb k 1 i, ne-eqb k 2 j))
+unnamed-fine : (n k a b : ℕ) → (k ≡ 1 → ⊥) → (k ≡ 2 → ⊥) → tokenFine n k a b ≡ leb k 3
+unnamed-fine n k a b h i = rw (ne-eqb k 1 h, ne-eqb k 2 i) (go (eqb k 0) refl (eqb k 3) refl)
+  where
+    go : (s : Bool) → eqb k 0 ≡ s → (t : Bool) → eqb k 3 ≡ t → pick s true t ≡ leb k 3
+    go true e t f = let z = eqb-true k 0 e in sym (le-leb k 3 (omega arith))
+    go false e true f = let z = eqb-true k 3 f in sym (le-leb k 3 (omega arith))
+    go false e false f =
+        let y = eqb-false k 0 e in
+        let z = eqb-false k 3 f in
+        sym (lt-leb k 3 (omega arith))
 
-pub ruleset token-tests = (raw-beyond, raw-there, kind-other, kind-member, kind-descriptor, kind-line, needs)
+which-kind : (k : ℕ) → ((k ≡ 1) ⊎ (k ≡ 2)) ⊎ ((k ≡ 1 → ⊥) × (k ≡ 2 → ⊥))
+which-kind k = go (eqb k 1) refl (eqb k 2) refl
+  where
+    go : (s : Bool) → eqb k 1 ≡ s → (t : Bool) → eqb k 2 ≡ t → ((k ≡ 1) ⊎ (k ≡ 2)) ⊎ ((k ≡ 1 → ⊥) × (k ≡ 2 → ⊥))
+    go true e t f = inl (inl (eqb-true k 1 e))
+    go false e true f = inl (inr (eqb-true k 2 f))
+    go false e false f = inr (eqb-false k 1 e, eqb-false k 2 f)
+
+named-bound : (n k : ℕ) → (k ≡ 1) ⊎ (k ≡ 2) → numberBound n k ≡ n
+named-bound n k (inl h) = sym (bound-member n h)
+named-bound n k (inr h) = sym (bound-descriptor n (λ e. omega arith) h)
+
+module _ (n : ℕ) {k w : ℕ} (e : k ≡ w) {m : ℕ} (g : m ≡ numberBound n k) {x a : ℕ} (p : x ≡ a) (small : x < 4294967296) where
+  pub raw-beyond : (b : ℕ) → m ≤ x → false ≡ tokenFine n w a b
+  raw-beyond b h = rw (← e, ← p) (go (which-kind k))
+    where
+      go : ((k ≡ 1) ⊎ (k ≡ 2)) ⊎ ((k ≡ 1 → ⊥) × (k ≡ 2 → ⊥)) → false ≡ tokenFine n k x b
+      go (inl i) = sym (named-fine n k x b i ∙ rw (le-ltb x n (let z = named-bound n k i in omega arith)))
+      go (inr i) = absurd (let z = bound-other n (i .0) (i .1) in omega arith)
+
+  module _ (h : x < m) {y b : ℕ} (q : y ≡ b) (short : y < 4294967296) where
+    pub shown-beyond : m ≤ y → false ≡ tokenFine n w a b
+    shown-beyond l = rw (← e, ← p, ← q) (go (which-kind k))
+      where
+        go : ((k ≡ 1) ⊎ (k ≡ 2)) ⊎ ((k ≡ 1 → ⊥) × (k ≡ 2 → ⊥)) → false ≡ tokenFine n k x y
+        go (inl i) =
+            let z = named-bound n k i in
+            sym (named-fine n k x y i ∙ rw (lt-ltb x n (omega arith), le-ltb y n (omega arith)))
+        go (inr i) = absurd (let z = bound-other n (i .0) (i .1) in omega arith)
+
+    pub both-there : y < m → leb k 3 ≡ tokenFine n w a b
+    both-there l = rw (← e, ← p, ← q) (go (which-kind k))
+      where
+        small-kind : (k ≡ 1) ⊎ (k ≡ 2) → leb k 3 ≡ true
+        small-kind (inl i) = le-leb k 3 (omega arith)
+        small-kind (inr i) = le-leb k 3 (omega arith)
+
+        go : ((k ≡ 1) ⊎ (k ≡ 2)) ⊎ ((k ≡ 1 → ⊥) × (k ≡ 2 → ⊥)) → leb k 3 ≡ tokenFine n k x y
+        go (inl i) =
+            let z = named-bound n k i in
+            small-kind i ∙ sym (named-fine n k x y i ∙ rw (lt-ltb x n (omega arith), lt-ltb y n (omega arith)))
+        go (inr i) = sym (unnamed-fine n k x y (i .0) (i .1))
+
+pub ruleset token-tests = (raw-beyond, shown-beyond, both-there, needs)
 
 -- One row after the other: the first faulty one from here on is the first of all.
 pub record Asked (p : ℕ → Bool) (n : ℕ) (whole : RowCheck) (i : ℕ) : Type 0 where

@@ -5,40 +5,39 @@ use tree_words::tokens_start;
 use tree_words::word_at;
 ghost use mathlib.Core.Path.{_≡_};
 ghost use Prim.Native.Nat.{_+_, _≤_};
-ghost use lib.Dec.{ltb};
 ghost use lib.ListN.{length};
-ghost use Rattle.ground.specs.Choice.{both};
 ghost use Rattle.tree_rule.specs.Words.{wordAt};
 ghost use Rattle.tree_rule.specs.Files.{fileLength};
 ghost use Rattle.tree_rule.specs.Checks.{tokenFine, faultyToken};
+ghost use Rattle.tree_checks.specs.inner.Bound.{numberBound};
 
-// Both names of a token row are there.
-fn names_there(tree: &[u8], at: usize, names: u32) -> bool
-    requires { ⌜ at + 12 ≤ length (now tree) ⌝ }
-    ensures { λ r. let f = now (tree .entry) in ⌜ r ≡ both (ltb (wordAt f (at + 4)) names) (ltb (wordAt f (at + 8)) names) ⌝ }
+// Below what both numbers of a token have to be.
+fn number_bound(kind: u32, names: u32) -> usize
+    ensures { λ r. ⌜ r ≡ numberBound names kind ⌝ }
 {
-    if names <= word_at(tree, at + 4) {
-        return false;
+    if kind == 1 {
+        return names as usize;
     }
-    word_at(tree, at + 8) < names
+    if kind == 2 {
+        return names as usize;
+    }
+    4294967296
 }
 
-// Only a token whose kind has names is asked for them.
+// Kinds come in any order: a bound for each, and no branch that a processor would have to guess.
 fn token_fine(tree: &[u8], at: usize, names: u32) -> bool
     requires { ⌜ at + 12 ≤ length (now tree) ⌝ }
     ensures { λ r. let f = now (tree .entry) in ⌜ r ≡ tokenFine names (wordAt f at) (wordAt f (at + 4)) (wordAt f (at + 8)) ⌝ }
 {
     let kind = word_at(tree, at);
-    if kind == 0 {
-        return true;
+    let bound = number_bound(kind, names);
+    if bound <= word_at(tree, at + 4) as usize {
+        return false;
     }
-    if kind == 1 {
-        return names_there(tree, at, names);
+    if bound <= word_at(tree, at + 8) as usize {
+        return false;
     }
-    if kind == 2 {
-        return names_there(tree, at, names);
-    }
-    kind == 3
+    kind <= 3
 }
 
 // "kind 1 member name and 2 descriptor (raw name, display name, below S), 3 source line (raw, display), 0 anything else, its a and b not

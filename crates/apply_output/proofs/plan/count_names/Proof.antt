@@ -16,11 +16,8 @@ cast-tokens c = search counting
 loop-holds : tie.Need-loop-holds Inv-loop μ-loop
 loop-holds c = search counting
 
-plan-at-requires : tie.Need-plan-at-requires Inv-loop μ-loop
-plan-at-requires c κs = search counting
-
-added-by-requires : tie.Need-added-by-requires Inv-loop μ-loop
-added-by-requires c κs = search counting
+added-at-requires : tie.Need-added-at-requires Inv-loop μ-loop
+added-at-requires c κs = search counting
 
 add-count : tie.Need-add-count Inv-loop μ-loop
 add-count c = search counting
@@ -45,8 +42,7 @@ count-names-spec =
     μ-loop
     cast-tokens
     loop-holds
-    plan-at-requires
-    added-by-requires
+    added-at-requires
     add-count
     add-token
     loop-less
