@@ -6,13 +6,15 @@ use Prim.Native.Nat.{ℕ, suc, _+_, _-_, _≤_, _<_, min}
 use native.Mathlib.Numerals.{add-one}
 use native.Mathlib.Omega.{arith}
 use lib.Dec.{leb, ltb}
-use lib.ListN.{length, getD, take, drop, drop-of-length-le}
-use lib.Seq.{drop-cons}
+use lib.ListN.{length, getD, take, drop, length-take, drop-of-length-le}
+use lib.Seq.{drop-cons, getD-take}
 use borrow.Author.Tests.{le-leb, lt-leb, lt-ltb, le-ltb, not-true, not-false}
 use borrow.Author.Needs.{needs}
 use Rattle.ground.specs.Choice.{both}
 use Rattle.ground.proofs.Parts.{prefix-whole}
 use Rattle.text_utf8.specs.Utf8.{isUtf8}
+use Rattle.text_utf8.specs.inner.Runs.{AsciiTo}
+use Rattle.text_utf8.proofs.Checking.{ascii-part}
 use Rattle.table_rows.specs.declared.rows.Text.{Text}
 use Rattle.table_rows.specs.declared.rows.Class.{Class}
 use Rattle.table_rows.specs.declared.rows.Member.{Member}
@@ -37,7 +39,10 @@ module _ (pool : List ℕ) (used : Used) (t : Text) where
   pub text-inside : t .place + t .length ≤ used .pool → {s : List ℕ} → s ≡ textIn pool t → {b : Bool} → b ≡ isUtf8 s → b ≡ textFine pool used t
   text-inside h f g = (g ∙ ap isUtf8 f) ∙ sym (rw (le-leb (t .place + t .length) (used .pool) h))
 
-pub ruleset text-tests = (text-past, text-inside, needs)
+  pub text-ascii : t .place + t .length ≤ used .pool → {a : ℕ} → AsciiTo pool 0 a → t .place + t .length ≤ a → true ≡ textFine pool used t
+  text-ascii h k l = ascii-part pool k (t .place) (t .length) l ∙ sym (rw (le-leb (t .place + t .length) (used .pool) h))
+
+pub ruleset text-tests = (text-past, text-inside, text-ascii, needs)
 
 -- A class row.
 module _ (pool : List ℕ) (used : Used) (row : List ℕ) {c : Class} (e : c ≡ unpackClass row) {b : Bool} (f : b ≡ textFine pool used (c .raw)) where
@@ -156,6 +161,19 @@ module _ (classes members : List (List ℕ)) (pool : List ℕ) (used : Used) {b 
     pub members-lent : used .members ≤ length members
     members-lent = let k = counts in omega arith
 
+    pub pool-lent : used .pool ≤ length pool
+    pool-lent = let k = counts in omega arith
+
+    pub pool-ascii : {a : ℕ} → AsciiTo (take (used .pool) pool) 0 a → AsciiTo pool 0 a
+    pool-ascii w =
+        let k = counts in
+        let n = length-take (used .pool) pool in
+        record {
+          goes = omega arith;
+          inside = omega (arith, w .inside);
+          each = λ i l u. rw (getD-take (used .pool) pool i 0 (omega (arith, w .inside))) at (w .each i l u);
+        }
+
     module _ {d : Bool} (f : d ≡ allOf (classFine pool used) (take (used .classes) classes)) where
       pub formed-classes : not d ≡ true → false ≡ wellFormed classes members pool used
       formed-classes k = sym (rw (sym e ∙ not-false b n, sym f ∙ not-true d k))
@@ -163,4 +181,4 @@ module _ (classes members : List (List ℕ)) (pool : List ℕ) (used : Used) {b 
       pub formed-members : not d ≡ false → {g : Bool} → g ≡ allOf (memberFine pool used) (take (used .members) members) → g ≡ wellFormed classes members pool used
       formed-members k h = h ∙ sym (rw (sym e ∙ not-false b n, sym f ∙ not-false d k))
 
-pub ruleset forming = (prefix-whole, formed-counts, classes-lent, members-lent, formed-classes, formed-members, needs)
+pub ruleset forming = (prefix-whole, formed-counts, classes-lent, members-lent, pool-lent, pool-ascii, formed-classes, formed-members, needs)

@@ -11,8 +11,10 @@ use table_rows::Text;
 use table_rows::range_flag;
 use table_rows::unpack_class;
 use table_rows::unpack_member;
+use text_utf8::ascii_start;
 use text_utf8::is_utf8;
 ghost use mathlib.Core.Path.{_≡_};
+ghost use Rattle.text_utf8.specs.inner.Runs.{AsciiTo};
 ghost use Rattle.tables.specs.Check.{textFine, classFine, numbersFine, textsFine, memberFine, allOf, countsFine, wellFormed};
 
 // How many class rows, member rows and pool bytes are used.
@@ -22,25 +24,30 @@ pub struct Used {
     pub pool: u32,
 }
 
-// A text does not reach past the used pool, and is UTF-8.
-fn text_fine(pool: &[u8], used: Used, text: Text) -> bool
+// A text does not reach past the used pool, and is UTF-8. The pool is ASCII up to the place `ascii`: a text that ends there is not read.
+fn text_fine(pool: &[u8], ascii: usize, used: Used, text: Text) -> bool
+    requires { ⌜ AsciiTo (now pool) 0 ascii ⌝ }
     ensures { λ r. ⌜ r ≡ textFine (now (pool .entry)) used text ⌝ }
 {
     let end = text.place as usize + text.length as usize;
-    if end <= used.pool as usize {
-        return is_utf8(text_in(pool, text));
+    if (used.pool as usize) < end {
+        return false;
     }
-    false
+    if end <= ascii {
+        return true;
+    }
+    is_utf8(text_in(pool, text))
 }
 
-fn class_fine(pool: &[u8], used: Used, row: ClassRow) -> bool
+fn class_fine(pool: &[u8], ascii: usize, used: Used, row: ClassRow) -> bool
+    requires { ⌜ AsciiTo (now pool) 0 ascii ⌝ }
     ensures { λ r. ⌜ r ≡ classFine (now (pool .entry)) used row ⌝ }
 {
     let class = unpack_class(row);
-    if !text_fine(pool, used, class.raw) {
+    if !text_fine(pool, ascii, used, class.raw) {
         return false;
     }
-    text_fine(pool, used, class.display)
+    text_fine(pool, ascii, used, class.display)
 }
 
 // The class row, the kind and the flag of a member row are in range.
@@ -57,36 +64,39 @@ fn numbers_fine(used: Used, row: MemberRow) -> bool
     range_flag(row) <= 2
 }
 
-fn texts_fine(pool: &[u8], used: Used, member: Member) -> bool
+fn texts_fine(pool: &[u8], ascii: usize, used: Used, member: Member) -> bool
+    requires { ⌜ AsciiTo (now pool) 0 ascii ⌝ }
     ensures { λ r. ⌜ r ≡ textsFine (now (pool .entry)) used member ⌝ }
 {
-    if !text_fine(pool, used, member.raw_name) {
+    if !text_fine(pool, ascii, used, member.raw_name) {
         return false;
     }
-    if !text_fine(pool, used, member.descriptor) {
+    if !text_fine(pool, ascii, used, member.descriptor) {
         return false;
     }
-    if !text_fine(pool, used, member.name) {
+    if !text_fine(pool, ascii, used, member.name) {
         return false;
     }
-    text_fine(pool, used, member.owner)
+    text_fine(pool, ascii, used, member.owner)
 }
 
-fn member_fine(pool: &[u8], used: Used, row: MemberRow) -> bool
+fn member_fine(pool: &[u8], ascii: usize, used: Used, row: MemberRow) -> bool
+    requires { ⌜ AsciiTo (now pool) 0 ascii ⌝ }
     ensures { λ r. ⌜ r ≡ memberFine (now (pool .entry)) used row ⌝ }
 {
     if !numbers_fine(used, row) {
         return false;
     }
-    texts_fine(pool, used, unpack_member(row))
+    texts_fine(pool, ascii, used, unpack_member(row))
 }
 
-fn classes_fine(classes: &[ClassRow], pool: &[u8], used: Used) -> bool
+fn classes_fine(classes: &[ClassRow], pool: &[u8], ascii: usize, used: Used) -> bool
+    requires { ⌜ AsciiTo (now pool) 0 ascii ⌝ }
     ensures { λ r. ⌜ r ≡ allOf (classFine (now (pool .entry)) used) (now (classes .entry)) ⌝ }
 {
     let mut i = 0;
     while i < classes.len() {
-        if !class_fine(pool, used, classes[i]) {
+        if !class_fine(pool, ascii, used, classes[i]) {
             return false;
         }
         i += 1;
@@ -94,12 +104,13 @@ fn classes_fine(classes: &[ClassRow], pool: &[u8], used: Used) -> bool
     true
 }
 
-fn members_fine(members: &[MemberRow], pool: &[u8], used: Used) -> bool
+fn members_fine(members: &[MemberRow], pool: &[u8], ascii: usize, used: Used) -> bool
+    requires { ⌜ AsciiTo (now pool) 0 ascii ⌝ }
     ensures { λ r. ⌜ r ≡ allOf (memberFine (now (pool .entry)) used) (now (members .entry)) ⌝ }
 {
     let mut i = 0;
     while i < members.len() {
-        if !member_fine(pool, used, members[i]) {
+        if !member_fine(pool, ascii, used, members[i]) {
             return false;
         }
         i += 1;
@@ -127,10 +138,12 @@ pub fn well_formed(classes: &[ClassRow], members: &[MemberRow], pool: &[u8], use
     if !counts_fine(classes.len(), members.len(), pool.len(), used) {
         return false;
     }
+    let bytes = used.pool as usize;
+    let ascii = ascii_start(&pool[..bytes]);
     let class_rows = used.classes as usize;
-    if !classes_fine(&classes[..class_rows], pool, used) {
+    if !classes_fine(&classes[..class_rows], pool, ascii, used) {
         return false;
     }
     let member_rows = used.members as usize;
-    members_fine(&members[..member_rows], pool, used)
+    members_fine(&members[..member_rows], pool, ascii, used)
 }

@@ -55,4 +55,16 @@ module _ {s : List ℕ} {at to : ℕ} (a : AsciiTo s at to) where
     pub ascii-block : {r : ℕ} → ((k : ℕ) → k < 16 → getD s (to + k) 0 ≤ r) → r ≤ 0x7F → AsciiTo s at (to + 16)
     ascii-block f b = along-block a h (λ k l. le-trans (f k l) b)
 
+pub ascii-on : {s : List ℕ} {at mid to : ℕ} → AsciiTo s at mid → AsciiTo s mid to → AsciiTo s at to
+ascii-on {s} {at} {mid} {to} a b = record { goes = omega (arith, a .goes, b .goes); inside = b .inside; each = λ i l u. go i l u (le-or-lt mid i) }
+  where
+    go : (i : ℕ) → at ≤ i → i < to → (mid ≤ i) ⊎ (i < mid) → getD s i 0 ≤ 0x7F
+    go i l u (inl g) = b .each i g u
+    go i l u (inr g) = a .each i l g
+
+pub ascii-inside : {s : List ℕ} {at to : ℕ} → AsciiTo s at to → to ≤ length s
+ascii-inside a = a .inside
+
+pub ruleset ascii-starts = (ascii-on, ascii-inside, needs)
+
 pub ruleset ascii-runs = (ascii-none, ascii-byte, ascii-room, ascii-block, needs)

@@ -5,7 +5,8 @@ use mathlib.Core.List.{List}
 use Prim.Native.Nat.{ℕ, zero, suc, _+_, _-_, _^_, _≤_, _<_}
 use native.Mathlib.Omega.{arith}
 use mathlib.Core.Logic.{_⊎_, inl, inr}
-use lib.ListN.{length, getD, drop}
+use lib.ListN.{length, getD, take, drop, length-drop}
+use lib.Seq.{getD-take, getD-drop, length-take-le}
 use mir.Val.{Fits}
 use mir.Syntax.{w64}
 use borrow.Author.Needs.{needs}
@@ -103,3 +104,17 @@ valid-told s e = go (checkOf s) e
     go : (o : Check) → isValid o ≡ true → o ≡ Valid
     go Valid e = refl
     go (Broken at m) e = clash e refl
+
+-- ASCII is UTF-8, and so is each part of it
+pub ascii-utf8 : (s : List ℕ) → AsciiTo s 0 (length s) → true ≡ isUtf8 s
+ascii-utf8 s a = ap isValid (checked-all (checked-first a) (omega arith))
+
+pub ascii-part : (s : List ℕ) {to : ℕ} → AsciiTo s 0 to → (place size : ℕ) → place + size ≤ to → true ≡ isUtf8 (take size (drop place s))
+ascii-part s {to} a place size h =
+    let l : length (take size (drop place s)) ≡ size = length-take-le size (drop place s) (omega (arith, length-drop place s, a .inside)) in
+    ascii-utf8 (take size (drop place s)) (record {
+      goes = omega arith;
+      inside = omega arith;
+      each = λ i b u.
+          rw (getD-take size (drop place s) i 0 (omega arith), getD-drop place s i 0) (a .each (place + i) (omega arith) (omega arith));
+    })

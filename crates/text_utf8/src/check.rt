@@ -67,6 +67,14 @@ fn ascii_bytes(s: &[u8], start: usize) -> usize
     at
 }
 
+// The place up to which a text is ASCII.
+pub fn ascii_start(s: &[u8]) -> usize
+    ensures { λ r. ⌜ AsciiTo (now (s .entry)) 0 r ⌝ }
+{
+    let blocks = ascii_blocks(s, 0);
+    ascii_bytes(s, blocks)
+}
+
 // Whether a text is UTF-8.
 pub fn check_text(s: &[u8]) -> Check
     ensures { λ r. ⌜ r ≡ checkOf (now (s .entry)) ⌝ }

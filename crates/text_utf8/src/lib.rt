@@ -3,6 +3,7 @@ mod check;
 mod sequence;
 
 pub use check::Check;
+pub use check::ascii_start;
 pub use check::check_text;
 pub use check::is_utf8;
 pub use sequence::Sequence;

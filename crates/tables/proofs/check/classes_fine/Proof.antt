@@ -7,10 +7,10 @@ use Rattle.tables.proofs.check.classes_fine.Statement.{statement}
 use Rattle.tables.proofs.check.classes_fine.Tie as tie
 
 abbrev Inv-loop : tie.InvT-loop
-Inv-loop classes pool used i₀ i = Asking (classFine pool used) classes i
+Inv-loop classes pool ascii used i₀ i = Asking (classFine pool used) classes i
 
 abbrev μ-loop : tie.MeasureT-loop
-μ-loop classes pool used i₀ i = length classes - i
+μ-loop classes pool ascii used i₀ i = length classes - i
 
 loop-holds : tie.Need-loop-holds Inv-loop μ-loop
 loop-holds c = search asking

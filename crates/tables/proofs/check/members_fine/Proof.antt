@@ -7,10 +7,10 @@ use Rattle.tables.proofs.check.members_fine.Statement.{statement}
 use Rattle.tables.proofs.check.members_fine.Tie as tie
 
 abbrev Inv-loop : tie.InvT-loop
-Inv-loop members pool used i₀ i = Asking (memberFine pool used) members i
+Inv-loop members pool ascii used i₀ i = Asking (memberFine pool used) members i
 
 abbrev μ-loop : tie.MeasureT-loop
-μ-loop members pool used i₀ i = length members - i
+μ-loop members pool ascii used i₀ i = length members - i
 
 loop-holds : tie.Need-loop-holds Inv-loop μ-loop
 loop-holds c = search asking

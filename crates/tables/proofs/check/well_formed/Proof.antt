@@ -9,6 +9,15 @@ counts-fine-requires c κs = search forming
 returns : tie.Need-returns
 returns c = search forming
 
+cast-bytes : tie.Need-cast-bytes
+cast-bytes c = search forming
+
+slice-aggregate-ascii-start : tie.Need-slice-aggregate-ascii-start
+slice-aggregate-ascii-start c = search forming
+
+ascii-start-requires : tie.Need-ascii-start-requires
+ascii-start-requires c κs = search forming
+
 cast-class-rows : tie.Need-cast-class-rows
 cast-class-rows c = search forming
 
@@ -39,6 +48,9 @@ well-formed-spec =
     (tie.spec
     counts-fine-requires
     returns
+    cast-bytes
+    slice-aggregate-ascii-start
+    ascii-start-requires
     cast-class-rows
     slice-aggregate-classes-fine
     classes-fine-requires
