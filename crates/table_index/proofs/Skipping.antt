@@ -9,21 +9,12 @@ use lib.Dec.{eqb}
 use lib.ListN.{length, getD}
 use mir.Val.{Fits}
 use mir.Syntax.{w64}
-use borrow.Author.Tests.{eq-eqb, ne-eqb, eqb-true}
+use borrow.Author.Tests.{eqb-true}
 use borrow.Author.Needs.{needs}
 use Rattle.ground.specs.Choice.{pick}
 use Rattle.ground.proofs.Cases.{le-or-lt, clash}
 use Rattle.table_pool.specs.inner.Named.{slashIf}
 use Rattle.table_index.specs.inner.Order.{AlikeTo}
-
-module _ (x y : ℕ) (differs : Bool) where
-  pub byte-alike : x ≡ y → differs ≡ pick (eqb x y) differs true
-  byte-alike e = sym (rw (eq-eqb x y e))
-
-  pub byte-other : (x ≡ y → ⊥) → true ≡ pick (eqb x y) differs true
-  byte-other n = sym (rw (ne-eqb x y n))
-
-pub ruleset differing = (byte-alike, byte-other, needs)
 
 -- what was passed of a block: where nothing differed, all of it is alike
 pub record Passing (text : List ℕ) (at : ℕ) (name : List ℕ) («from» : ℕ) (dots : Bool) (differs : Bool) (i : ℕ) : Type 0 where

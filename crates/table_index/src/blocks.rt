@@ -1,23 +1,12 @@
 // How far a text and a name are alike, by blocks of 16 bytes.
 use table_pool::stored_byte;
+use text_places::also_differs;
 ghost use mathlib.Core.Path.{_≡_};
-ghost use mathlib.Core.Bool.{true, false};
+ghost use mathlib.Core.Bool.{false};
 ghost use Prim.Native.Nat.{ℕ, _+_, _≤_, _<_};
-ghost use lib.Dec.{eqb};
 ghost use lib.ListN.{length, getD};
-ghost use Rattle.ground.specs.Choice.{pick};
 ghost use Rattle.table_pool.specs.inner.Named.{slashIf};
 ghost use Rattle.table_index.specs.inner.Order.{AlikeTo};
-
-// One byte more: whether it or one before it differs.
-fn also_differs(differs: bool, x: u8, y: u8) -> bool
-    ensures { λ r. ⌜ r ≡ pick (eqb x y) differs true ⌝ }
-{
-    if x == y {
-        return differs;
-    }
-    true
-}
 
 // Whether one of 16 bytes differs; promised is only what passing the block needs, that none does where the answer is no. The compiler makes
 // a few vector instructions of the loop.

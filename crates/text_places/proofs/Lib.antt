@@ -2,5 +2,6 @@
 pub mod PlaceLaws
 pub mod LineLaws
 pub mod BlockLaws
+pub mod EightLaws
 pub mod Holds
 pub mod Taking

@@ -1,11 +1,14 @@
 // Places of bytes in a text, its parts and its lines, and whether two texts are the same. Every function takes any bytes but `shifted`,
 // which moves a part.
 mod blocks;
+mod eights;
 mod find;
 mod lines;
 mod numbers;
 mod spans;
 
+pub use eights::also_differs;
+pub use eights::same_text;
 pub use find::Place;
 pub use find::first_byte;
 pub use find::first_pair;
