@@ -14,7 +14,7 @@ use Rattle.tables.specs.declared.search.Side.the-variants.{Raw}
 use Rattle.table_index.specs.inner.Index.{IndexBy}
 use Rattle.tree_rule.specs.declared.TreeCounts.{TreeCounts}
 use Rattle.tree_rule.specs.Words.{wordAt}
-use Rattle.tree_rule.specs.Files.{countsIn, namesStart, bytesStart, fileLength}
+use Rattle.tree_rule.specs.Files.{countsIn, namesStart, fileLength}
 use Rattle.tree_rule.specs.Theorems.{FormedBy}
 use Rattle.tree_rule.proofs.Formed.{formed-tree}
 use Rattle.tree_rule.proofs.PutWords.{word-take}
@@ -88,12 +88,12 @@ module _ (classes rows : List (List ℕ)) (pool class : List ℕ) (c : TreeCount
       same-file : laidOut c f (plannedChanges classes rows pool c f noted) ≡ laidOut c f (changesIn classes rows pool class c f)
       same-file = planned-same still-planned (changes-length classes rows pool class c f (k .formed))
 
-      behind : (e : ℕ) → bytesStart c ≤ e → drop e noted ≡ replicate (length old - e) 0
+      behind : (e : ℕ) → fileLength c ≤ e → drop e noted ≡ replicate (length old - e) 0
       behind e h =
-          let y : bytesStart c + (e - bytesStart c) ≡ e = omega arith in
+          let y : fileLength c + (e - fileLength c) ≡ e = omega arith in
           let x : namesStart c + (e - namesStart c) ≡ e = omega arith in
-          ap (λ v. drop v noted) (sym y) ∙ sym (drop-drop (e - bytesStart c) (bytesStart c) noted) ∙ ap (drop (e - bytesStart c)) (n .behind)
-          ∙ drop-drop (e - bytesStart c) (bytesStart c) mid ∙ ap (λ v. drop v mid) (y ∙ sym x)
+          ap (λ v. drop v noted) (sym y) ∙ sym (drop-drop (e - fileLength c) (fileLength c) noted) ∙ ap (drop (e - fileLength c)) (n .behind)
+          ∙ drop-drop (e - fileLength c) (fileLength c) mid ∙ ap (λ v. drop v mid) (y ∙ sym x)
           ∙ sym (drop-drop (e - namesStart c) (namesStart c) mid) ∙ ap (drop (e - namesStart c)) (p .behind)
           ∙ drop-drop (e - namesStart c) (namesStart c) old ∙ ap (λ v. drop v old) x
           ∙ ap (drop e) (k .zero) ∙ zero-drop e (length old)

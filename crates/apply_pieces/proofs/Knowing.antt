@@ -35,7 +35,7 @@ use Rattle.apply_pieces.specs.declared.known.NextPiece.the-variants as p
 use Rattle.apply_pieces.specs.inner.Known.{PieceAt, PieceBy, rawOf, displayOf, oneKnown, allShown, KnownAt}
 
 -- a part, and the one that follows it
-parts-join : (s : List ℕ) (a b c : ℕ) → a ≤ b → b ≤ c → between s a b ++ between s b c ≡ between s a c
+pub parts-join : (s : List ℕ) (a b c : ℕ) → a ≤ b → b ≤ c → between s a b ++ between s b c ≡ between s a c
 parts-join s a b c h k =
     let whole : c - a ≡ (b - a) + (c - b) = omega arith in
     let there : a + (b - a) ≡ b = omega arith in
@@ -63,15 +63,15 @@ module _ (look : List ℕ → Look) (text : List ℕ) (start : ℕ) (h : start <
   is-l : eqb (getD text start 0) 0x4C ≡ true
   is-l = rw begins at l
 
-  unclosed : firstWhere (starts 0x3B) (drop start text) ≡ places.Nowhere → pieceKnown look (partsFrom [] (drop start text)) ≡ false
+  pub unclosed : firstWhere (starts 0x3B) (drop start text) ≡ places.Nowhere → pieceKnown look (partsFrom [] (drop start text)) ≡ false
   unclosed e = rw begins (unknown-at-rest look (getD text start 0) (drop (suc start) text) is-l (rw begins at e))
 
   module _ (gap : ℕ) (e : firstWhere (starts 0x3B) (drop start text) ≡ places.At gap) where
-    closed-known : pieceKnown look (partsFrom [] (drop start text)) ≡
+    pub closed-known : pieceKnown look (partsFrom [] (drop start text)) ≡
         either (isKnown (look (take (gap + 1) (drop start text)))) (pieceKnown look (partsFrom [] (drop (gap + 1) (drop start text))))
     closed-known = rw begins (known-at-piece look (getD text start 0) (drop (suc start) text) is-l (rw begins at e))
 
-    closed-turns : turn look (drop start text) ≡
+    pub closed-turns : turn look (drop start text) ≡
         lookOr (take (gap + 1) (drop start text)) (look (take (gap + 1) (drop start text))) ++ turn look (drop (gap + 1) (drop start text))
     closed-turns = rw begins (piece-step look (getD text start 0) (drop (suc start) text) is-l (rw begins at e))
 
@@ -149,13 +149,15 @@ pub ruleset piece-by-piece = (piece-no-l, l-fits, l-inside, piece-unclosed, end-
 
 -- What a row that is found says.
 module _ (rows : List (List ℕ)) (pool name : List ℕ) {i : ℕ} (e : lastRaw rows pool name ≡ Row i) where
-  row-says : (i < length rows) × (same (rawOf rows pool i) name ≡ true) × (shown (readBack rows pool) name ≡ known (displayOf rows pool i))
+  pub row-says : (i < length rows)
+      × (same (rawOf rows pool i) name ≡ true)
+      × (shown (readBack rows pool) name ≡ known (displayOf rows pool i))
   unfolding shown
   row-says =
       answer-row unknown orLook (λ row. known (pairOf pool row .display)) (hasName Raw pool name) (λ l. shown (readBack l pool) name) refl
       (λ row rest. refl) (λ l. refl) (λ row l q. refl) rows e
 
-  row-has : rawOf rows pool i ≡ name
+  pub row-has : rawOf rows pool i ≡ name
   row-has = same-equal (rawOf rows pool i) name (row-says .1)
 
 -- No piece between the places `from` and `at` is known.
@@ -230,8 +232,8 @@ module _
             × (shown (readBack classes pool) found ≡ known (displayOf classes pool i))
         says = row-says classes pool found (sym w ∙ u)
 
-        long : start + length (rawOf classes pool i) ≡ «end»
-        long =
+        pub piece-long : start + length (rawOf classes pool i) ≡ «end»
+        piece-long =
             let a = here-piece .some in
             let b = here-piece .inside in
             let n = length-take-le («end» - start) (drop start text) (omega (arith, length-drop start text)) in
@@ -247,13 +249,13 @@ module _
             record {
               after = omega arith;
               inside = says .0;
-              filled = omega (arith, long);
-              ends = omega (arith, long);
+              filled = omega (arith, piece-long);
+              ends = omega (arith, piece-long);
               one = k .decides ∙ here-piece .one (shown (readBack classes pool)) ∙ rw (says .2);
               turns =
                   k .turns ∙ ap (λ l. between text «from» at ++ l) (here-piece .turns (shown (readBack classes pool)))
                   ∙ sym (append-assoc (between text «from» at) (between text at start) _)
-                  ∙ rw (parts-join text «from» at start a b, says .2, long);
+                  ∙ rw (parts-join text «from» at start a b, says .2, piece-long);
             }
 
 pub ruleset knowing = (unknowing-starts, seek-none, piece-order, piece-inside, seek-less, seek-on, seek-found, needs)

@@ -1,3 +1,10 @@
 pub mod Knowing
 pub mod Showing
 pub mod Noting
+pub mod Cuts
+pub mod Lookups
+pub mod Seeks
+pub mod AheadLaws
+pub mod Telling
+pub mod Cutting
+pub mod Naming

@@ -21,7 +21,7 @@ use Rattle.tree_rule.proofs.PutWords.{take-put, drop-put, word-before, word-put
 use Rattle.apply_rule.specs.Applying.{mostTree}
 use Rattle.apply_pieces.specs.declared.known.KnownPiece.{KnownPiece}
 use Rattle.apply_pieces.specs.declared.known.KnownPiece.the-variants.{At, Nowhere}
-use Rattle.apply_pieces.specs.declared.notes.Note.{Note}
+use Rattle.apply_pieces.specs.declared.note.Note.{Note}
 use Rattle.apply_pieces.specs.inner.Known.{KnownAt, KnownBy}
 use Rattle.apply_pieces.specs.inner.Notes.{NoteSays, NoteBy, NotedBelow}
 
@@ -81,24 +81,24 @@ module _ (d : List ℕ) (at : ℕ) (fits : at + 8 ≤ length d) (a b : ℕ) wher
   fits-two : at + 4 + length (wordBytes b) ≤ length one
   fits-two = omega (arith, one-size, bytes-length b)
 
-  two-size : length two ≡ length d
+  pub two-size : length two ≡ length d
   two-size = length-put one (at + 4) (wordBytes b) fits-two ∙ one-size
 
-  two-before : (e : ℕ) → e ≤ at → take e two ≡ take e d
+  pub two-before : (e : ℕ) → e ≤ at → take e two ≡ take e d
   two-before e h = take-put one (at + 4) (wordBytes b) fits-two e (omega arith) ∙ take-put d at (wordBytes a) fits-one e h
 
-  two-behind : (e : ℕ) → at + 8 ≤ e → drop e two ≡ drop e d
+  pub two-behind : (e : ℕ) → at + 8 ≤ e → drop e two ≡ drop e d
   two-behind e h =
       drop-put one (at + 4) (wordBytes b) fits-two e (omega (arith, bytes-length b))
       ∙ drop-put d at (wordBytes a) fits-one e (omega (arith, bytes-length a))
 
-  two-word : (e : ℕ) → e + 4 ≤ at → wordAt two e ≡ wordAt d e
+  pub two-word : (e : ℕ) → e + 4 ≤ at → wordAt two e ≡ wordAt d e
   two-word e h = word-before one (at + 4) (wordBytes b) fits-two e (omega arith) ∙ word-before d at (wordBytes a) fits-one e h
 
-  first-word : a < 4294967296 → wordAt two at ≡ a
+  pub first-word : a < 4294967296 → wordAt two at ≡ a
   first-word h = word-before one (at + 4) (wordBytes b) fits-two at (omega arith) ∙ word-put d at a h fits-one
 
-  second-word : b < 4294967296 → wordAt two (at + 4) ≡ b
+  pub second-word : b < 4294967296 → wordAt two (at + 4) ≡ b
   second-word h = word-put one (at + 4) b h fits-two
 
 -- The names below `n` have their notes.
@@ -168,7 +168,7 @@ module _
         noted = record {
           size = two-size new place fits (note .start) (note .row) ∙ k .noted .size;
           before = two-before new place fits (note .start) (note .row) (namesStart c) (omega arith) ∙ k .noted .before;
-          behind = two-behind new place fits (note .start) (note .row) (bytesStart c) (omega arith) ∙ k .noted .behind;
+          behind = two-behind new place fits (note .start) (note .row) (fileLength c) (omega arith) ∙ k .noted .behind;
           notes = each-note;
         };
       }

@@ -1,12 +1,12 @@
 // A descriptor with each class piece that is known turned to its display.
 use crate::known::KnownPiece;
 use crate::known::first_known;
+use crate::rows::raw_length;
 use table_pool::Wrote;
 use table_pool::put_text;
 use table_rows::ClassRow;
 use table_rows::unpack_class;
 use tables::text_in;
-ghost use mathlib.Core.Path.{_≡_};
 ghost use mathlib.Core.List.{_++_};
 ghost use Prim.Native.Nat.{_≤_, _<_};
 ghost use lib.ListN.{length};
@@ -14,17 +14,7 @@ ghost use Rattle.ground.specs.Put.{between};
 ghost use Rattle.table_pool.specs.inner.Wrote.{WroteBy};
 ghost use Rattle.tables.specs.declared.search.Side.the-variants.{Raw};
 ghost use Rattle.table_index.specs.inner.Index.{IndexBy};
-ghost use Rattle.apply_pieces.specs.inner.Known.{rawOf, displayOf, allShown, KnownAt};
-
-// How long the raw descriptor of a class row is.
-fn raw_length(classes: &[ClassRow], pool: &[u8], row: usize) -> usize
-    requires { ⌜ row < length (now classes) ⌝ }
-    ensures { λ r. ⌜ r ≡ length (rawOf (now (classes .entry)) (now (pool .entry)) row) ⌝ }
-{
-    let class = unpack_class(classes[row]);
-    let raw = text_in(pool, class.raw);
-    raw.len()
-}
+ghost use Rattle.apply_pieces.specs.inner.Known.{displayOf, allShown, KnownAt};
 
 // What stands before a piece, and the display descriptor of the row that has it.
 fn put_one(

@@ -6,8 +6,8 @@ use Prim.Native.Nat.{ℕ, zero, suc, _+_, _*_, _<_}
 use lib.ListN.{length, take, drop}
 use Rattle.tree_rule.specs.declared.TreeCounts.{TreeCounts}
 use Rattle.tree_rule.specs.Words.{wordAt}
-use Rattle.tree_rule.specs.Files.{namesStart, bytesStart, textAt}
-use Rattle.apply_pieces.specs.declared.notes.Note.{Note}
+use Rattle.tree_rule.specs.Files.{namesStart, fileLength, textAt}
+use Rattle.apply_pieces.specs.declared.note.Note.{Note}
 use Rattle.apply_pieces.specs.inner.Known.{oneKnown, KnownAt}
 
 -- the two numbers of a note: one more than the place where the piece starts, and its row; where no piece is known the first one is 0
@@ -25,7 +25,7 @@ pub record NoteBy (note : Note) (classes : List (List ℕ)) (pool text : List �
 pub record NotedBelow (count : ℕ) (c : TreeCounts) (f : List ℕ) (classes : List (List ℕ)) (pool old new : List ℕ) : Type 0 where
   pub size : length new ≡ length old
   pub before : take (namesStart c) new ≡ take (namesStart c) old
-  pub behind : drop (bytesStart c) new ≡ drop (bytesStart c) old
+  pub behind : drop (fileLength c) new ≡ drop (fileLength c) old
   pub notes : (n : ℕ) → n < count →
       NoteSays (wordAt new (namesStart c + 8 * n)) (wordAt new (namesStart c + 8 * n + 4)) classes pool (textAt c f n)
 

@@ -1,70 +1,53 @@
--- `apply_pieces::notes::note_names` meets its contract, by the laws of Noting and an invariant that the names so far have their notes.
-use Rattle.apply_pieces.proofs.Noting.{noting, Noting}
-use Prim.Native.Nat.{_-_}
+-- `apply_pieces::notes::note_names` meets its contract, by the laws of Naming.
+use Rattle.apply_pieces.proofs.Naming.{all-names}
 use Rattle.apply_pieces.proofs.notes.note_names.Statement.{statement}
 use Rattle.apply_pieces.proofs.notes.note_names.Tie as tie
 
-abbrev Inv-loop : tie.InvT-loop
-Inv-loop out₀ tree counts index classes pool start count n₀ out n = Noting counts tree classes pool out₀ out n
+long-overlap-requires : tie.Need-long-overlap-requires
+long-overlap-requires c κs = search all-names
 
-abbrev μ-loop : tie.MeasureT-loop
-μ-loop out₀ tree counts index classes pool start count n₀ out n = counts .names - n
+note-each-requires : tie.Need-note-each-requires
+note-each-requires c κs = search all-names
 
-names-start-requires : tie.Need-names-start-requires Inv-loop μ-loop
-names-start-requires c κs = search noting
+same-length : tie.Need-same-length
+same-length c = search all-names
 
-cast-count : tie.Need-cast-count Inv-loop μ-loop
-cast-count c = search noting
+returns : tie.Need-returns
+returns c = search all-names
 
-loop-holds : tie.Need-loop-holds Inv-loop μ-loop
-loop-holds c = search noting
+longest-raw-requires : tie.Need-longest-raw-requires
+longest-raw-requires c κs = search all-names
 
-name-text-requires : tie.Need-name-text-requires Inv-loop μ-loop
-name-text-requires c κs = search noting
+name-bytes-requires : tie.Need-name-bytes-requires
+name-bytes-requires c κs = search all-names
 
-note-of-requires : tie.Need-note-of-requires Inv-loop μ-loop
-note-of-requires c κs = search noting
+bytes-start-requires : tie.Need-bytes-start-requires
+bytes-start-requires c κs = search all-names
 
-mul-put-note : tie.Need-mul-put-note Inv-loop μ-loop
-mul-put-note c = search noting
+tell-groups-requires : tie.Need-tell-groups-requires
+tell-groups-requires c κs = search all-names
 
-add-put-note : tie.Need-add-put-note Inv-loop μ-loop
-add-put-note c = search noting
+note-by-groups-requires : tie.Need-note-by-groups-requires
+note-by-groups-requires c κs = search all-names
 
-put-note-requires : tie.Need-put-note-requires Inv-loop μ-loop
-put-note-requires c κs = search noting
+same-length-2 : tie.Need-same-length-2
+same-length-2 c = search all-names
 
-add-n : tie.Need-add-n Inv-loop μ-loop
-add-n c = search noting
-
-loop-less : tie.Need-loop-less Inv-loop μ-loop
-loop-less c = search noting
-
-loop-again : tie.Need-loop-again Inv-loop μ-loop
-loop-again c = search noting
-
-same-length : tie.Need-same-length Inv-loop μ-loop
-same-length c = search noting
-
-returns : tie.Need-returns Inv-loop μ-loop
-returns c = search noting
+returns-2 : tie.Need-returns-2
+returns-2 c = search all-names
 
 pub note-names-spec : {M : Type 1} → statement M
 note-names-spec =
     tie.close
     (tie.spec
-    Inv-loop
-    μ-loop
-    names-start-requires
-    cast-count
-    loop-holds
-    name-text-requires
-    note-of-requires
-    mul-put-note
-    add-put-note
-    put-note-requires
-    add-n
-    loop-less
-    loop-again
+    long-overlap-requires
+    note-each-requires
     same-length
-    returns)
+    returns
+    longest-raw-requires
+    name-bytes-requires
+    bytes-start-requires
+    tell-groups-requires
+    note-by-groups-requires
+    same-length-2
+    returns-2)

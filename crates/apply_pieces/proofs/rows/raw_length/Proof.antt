@@ -1,7 +1,7 @@
--- `apply_pieces::show::raw_length` meets its contract, by the laws of Showing.
+-- `apply_pieces::rows::raw_length` meets its contract, by the laws of Showing.
 use Rattle.apply_pieces.proofs.Showing.{raw-lengths}
-use Rattle.apply_pieces.proofs.show.raw_length.Statement.{statement}
-use Rattle.apply_pieces.proofs.show.raw_length.Tie as tie
+use Rattle.apply_pieces.proofs.rows.raw_length.Statement.{statement}
+use Rattle.apply_pieces.proofs.rows.raw_length.Tie as tie
 
 mul-unpack-class : tie.Need-mul-unpack-class
 mul-unpack-class c = search raw-lengths

@@ -1,7 +1,7 @@
--- `apply_pieces::notes::put_note` meets its contract, by the laws of Noting.
+-- `apply_pieces::note::put_note` meets its contract, by the laws of Noting.
 use Rattle.apply_pieces.proofs.Noting.{note-putting}
-use Rattle.apply_pieces.proofs.notes.put_note.Statement.{statement}
-use Rattle.apply_pieces.proofs.notes.put_note.Tie as tie
+use Rattle.apply_pieces.proofs.note.put_note.Statement.{statement}
+use Rattle.apply_pieces.proofs.note.put_note.Tie as tie
 
 put-word-requires : tie.Need-put-word-requires
 put-word-requires c κs = search note-putting

@@ -1,7 +1,7 @@
--- `apply_pieces::notes::note_of` meets its contract, by the laws of Noting.
+-- `apply_pieces::note::note_of` meets its contract, by the laws of Noting.
 use Rattle.apply_pieces.proofs.Noting.{note-taking}
-use Rattle.apply_pieces.proofs.notes.note_of.Statement.{statement}
-use Rattle.apply_pieces.proofs.notes.note_of.Tie as tie
+use Rattle.apply_pieces.proofs.note.note_of.Statement.{statement}
+use Rattle.apply_pieces.proofs.note.note_of.Tie as tie
 
 first-known-requires : tie.Need-first-known-requires
 first-known-requires c κs = search note-taking
