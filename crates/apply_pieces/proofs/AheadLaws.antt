@@ -243,9 +243,6 @@ module _
     (k : Seekable index classes pool longest text) {«from» stop : ℕ} (i : «from» ≤ stop)
     {ahead : Ahead} (g : AheadBy ahead classes pool text stop) {known : Note} (s : Sought known classes pool text «from»)
     {p : Place} (e : p ≡ firstWhere (starts 0x3B) (between text «from» stop)) where
-  stop-inside : stop ≤ length text
-  stop-inside = g .inside
-
   pub ahead-same : p ≡ places.Nowhere →
       AheadBy (record { known = known; past = ahead .past; after = ahead .after }) classes pool text «from»
   ahead-same f =

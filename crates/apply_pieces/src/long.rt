@@ -51,6 +51,7 @@ fn cut_note(
     }
 }
 
+// The note about one name, where the groups are told of.
 fn name_note(
     out: &[u8],
     tree: &[u8],
@@ -77,7 +78,7 @@ fn name_note(
     cut_note(bytes, classes, pool, from, size, note)
 }
 
-// As `note_each`, where the groups are told of.
+// As `note_each`, by `name_note`.
 pub fn note_by_groups(
     out: &mut [u8],
     tree: &[u8],
