@@ -4,13 +4,11 @@ use name_members::Asked;
 use name_members::Sought;
 use name_members::display_of;
 use name_members::is_sought;
-use table_index::NameForm;
-use table_index::last_named;
+use table_index::last_raw;
 use table_rows::ClassRow;
 use table_rows::MemberRow;
 use table_rows::unpack_member;
 use tables::Found;
-use tables::Side;
 use text_places::same_bytes;
 use tree_signature::starts_as;
 ghost use mathlib.Core.Path.{_≡_};
@@ -186,7 +184,7 @@ pub fn member_note(
         ⌜ r ≡ memberNote (now (classes .entry)) (now (members .entry)) (now (pool .entry)) (now (class .entry)) k ⌝ }
 {
     let home = is_home(class, owner, descriptor);
-    let Found::Row(row) = last_named(index, Side::Raw, classes, pool, owner, NameForm::Whole) else {
+    let Found::Row(row) = last_raw(index, classes, pool, owner) else {
         return MemberNote {
             named: 0,
             inherits: !home,

@@ -1,9 +1,7 @@
 // The first class piece of a descriptor that is known.
-use table_index::NameForm;
-use table_index::last_named;
+use table_index::last_raw;
 use table_rows::ClassRow;
 use tables::Found;
-use tables::Side;
 use text_places::Place;
 use text_places::first_byte;
 ghost use Prim.Native.Nat.{_≤_};
@@ -56,8 +54,7 @@ pub fn first_known(
         let NextPiece::At { start, end } = next_piece(text, at) else {
             return KnownPiece::Nowhere;
         };
-        let form = NameForm::Whole;
-        match last_named(index, Side::Raw, classes, pool, &text[start..end], form) {
+        match last_raw(index, classes, pool, &text[start..end]) {
             Found::Row(row) => {
                 return KnownPiece::At { start, row };
             }

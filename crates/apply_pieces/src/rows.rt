@@ -1,10 +1,8 @@
 // Class rows by their raw descriptors.
-use table_index::NameForm;
-use table_index::last_named;
+use table_index::last_raw;
 use table_rows::ClassRow;
 use table_rows::unpack_class;
 use tables::Found;
-use tables::Side;
 use tables::text_in;
 ghost use mathlib.Core.Path.{_≡_};
 ghost use Prim.Native.Nat.{_<_};
@@ -58,6 +56,5 @@ pub fn row_of(
     if longest < piece.len() {
         return Found::Unknown;
     }
-    let form = NameForm::Whole;
-    last_named(index, Side::Raw, classes, pool, piece, form)
+    last_raw(index, classes, pool, piece)
 }

@@ -1,12 +1,10 @@
 // The plans of all nodes. Parents are lower rows, so that the line context of a parent is known before its children come.
 use crate::node::plan_node;
 use apply_members::node_note;
-use table_index::NameForm;
-use table_index::last_named;
+use table_index::last_raw;
 use table_rows::ClassRow;
 use table_rows::MemberRow;
 use tables::Found;
-use tables::Side;
 use tree_rule::TreeCounts;
 use tree_words::token_count_at;
 ghost use mathlib.Core.Path.{_≡_};
@@ -28,7 +26,7 @@ fn home_row(index: &[u16], classes: &[ClassRow], pool: &[u8], class: &[u8]) -> u
     requires { ⌜ IndexBy Raw (now classes) (now pool) (now index) ⌝ }
     ensures { λ r. ⌜ r ≡ homeRow (lastRaw (now (classes .entry)) (now (pool .entry)) (now (class .entry))) ⌝ }
 {
-    match last_named(index, Side::Raw, classes, pool, class, NameForm::Whole) {
+    match last_raw(index, classes, pool, class) {
         Found::Row(row) => row,
         Found::Unknown => 0,
     }

@@ -17,3 +17,4 @@ pub use make::index_classes;
 pub use marks::mark_from;
 pub use parts::INDEX;
 pub use search::last_named;
+pub use search::last_raw;

@@ -12,6 +12,7 @@ use crate::texts::not_after;
 use table_rows::ClassRow;
 use tables::Found;
 use tables::Side;
+use tables::last_with_raw;
 ghost use mathlib.Core.Path.{_≡_};
 ghost use mathlib.Core.List.{[]};
 ghost use Prim.Native.Nat.{_<_, _≤_};
@@ -19,7 +20,8 @@ ghost use lib.ListN.{length, getD};
 ghost use Rattle.ground.specs.Choice.{pick};
 ghost use Rattle.text_places.specs.Places.{same};
 ghost use Rattle.tables.specs.declared.search.Found.the-variants.{Row, Unknown};
-ghost use Rattle.tables.specs.Search.{lastWith};
+ghost use Rattle.tables.specs.declared.search.Side.the-variants.{Raw};
+ghost use Rattle.tables.specs.Search.{lastWith, lastRaw};
 ghost use Rattle.table_index.specs.inner.Forms.{spelled};
 ghost use Rattle.table_index.specs.inner.Keys.{keysOf};
 ghost use Rattle.table_index.specs.inner.Shelves.{Ranked, Bound, LastOn};
@@ -183,4 +185,25 @@ pub fn last_named(
     let start = shelf.start;
     let end = shelf.end;
     last_between(index, side, classes, pool, start, end, name, form)
+}
+
+// The last class row with a raw descriptor. It does what `last_named` does: that one is for loading alone, so that the compiler makes it
+// for its one caller.
+pub fn last_raw(index: &[u16], classes: &[ClassRow], pool: &[u8], raw: &[u8]) -> Found
+    requires { ⌜ IndexBy Raw (now classes) (now pool) (now index) ⌝ }
+    ensures { λ r. ⌜ r ≡ lastRaw (now (classes .entry)) (now (pool .entry)) (now (raw .entry)) ⌝ }
+{
+    if index.len() != INDEX {
+        return last_with_raw(classes, pool, raw);
+    }
+    let form = NameForm::Whole;
+    let mark = mark_of(raw, form);
+    let first = wide_number(index[MARKS_AT + mark]);
+    if first == 0 {
+        return Found::Unknown;
+    }
+    let shelf = shelf_at(index, first - 1);
+    let start = shelf.start;
+    let end = shelf.end;
+    last_between(index, Side::Raw, classes, pool, start, end, raw, form)
 }

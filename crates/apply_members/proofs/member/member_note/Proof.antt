@@ -6,8 +6,8 @@ use Rattle.apply_members.proofs.member.member_note.Tie as tie
 is-home-requires : tie.Need-is-home-requires
 is-home-requires c κs = search member-noting
 
-last-named-requires : tie.Need-last-named-requires
-last-named-requires c κs = search member-noting
+last-raw-requires : tie.Need-last-raw-requires
+last-raw-requires c κs = search member-noting
 
 enum-known-row : tie.Need-enum-known-row
 enum-known-row c = search member-noting
@@ -38,7 +38,7 @@ member-note-spec =
     tie.close
     (tie.spec
     is-home-requires
-    last-named-requires
+    last-raw-requires
     enum-known-row
     enum-told
     returns

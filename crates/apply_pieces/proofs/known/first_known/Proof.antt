@@ -26,17 +26,17 @@ enum-told c = search knowing
 returns : tie.Need-returns Inv-loop μ-loop
 returns c = search knowing
 
-sub-last-named : tie.Need-sub-last-named Inv-loop μ-loop
-sub-last-named c = search knowing
+sub-last-raw : tie.Need-sub-last-raw Inv-loop μ-loop
+sub-last-raw c = search knowing
 
-part-last-named-start : tie.Need-part-last-named-start Inv-loop μ-loop
-part-last-named-start c = search knowing
+part-last-raw-start : tie.Need-part-last-raw-start Inv-loop μ-loop
+part-last-raw-start c = search knowing
 
-part-last-named-end : tie.Need-part-last-named-end Inv-loop μ-loop
-part-last-named-end c = search knowing
+part-last-raw-end : tie.Need-part-last-raw-end Inv-loop μ-loop
+part-last-raw-end c = search knowing
 
-last-named-requires : tie.Need-last-named-requires Inv-loop μ-loop
-last-named-requires c κs = search knowing
+last-raw-requires : tie.Need-last-raw-requires Inv-loop μ-loop
+last-raw-requires c κs = search knowing
 
 enum-known-row : tie.Need-enum-known-row Inv-loop μ-loop
 enum-known-row c = search knowing
@@ -64,10 +64,10 @@ first-known-spec =
     enum-known-start
     enum-told
     returns
-    sub-last-named
-    part-last-named-start
-    part-last-named-end
-    last-named-requires
+    sub-last-raw
+    part-last-raw-start
+    part-last-raw-end
+    last-raw-requires
     enum-known-row
     returns-2
     enum-told-2

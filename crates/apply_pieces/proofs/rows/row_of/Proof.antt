@@ -6,11 +6,11 @@ use Rattle.apply_pieces.proofs.rows.row_of.Tie as tie
 returns : tie.Need-returns
 returns c = search rows-by-raw
 
-last-named-requires : tie.Need-last-named-requires
-last-named-requires c κs = search rows-by-raw
+last-raw-requires : tie.Need-last-raw-requires
+last-raw-requires c κs = search rows-by-raw
 
 returns-2 : tie.Need-returns-2
 returns-2 c = search rows-by-raw
 
 pub row-of-spec : {M : Type 1} → statement M
-row-of-spec = tie.close (tie.spec returns last-named-requires returns-2)
+row-of-spec = tie.close (tie.spec returns last-raw-requires returns-2)

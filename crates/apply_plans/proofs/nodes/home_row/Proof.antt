@@ -3,8 +3,8 @@ use Rattle.apply_plans.proofs.Contexting.{home-finding}
 use Rattle.apply_plans.proofs.nodes.home_row.Statement.{statement}
 use Rattle.apply_plans.proofs.nodes.home_row.Tie as tie
 
-last-named-requires : tie.Need-last-named-requires
-last-named-requires c κs = search home-finding
+last-raw-requires : tie.Need-last-raw-requires
+last-raw-requires c κs = search home-finding
 
 enum-known-row : tie.Need-enum-known-row
 enum-known-row c = search home-finding
@@ -19,4 +19,4 @@ returns-2 : tie.Need-returns-2
 returns-2 c = search home-finding
 
 pub home-row-spec : {M : Type 1} → statement M
-home-row-spec = tie.close (tie.spec last-named-requires enum-known-row enum-told returns returns-2)
+home-row-spec = tie.close (tie.spec last-raw-requires enum-known-row enum-told returns returns-2)
