@@ -18,7 +18,7 @@ use Rattle.table_rows.specs.declared.rows.Member.{Member}
 use Rattle.table_rows.specs.Rows.{unpackClass, unpackMember, mostMembers}
 use Rattle.tables.specs.Back.{textIn}
 use Rattle.table_index.specs.inner.Marks.{markCount, markFrom}
-use Rattle.table_index.proofs.Marking.{mark-from-below, marked-below, plain-marked}
+use Rattle.table_index.proofs.Marking.{mark-from-below, marked-below}
 use Rattle.name_index.specs.inner.Chains.{lastBelow, chained, memberIndexSize, memberMark, rowMark, markAt, Chained}
 
 module _ (f : ℕ → ℕ) (h : ℕ) where
@@ -95,7 +95,7 @@ none-below f h = refl
 pub three-marked : (raw name descriptor : List ℕ) {a b c : ℕ} → a ≡ markFrom 0 raw → b ≡ markFrom a name → c ≡ markFrom b descriptor → c ≡ memberMark raw name descriptor
 three-marked raw name descriptor e f g = g ∙ ap (λ x. markFrom x descriptor) (f ∙ ap (λ x. markFrom x name) e)
 
-pub ruleset marking-member = (marked-below, plain-marked, three-marked, needs)
+pub ruleset marking-member = (marked-below, three-marked, needs)
 
 pub mark-below : (raw name descriptor : List ℕ) → memberMark raw name descriptor < markCount
 mark-below raw name descriptor = mark-from-below (markFrom (markFrom 0 raw) name) descriptor

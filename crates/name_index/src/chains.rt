@@ -35,9 +35,9 @@ pub fn raw_of<'a>(classes: &[ClassRow], pool: &'a [u8], row: usize) -> &'a [u8]
 pub fn member_mark(raw: &[u8], name: &[u8], descriptor: &[u8]) -> usize
     ensures { λ r. ⌜ r ≡ memberMark (now (raw .entry)) (now (name .entry)) (now (descriptor .entry)) ⌝ }
 {
-    let class = mark_from(0, raw, false);
-    let named = mark_from(class, name, false);
-    mark_from(named, descriptor, false)
+    let class = mark_from(0, raw);
+    let named = mark_from(class, name);
+    mark_from(named, descriptor)
 }
 
 fn row_mark(classes: &[ClassRow], pool: &[u8], member: Member) -> usize

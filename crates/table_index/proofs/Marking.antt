@@ -1,15 +1,13 @@
 -- Marks of descriptors, and the code that computes them. Assumes nothing.
 use mathlib.Core.Path.{_≡_, refl, sym, _∙_, ap}
 use mathlib.Core.Bool.{Bool, true, false}
-use mathlib.Core.List.{List, [], _∷_, _++_, map-id}
-use Prim.Native.Nat.{ℕ, suc, _+_, _*_, _/_, _%_, _-_, _≤_, _<_}
-use native.Mathlib.Nat.{mod-lt, div-lt-self}
+use mathlib.Core.List.{List, [], _∷_, map-id}
+use Prim.Native.Nat.{ℕ, _+_, _*_, _/_, _%_, _-_, _≤_, _<_}
+use native.Mathlib.Nat.{mod-lt, zero-add}
 use native.Mathlib.Omega.{arith}
 use lib.Dec.{ltb}
 use lib.ListN.{length, getD, List·getD-map, length-map, length-append}
 use lib.Seq.{take-at}
-use mir.Val.{Fits}
-use mir.Syntax.{w64}
 use borrow.Author.Needs.{needs}
 use borrow.Author.Tests.{lt-ltb, le-ltb}
 use Rattle.ground.specs.Choice.{pick}
@@ -27,6 +25,9 @@ stored-at false s i = List·getD-map (slashIf false) s i 0
 
 stored-size : (dots : Bool) (s : List ℕ) → length (nameBytes dots s) ≡ length s
 stored-size dots s = length-map s (slashIf dots)
+
+plain-name : (s : List ℕ) → nameBytes false s ≡ s
+plain-name s = map-id s
 
 pub four-told : (dots : Bool) (s : List ℕ) (at : ℕ) {w x y z : ℕ} →
     w ≡ slashIf dots (getD s at 0) → x ≡ slashIf dots (getD s (at + 1) 0) →
@@ -64,8 +65,8 @@ mark-from-below h s = go (ltb (length s) 4)
     go true = mixed-below (h + length s % markCount) (fewBytes s) 0 0 0
     go false = mixed-below (h + length s % markCount) (fourAt s 0) (fourAt s (length s - 4 - 8)) (fourAt s ((length s - 4 - 8 + (length s - 4)) / 2)) (fourAt s (length s - 4))
 
-pub marked-below : (h : ℕ) (dots : Bool) (s : List ℕ) {m : ℕ} → m ≡ markFrom h (nameBytes dots s) → m < markCount
-marked-below h dots s e = rw e (mark-from-below h (nameBytes dots s))
+pub marked-below : (h : ℕ) (s : List ℕ) {m : ℕ} → m ≡ markFrom h s → m < markCount
+marked-below h s e = rw e (mark-from-below h s)
 
 pub mark-below : (d : List ℕ) → markOf d < markCount
 unfolding markOf
@@ -76,28 +77,27 @@ mark-below d = go (ltb (length d) 2)
     go false = mark-from-below 0 (between d 1 (length d - 1))
 
 -- A text by its parts.
-module _ (start : ℕ) (dots : Bool) (s : List ℕ) where
-  abbrev t : List ℕ
-  t = nameBytes dots s
-
-  pub short-marked : length s < 4 → {x y : ℕ} → x ≡ fewBytes (nameBytes dots s) →
-      y ≡ mixed (start + length s % markCount) x 0 0 0 → y ≡ markFrom start (nameBytes dots s)
+module _ (start : ℕ) (s : List ℕ) where
+  short-text : length s < 4 → mixed (start + length s % markCount) (fewBytes s) 0 0 0 ≡ markFrom start s
   unfolding markFrom
-  short-marked h e f =
-      f ∙ ap (λ x. mixed (start + length s % markCount) x 0 0 0) e
-      ∙ sym (rw (stored-size dots s, lt-ltb (length s) 4 h))
+  short-text h = sym (rw (lt-ltb (length s) 4 h))
 
-  pub long-marked : 4 ≤ length s → {n a b c d y : ℕ} → n ≡ length s - 4 - 8 →
-      a ≡ fourAt (nameBytes dots s) 0 → b ≡ fourAt (nameBytes dots s) n → c ≡ fourAt (nameBytes dots s) ((n + (length s - 4)) / 2) →
-      d ≡ fourAt (nameBytes dots s) (length s - 4) →
-      y ≡ mixed (start + length s % markCount) a b c d → y ≡ markFrom start (nameBytes dots s)
+  long-text : 4 ≤ length s → manyMark (start + length s % markCount) s (length s - 4 - 8) (length s - 4) ≡ markFrom start s
   unfolding markFrom
-  long-marked h {n} {a} {b} {c} {d} i e f g k l =
-      let parts : mixed (start + length s % markCount) a b c d ≡ manyMark (start + length s % markCount) t n (length s - 4) =
+  long-text h = sym (rw (le-ltb (length s) 4 h))
+
+  pub plain-short : length s < 4 → {x y : ℕ} → x ≡ fewBytes (nameBytes false s) → y ≡ mixed (start + length s % markCount) x 0 0 0 →
+      y ≡ markFrom start s
+  plain-short h e f =
+      f ∙ ap (λ x. mixed (start + length s % markCount) x 0 0 0) (e ∙ ap fewBytes (plain-name s)) ∙ short-text h
+
+  pub plain-long : 4 ≤ length s → {n a b c d y : ℕ} → n ≡ length s - 4 - 8 →
+      a ≡ fourAt s 0 → b ≡ fourAt s n → c ≡ fourAt s ((n + (length s - 4)) / 2) → d ≡ fourAt s (length s - 4) →
+      y ≡ mixed (start + length s % markCount) a b c d → y ≡ markFrom start s
+  plain-long h {n} {a} {b} {c} {d} i e f g k l =
+      let parts : mixed (start + length s % markCount) a b c d ≡ manyMark (start + length s % markCount) s n (length s - 4) =
       rw (e, f, g, k) in
-      let whole : manyMark (start + length s % markCount) t (length s - 4 - 8) (length s - 4) ≡ markFrom start t =
-      sym (rw (stored-size dots s, le-ltb (length s) 4 h)) in
-      l ∙ parts ∙ ap (λ x. manyMark (start + length s % markCount) t x (length s - 4)) i ∙ whole
+      l ∙ parts ∙ ap (λ x. manyMark (start + length s % markCount) s x (length s - 4)) i ∙ long-text h
 
 pub seed-small : {start : ℕ} (n : ℕ) → start < markCount → start + n % markCount < 16384
 seed-small n h = omega arith
@@ -105,45 +105,63 @@ seed-small n h = omega arith
 pub middle-inside : (s : List ℕ) → 4 ≤ length s → {n : ℕ} → n ≡ length s - 4 - 8 → (n + (length s - 4)) / 2 + 4 ≤ length s
 middle-inside s h e = omega arith
 
-pub ruleset marking = (short-marked, long-marked, seed-small, middle-inside, needs)
+pub ruleset marking = (plain-short, plain-long, seed-small, middle-inside, needs)
+
+-- the same of a name with its dots as slashes, from the start
+module _ (dots : Bool) (s : List ℕ) where
+  abbrev t : List ℕ
+  t = nameBytes dots s
+
+  pub name-short : length s < 4 → {x y : ℕ} → x ≡ fewBytes (nameBytes dots s) → y ≡ mixed (length s % markCount) x 0 0 0 →
+      y ≡ markFrom 0 (nameBytes dots s)
+  name-short h e f =
+      let z : 0 + length t % markCount ≡ length s % markCount = rw (stored-size dots s) (zero-add (length s % markCount)) in
+      f ∙ ap (λ x. mixed (length s % markCount) x 0 0 0) e
+      ∙ ap (λ m. mixed m (fewBytes t) 0 0 0) (sym z) ∙ short-text 0 t (rw (stored-size dots s) h)
+
+  pub name-long : 4 ≤ length s → {n a b c d y : ℕ} → n ≡ length s - 4 - 8 →
+      a ≡ fourAt (nameBytes dots s) 0 → b ≡ fourAt (nameBytes dots s) n → c ≡ fourAt (nameBytes dots s) ((n + (length s - 4)) / 2) →
+      d ≡ fourAt (nameBytes dots s) (length s - 4) →
+      y ≡ mixed (length s % markCount) a b c d → y ≡ markFrom 0 (nameBytes dots s)
+  name-long h {n} {a} {b} {c} {d} {y} i e f g k l =
+      let z : 0 + length t % markCount ≡ length s % markCount = rw (stored-size dots s) (zero-add (length s % markCount)) in
+      plain-long 0 t (rw (stored-size dots s) h) (rw (stored-size dots s) i)
+      e f (rw (stored-size dots s) g) (rw (stored-size dots s) k) (l ∙ ap (λ m. mixed m a b c d) (sym z))
+
+pub name-seed : (n : ℕ) → n % markCount < 16384
+name-seed n = omega arith
+
+pub ruleset naming = (name-short, name-long, name-seed, middle-inside, needs)
 
 -- What a name stands for.
-plain-name : (s : List ℕ) → nameBytes false s ≡ s
-plain-name s = map-id s
-
-pub plain-marked : (h : ℕ) (s : List ℕ) {m : ℕ} → m ≡ markFrom h (nameBytes false s) → m ≡ markFrom h s
-plain-marked h s e = e ∙ ap (markFrom h) (plain-name s)
-
 inner-piece : (dots : Bool) (name : List ℕ) → between (classPiece dots name) 1 (length (classPiece dots name) - 1) ≡ nameBytes dots name
 inner-piece dots name =
     let n = length-append (nameBytes dots name) (0x3B ∷ []) in
     take-at (nameBytes dots name) (0x3B ∷ []) (length (classPiece dots name) - 1 - 1) (omega arith)
 
-module _ (name : List ℕ) {form : NameForm} where
-  pub piece-marked : {h : ℕ} {dots : Bool} → form ≡ Piece dots → h ≡ markFrom 0 (nameBytes dots name) → h ≡ markOf (spelled form name)
+-- a descriptor
+module _ (s : List ℕ) where
+  pub tiny-marked : length s < 2 → 0 ≡ markOf s
   unfolding markOf
-  piece-marked {dots = dots} e f =
+  tiny-marked l = ap (λ t. pick t 0 (markFrom 0 (between s 1 (length s - 1)))) (sym (lt-ltb (length s) 2 l))
+
+  pub whole-marked : {h : ℕ} → 2 ≤ length s → h ≡ markFrom 0 (between s 1 (length s - 1)) → h ≡ markOf s
+  unfolding markOf
+  whole-marked l f = f ∙ ap (λ t. pick t 0 (markFrom 0 (between s 1 (length s - 1)))) (sym (le-ltb (length s) 2 l))
+
+pub ruleset whole-marking = (tiny-marked, whole-marked, needs)
+
+module _ (name : List ℕ) {form : NameForm} {h : ℕ} where
+  pub piece-marked : {dots : Bool} → form ≡ Piece dots → h ≡ markFrom 0 (nameBytes dots name) → h ≡ markOf (spelled form name)
+  piece-marked {dots} e f =
       let n = length-append (nameBytes dots name) (0x3B ∷ []) in
-      f ∙ ap (markFrom 0) (sym (inner-piece dots name))
-      ∙ ap (λ t. pick t 0 (markFrom 0 (between (classPiece dots name) 1 (length (classPiece dots name) - 1))))
-      (sym (le-ltb (length (classPiece dots name)) 2 (omega arith)))
+      whole-marked (classPiece dots name) (omega arith) (f ∙ ap (markFrom 0) (sym (inner-piece dots name)))
       ∙ ap (λ x. markOf (spelled x name)) (sym e)
 
-  module _ (e : form ≡ Whole) where
-    pub tiny-marked : length name < 2 → 0 ≡ markOf (spelled form name)
-    unfolding markOf
-    tiny-marked l =
-        ap (λ t. pick t 0 (markFrom 0 (between name 1 (length name - 1)))) (sym (lt-ltb (length name) 2 l))
-        ∙ ap (λ x. markOf (spelled x name)) (sym e)
+  pub text-marked : form ≡ Whole → h ≡ markOf name → h ≡ markOf (spelled form name)
+  text-marked e f = f ∙ ap (λ x. markOf (spelled x name)) (sym e)
 
-    pub whole-marked : {h : ℕ} → 2 ≤ length name → h ≡ markFrom 0 (nameBytes false (between name 1 (length name - 1))) → h ≡ markOf (spelled form name)
-    unfolding markOf
-    whole-marked l f =
-        f ∙ ap (markFrom 0) (plain-name (between name 1 (length name - 1)))
-        ∙ ap (λ t. pick t 0 (markFrom 0 (between name 1 (length name - 1)))) (sym (le-ltb (length name) 2 l))
-        ∙ ap (λ x. markOf (spelled x name)) (sym e)
-
-pub ruleset form-marking = (piece-marked, tiny-marked, whole-marked, needs)
+pub ruleset form-marking = (piece-marked, text-marked, needs)
 
 -- The marks of all rows.
 pub mark-is : (keys : List (List ℕ)) (r : ℕ) → getD (marksOf keys) r 0 ≡ markOf (getD keys r [])

@@ -1,6 +1,5 @@
 // The head of each row: the first row with its mark.
-use crate::forms::NameForm;
-use crate::marks::mark_of;
+use crate::marks::mark_whole;
 use crate::parts::ENDS_AT;
 use crate::parts::HEADS_AT;
 use crate::parts::MARKS_AT;
@@ -32,7 +31,7 @@ fn group_row(index: &mut [u16], side: Side, classes: &[ClassRow], pool: &[u8], r
     requires { ⌜ GroupedClasses side (now classes) (now pool) (now index) row × (row < length (now classes)) ⌝ }
     ensures { λ _. ⌜ GroupedClasses side (now (classes .entry)) (now (pool .entry)) (now (index .exit)) (row + 1) ⌝ }
 {
-    let mark = mark_of(row_text(side, classes, pool, row), NameForm::Whole);
+    let mark = mark_whole(row_text(side, classes, pool, row));
     let first = wide_number(index[MARKS_AT + mark]);
     if first == 0 {
         let number = row + 1;

@@ -18,7 +18,7 @@ fn wide_byte(b: u8, dots: bool) -> usize
     stored_byte(b, dots) as usize
 }
 
-// Four bytes as one number: the compiler loads them in one go.
+// Four bytes of a name as one number.
 fn four_at(text: &[u8], at: usize, dots: bool) -> usize
     requires { ⌜ at + 4 ≤ length (now text) ⌝ }
     ensures { λ r. ⌜ (r ≡ fourAt (nameBytes dots (now (text .entry))) at) × (r < 4294967296) ⌝ }
@@ -63,40 +63,82 @@ fn eight_before(place: usize) -> usize
     place - 8
 }
 
-// The mark of a text, where that of what stands before it is `start`: by its length, its first four bytes and its last twelve.
-pub fn mark_from(start: usize, text: &[u8], dots: bool) -> usize
-    requires { ⌜ start < markCount ⌝ }
-    ensures { λ r. ⌜ r ≡ markFrom start (nameBytes dots (now (text .entry))) ⌝ }
+// The mark of a name with its dots as slashes or as they are: by its length, its first four bytes and its last twelve.
+fn mark_name(name: &[u8], dots: bool) -> usize
+    ensures { λ r. ⌜ r ≡ markFrom 0 (nameBytes dots (now (name .entry))) ⌝ }
 {
-    let length = text.len();
-    let seed = start + length % MARKS;
+    let length = name.len();
+    let seed = length % MARKS;
     if length < 4 {
-        return mixed_mark(seed, few_bytes(text, dots), 0, 0, 0);
+        return mixed_mark(seed, few_bytes(name, dots), 0, 0, 0);
     }
     let last = length - 4;
     let near = eight_before(last);
     let middle = (near + last) / 2;
     mixed_mark(
         seed,
-        four_at(text, 0, dots),
-        four_at(text, near, dots),
-        four_at(text, middle, dots),
-        four_at(text, last, dots),
+        four_at(name, 0, dots),
+        four_at(name, near, dots),
+        four_at(name, middle, dots),
+        four_at(name, last, dots),
     )
 }
 
-// The mark of what a name stands for: of a descriptor the first and the last byte do not count, so that a name has the mark of its piece.
+fn wide(b: u8) -> usize
+    ensures { λ r. ⌜ (r ≡ b) × (r < 256) ⌝ }
+{
+    b as usize
+}
+
+// As `four_at` without dots, which the compiler loads in one go.
+fn plain_four(text: &[u8], at: usize) -> usize
+    requires { ⌜ at + 4 ≤ length (now text) ⌝ }
+    ensures { λ r. ⌜ (r ≡ fourAt (now (text .entry)) at) × (r < 4294967296) ⌝ }
+{
+    let low = wide(text[at]) + 256 * wide(text[at + 1]);
+    let high = wide(text[at + 2]) + 256 * wide(text[at + 3]);
+    low + 65536 * high
+}
+
+// The mark of a text as it is, where that of what stands before it is `start`.
+pub fn mark_from(start: usize, text: &[u8]) -> usize
+    requires { ⌜ start < markCount ⌝ }
+    ensures { λ r. ⌜ r ≡ markFrom start (now (text .entry)) ⌝ }
+{
+    let length = text.len();
+    let seed = start + length % MARKS;
+    if length < 4 {
+        return mixed_mark(seed, few_bytes(text, false), 0, 0, 0);
+    }
+    let last = length - 4;
+    let near = eight_before(last);
+    let middle = (near + last) / 2;
+    mixed_mark(
+        seed,
+        plain_four(text, 0),
+        plain_four(text, near),
+        plain_four(text, middle),
+        plain_four(text, last),
+    )
+}
+
+// The mark of a descriptor: its first and its last byte do not count, so that a class name has the mark of its piece.
+pub fn mark_whole(text: &[u8]) -> usize
+    ensures { λ r. ⌜ r ≡ markOf (now (text .entry)) ⌝ }
+{
+    if text.len() < 2 {
+        return 0;
+    }
+    let last = text.len() - 1;
+    mark_from(0, &text[1..last])
+}
+
+// The mark of what a name stands for.
 pub fn mark_of(name: &[u8], form: NameForm) -> usize
     ensures { λ r. ⌜ r ≡ markOf (spelled form (now (name .entry))) ⌝ }
 {
     match form {
-        NameForm::Whole => {
-            if name.len() < 2 {
-                return 0;
-            }
-            let last = name.len() - 1;
-            mark_from(0, &name[1..last], false)
-        }
-        NameForm::Piece(dots) => mark_from(0, name, dots),
+        NameForm::Whole => mark_whole(name),
+        NameForm::Piece(dots) => mark_name(name, dots),
     }
 }

@@ -3,6 +3,7 @@ use crate::forms::NameForm;
 use crate::forms::compare_named;
 use crate::forms::is_named;
 use crate::marks::mark_of;
+use crate::marks::mark_whole;
 use crate::parts::INDEX;
 use crate::parts::MARKS_AT;
 use crate::parts::shelf_at;
@@ -197,7 +198,7 @@ pub fn last_raw(index: &[u16], classes: &[ClassRow], pool: &[u8], raw: &[u8]) ->
         return last_with_raw(classes, pool, raw);
     }
     let form = NameForm::Whole;
-    let mark = mark_of(raw, form);
+    let mark = mark_whole(raw);
     let first = wide_number(index[MARKS_AT + mark]);
     if first == 0 {
         return Found::Unknown;

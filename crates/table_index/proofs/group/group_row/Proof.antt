@@ -6,8 +6,8 @@ use Rattle.table_index.proofs.group.group_row.Tie as tie
 row-text-requires : tie.Need-row-text-requires
 row-text-requires c κs = search grouping
 
-mark-of-requires : tie.Need-mark-of-requires
-mark-of-requires c κs = search grouping
+mark-whole-requires : tie.Need-mark-whole-requires
+mark-whole-requires c κs = search grouping
 
 add-wide-number : tie.Need-add-wide-number
 add-wide-number c = search grouping
@@ -62,7 +62,7 @@ group-row-spec =
     tie.close
     (tie.spec
     row-text-requires
-    mark-of-requires
+    mark-whole-requires
     add-wide-number
     mul-wide-number
     slice-read-wide-number

@@ -21,17 +21,17 @@ eight-before-requires c κs = search marking
 add-middle : tie.Need-add-middle
 add-middle c = search marking
 
-four-at-requires : tie.Need-four-at-requires
-four-at-requires c κs = search marking
+plain-four-requires : tie.Need-plain-four-requires
+plain-four-requires c κs = search marking
 
-four-at-requires-2 : tie.Need-four-at-requires-2
-four-at-requires-2 c κs = search marking
+plain-four-requires-2 : tie.Need-plain-four-requires-2
+plain-four-requires-2 c κs = search marking
 
-four-at-requires-3 : tie.Need-four-at-requires-3
-four-at-requires-3 c κs = search marking
+plain-four-requires-3 : tie.Need-plain-four-requires-3
+plain-four-requires-3 c κs = search marking
 
-four-at-requires-4 : tie.Need-four-at-requires-4
-four-at-requires-4 c κs = search marking
+plain-four-requires-4 : tie.Need-plain-four-requires-4
+plain-four-requires-4 c κs = search marking
 
 mixed-mark-requires-2 : tie.Need-mixed-mark-requires-2
 mixed-mark-requires-2 c κs = search marking
@@ -49,9 +49,9 @@ mark-from-spec =
     returns
     eight-before-requires
     add-middle
-    four-at-requires
-    four-at-requires-2
-    four-at-requires-3
-    four-at-requires-4
+    plain-four-requires
+    plain-four-requires-2
+    plain-four-requires-3
+    plain-four-requires-4
     mixed-mark-requires-2
     returns-2)

@@ -9,8 +9,8 @@ last-with-raw-requires c κs = search searching
 returns : tie.Need-returns
 returns c = search searching
 
-mark-of-requires : tie.Need-mark-of-requires
-mark-of-requires c κs = search searching
+mark-whole-requires : tie.Need-mark-whole-requires
+mark-whole-requires c κs = search searching
 
 add-wide-number : tie.Need-add-wide-number
 add-wide-number c = search searching
@@ -37,7 +37,7 @@ last-between-requires : tie.Need-last-between-requires
 last-between-requires c κs =
     let begun = c .before .before .before .before .before .before .before .before .before in
     let sized = c .before .before .before .before .before .if1 .left in
-    search-ranked (begun .pre) sized _ (c .before .before .before .before .mark-of .ensures) (c .before .before .wide-number .ensures)
+    search-ranked (begun .pre) sized _ (c .before .before .before .before .mark-whole .ensures) (c .before .before .wide-number .ensures)
     (c .before .if2 .left)
     (c .shelf-at .ensures)
 
@@ -50,7 +50,7 @@ last-raw-spec =
     (tie.spec
     last-with-raw-requires
     returns
-    mark-of-requires
+    mark-whole-requires
     add-wide-number
     mul-wide-number
     shared-slice-read-wide-number
