@@ -21,7 +21,8 @@ pub record NoteBy (note : Note) (classes : List (List ℕ)) (pool text : List �
   pub start-small : note .start < 4294967296
   pub row-small : note .row < 4294967296
 
--- the notes about the names below `count` of the file `f` are made, and all else is as it was
+-- the notes about the names below `count` of the file `f` are made, and what stands before the name rows and behind the file is as it was:
+-- the room of the name bytes is free until the output is written
 pub record NotedBelow (count : ℕ) (c : TreeCounts) (f : List ℕ) (classes : List (List ℕ)) (pool old new : List ℕ) : Type 0 where
   pub size : length new ≡ length old
   pub before : take (namesStart c) new ≡ take (namesStart c) old
