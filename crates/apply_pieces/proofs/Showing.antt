@@ -4,12 +4,13 @@ use mathlib.Core.Bool.{false}
 use mathlib.Core.List.{List, [], _++_, append-assoc}
 use Prim.Native.Nat.{ℕ, _+_, _-_, _^_, _≤_, _<_}
 use native.Mathlib.Omega.{arith}
-use lib.ListN.{length, getD, drop}
+use lib.ListN.{length, getD, drop, drop-of-length-le}
 use mir.Val.{Fits}
 use mir.Syntax.{w64}
 use borrow.Author.Needs.{needs}
 use Rattle.ground.specs.Put.{between}
 use Rattle.ground.proofs.Parts.{take-rest}
+use Rattle.ground.proofs.PutLaws.{put-nothing}
 use Rattle.table_rows.specs.declared.rows.Class.{Class}
 use Rattle.table_rows.specs.Rows.{unpackClass}
 use Rattle.table_rows.specs.Classes.{shown}
@@ -18,6 +19,8 @@ use Rattle.table_pool.specs.declared.write.Wrote.the-variants.{Done, NoRoom}
 use Rattle.table_pool.specs.inner.Wrote.{Written, WroteBy}
 use Rattle.table_pool.proofs.Writes.{wrote-told, wrote-none, wrote-as, wrote-then, none-then, written-length}
 use Rattle.tables.specs.Back.{textIn, readBack}
+use Rattle.descriptor.specs.Pieces.{partsFrom}
+use Rattle.apply_rule.specs.Changes.{pieceKnown}
 use Rattle.apply_rule.proofs.Pieces.{unknown-stays}
 use Rattle.apply_pieces.specs.declared.known.KnownPiece.{KnownPiece}
 use Rattle.apply_pieces.specs.declared.known.KnownPiece.the-variants.{At, Nowhere}
@@ -110,6 +113,17 @@ module _
             let same : WroteBy v d m (allShown classes pool (drop behind text)) d₁ = rw f at u in
             k .left v d₁ (wrote-as v out next d₁ here (wrote-then v (allShown classes pool (drop behind text)) d₁ wrote same))
 
+        -- nothing is left
+        pub showing-all : length text ≤ piece + n → WroteBy (Done m) out₀ at (allShown classes pool text) d
+        unfolding partsFrom pieceKnown
+        showing-all h =
+            let none : drop (piece + n) text ≡ [] = drop-of-length-le text h in
+            let stays : allShown classes pool [] ≡ [] = unknown-stays (shown (readBack classes pool)) [] refl in
+            let nothing : allShown classes pool (drop (piece + n) text) ≡ [] = ap (allShown classes pool) none ∙ stays in
+            let size : length d ≡ length out = written-length wrote in
+            let room : m ≤ length d = let a = wrote .past in let b = wrote .room in omega arith in
+            then (Done m) d (rw nothing (record { past = omega arith; room = omega arith; is = sym (put-nothing d m) }))
+
         module _ (p : KnownPiece) (g : KnownBy p classes pool text (piece + n)) where
           pub showing-rest : p ≡ Nowhere → (v : Wrote) (d₁ : List ℕ) → WroteBy v d m (between text (piece + n) (length text)) d₁ →
               WroteBy v out₀ at (allShown classes pool text) d₁
@@ -131,6 +145,7 @@ pub ruleset showing = (
   behind-fits,
   behind-inside,
   showing-less,
+  showing-all,
   showing-rest,
   showing-more,
   needs,

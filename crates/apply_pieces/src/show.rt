@@ -64,6 +64,9 @@ pub fn put_shown(
             return Wrote::NoRoom;
         };
         from = piece + raw_length(classes, pool, known);
+        if text.len() <= from {
+            return Wrote::Done(after);
+        }
         match first_known(index, classes, pool, text, from) {
             KnownPiece::Nowhere => {
                 return put_text(out, after, &text[from..]);

@@ -3,6 +3,7 @@ pub mod Cases
 pub mod Table
 pub mod Fill
 pub mod PutLaws
+pub mod Fours
 pub mod Parts
 pub mod Joins
 pub mod Stretch

@@ -1,7 +1,7 @@
 -- Strings, char by char: the rest decides, after the bytes that were passed. Assumes nothing.
 use mathlib.Core.Path.{_≡_, refl, sym, _∙_, ap}
 use mathlib.Core.Bool.{Bool, true, false}
-use mathlib.Core.List.{List, [], _++_}
+use mathlib.Core.List.{List, [], _∷_, _++_}
 use Prim.Native.Nat.{ℕ, suc, _+_, _-_, _≤_, _<_}
 use native.Mathlib.Omega.{arith}
 use lib.Dec.{eqb, leb}
@@ -21,7 +21,7 @@ use Rattle.json_string.specs.declared.string.Piece.{Piece}
 use Rattle.json_string.specs.declared.string.Piece.the-variants.{Byte, Code, Closes, Wrong}
 use Rattle.json_string.specs.inner.Means.{Reached}
 use Rattle.json_string.specs.inner.Pieces.{Stood, Coded, Closed, PieceMeans, isPlain}
-use Rattle.json_string.proofs.PieceLaws.{piece-plain}
+use Rattle.json_string.proofs.PieceLaws.{piece-end, piece-plain}
 
 -- the answer is a code point
 pub coded-told : {s : List ℕ} {at : ℕ} {t : Piece} {p : Reader.Piece} {c n : ℕ} → t ≡ Code c n → PieceMeans s at t p → Coded s at n c p
@@ -107,9 +107,15 @@ plain-facts b = go (eqb b 0x22) (eqb b 0x5C) refl refl
     go false true f g e = absurd (let z : _≡_ {A = ℕ} 0 1 = cc in omega arith)
     go false false f g e = (eqb-false b 0x22 f, eqb-false b 0x5C g, leb-true 0x20 b e)
 
+pub plain-stood : (s : List ℕ) (at : ℕ) → at < length s → {b : Bool} → b ≡ isPlain (getD s at 0) → b ≡ true → ((i : ℕ) → Fits w8 (getD s i 0)) →
+    Stood s at (at + 1) (getD s at 0 ∷ []) (pieceOf (drop at s))
+plain-stood s at h g e w = let f = plain-facts (getD s at 0) (sym g ∙ e) in piece-plain s at h (f .0) (f .1) w (f .2)
+
+pub ruleset plain-pieces = (piece-end, plain-stood, needs)
+
 module _ {s : List ℕ} {start at : ℕ} (k : Stringing s start at) (h : at < length s) {b : Bool} (g : b ≡ isPlain (getD s at 0)) (e : b ≡ true) where
   pub plain-on : ((i : ℕ) → Fits w8 (getD s i 0)) → Stringing s start (at + 1)
-  plain-on w = let f = plain-facts (getD s at 0) (sym g ∙ e) in stood-on k (piece-plain s at h (f .0) (f .1) w (f .2))
+  plain-on w = stood-on k (plain-stood s at h g e w)
 
   pub plain-falls : length s - (at + 1) < length s - at
   plain-falls = omega arith

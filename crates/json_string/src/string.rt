@@ -179,7 +179,7 @@ fn escape_at(s: &[u8], base: usize) -> Piece
 }
 
 // What stands at a place inside a string.
-pub fn piece_at(s: &[u8], at: usize) -> Piece
+fn every_piece_at(s: &[u8], at: usize) -> Piece
     ensures { λ r. ⌜ PieceMeans (now (s .entry)) at r (pieceOf (drop at (now (s .entry)))) ⌝ }
 {
     if s.len() <= at {
@@ -211,6 +211,20 @@ fn is_plain(octet: u8) -> bool
     0x20 <= octet
 }
 
+// The same. Most chars are plain: no more is asked of them, and the compiler puts that test where this is called.
+pub fn piece_at(s: &[u8], at: usize) -> Piece
+    ensures { λ r. ⌜ PieceMeans (now (s .entry)) at r (pieceOf (drop at (now (s .entry)))) ⌝ }
+{
+    if s.len() <= at {
+        return Piece::Wrong;
+    }
+    let b = s[at];
+    if is_plain(b) {
+        return Piece::Byte(b, at + 1);
+    }
+    every_piece_at(s, at)
+}
+
 // The place after a string whose first char stands at `start`.
 pub fn string_end(s: &[u8], start: usize) -> After
     ensures { λ r. ⌜ Means (now (s .entry)) r (charsFrom 0 (drop start (now (s .entry)))) ⌝ }
@@ -222,7 +236,7 @@ pub fn string_end(s: &[u8], start: usize) -> After
             at += 1;
             continue;
         }
-        match piece_at(s, at) {
+        match every_piece_at(s, at) {
             Piece::Byte(_, next) => {
                 at = next;
             }

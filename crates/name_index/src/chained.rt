@@ -128,6 +128,9 @@ pub fn chained_row(
         let k = key (textIn p (c .raw)) (now (name .entry)) (now (descriptor .entry)) in
         ⌜ r ≡ rowAsked asked (readBack (now (classes .entry)) p) k (now (members .entry)) p ⌝ }
 {
+    // made anew of their numbers: slices that were just made are waited for where they are handed on whole
+    let named = &name[..];
+    let typed = &descriptor[..];
     let owner = raw_of(classes, pool, class);
     let display = display_of(classes, pool, class);
     let first = first_sought(asked);
@@ -138,8 +141,8 @@ pub fn chained_row(
         pool,
         display,
         owner,
-        name,
-        descriptor,
+        named,
+        typed,
         first,
     ) else {
         // of a method, any other that matches
@@ -151,8 +154,8 @@ pub fn chained_row(
                 pool,
                 display,
                 owner,
-                name,
-                descriptor,
+                named,
+                typed,
                 Sought::Method,
             );
         }

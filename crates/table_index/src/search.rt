@@ -194,11 +194,13 @@ pub fn last_raw(index: &[u16], classes: &[ClassRow], pool: &[u8], raw: &[u8]) ->
     requires { ⌜ IndexBy Raw (now classes) (now pool) (now index) ⌝ }
     ensures { λ r. ⌜ r ≡ lastRaw (now (classes .entry)) (now (pool .entry)) (now (raw .entry)) ⌝ }
 {
+    // made anew of its two numbers: a slice that was just made is waited for where it is handed on whole
+    let key = &raw[..];
     if index.len() != INDEX {
-        return last_with_raw(classes, pool, raw);
+        return last_with_raw(classes, pool, key);
     }
     let form = NameForm::Whole;
-    let mark = mark_whole(raw);
+    let mark = mark_whole(key);
     let first = wide_number(index[MARKS_AT + mark]);
     if first == 0 {
         return Found::Unknown;
@@ -206,5 +208,5 @@ pub fn last_raw(index: &[u16], classes: &[ClassRow], pool: &[u8], raw: &[u8]) ->
     let shelf = shelf_at(index, first - 1);
     let start = shelf.start;
     let end = shelf.end;
-    last_between(index, Side::Raw, classes, pool, start, end, raw, form)
+    last_between(index, Side::Raw, classes, pool, start, end, key, form)
 }

@@ -2,3 +2,4 @@
 pub mod Writes
 pub mod Naming
 pub mod Copying
+pub mod Eights

@@ -53,6 +53,12 @@ module _ (d : List ℕ) (at : ℕ) (text : List ℕ) where
     pub text-starts : Pasting d at text d 0
     text-starts = paste-starts d at text
 
+    pub text-room : at + length text ≤ length d
+    text-room = omega arith
+
+    pub text-whole : {after : List ℕ} → after ≡ put d at text → Written (at + length text) d at text after
+    text-whole e = record { past = refl; room = omega arith; is = e }
+
     module _ {room : List ℕ} {k : ℕ} (w : Pasting d at text room k) where
       pub text-done : length text ≤ k → Written (at + k) d at text room
       text-done = paste-done d at text (omega arith) w
@@ -71,7 +77,7 @@ pub byte-more : (d : List ℕ) (at : ℕ) (b : List ℕ) → at ≤ length d →
     Pasting d at b (set room (at + k) x) (k + 1)
 byte-more d at b i h {room} {k} w l e = rw e (text-more d at b i h w l)
 
-pub ruleset texts = (no-room-at, text-no-room, text-starts, text-done, text-inside, text-more, text-fits, needs)
+pub ruleset texts = (no-room-at, text-no-room, text-room, text-whole, text-starts, text-done, text-inside, text-more, text-fits, needs)
 
 -- One byte so many times.
 module _ (d : List ℕ) (at byte count : ℕ) where

@@ -37,6 +37,12 @@ raw-length-requires c κs = search showing
 add-from : tie.Need-add-from Inv-loop μ-loop
 add-from c = search showing
 
+same-length-2 : tie.Need-same-length-2 Inv-loop μ-loop
+same-length-2 c = search showing
+
+returns-2 : tie.Need-returns-2 Inv-loop μ-loop
+returns-2 c = search showing
+
 first-known-requires : tie.Need-first-known-requires Inv-loop μ-loop
 first-known-requires c κs = search showing
 
@@ -55,11 +61,11 @@ part-put-text-end c = search showing
 put-text-requires : tie.Need-put-text-requires Inv-loop μ-loop
 put-text-requires c κs = search showing
 
-same-length-2 : tie.Need-same-length-2 Inv-loop μ-loop
-same-length-2 c = search showing
+same-length-3 : tie.Need-same-length-3 Inv-loop μ-loop
+same-length-3 c = search showing
 
-returns-2 : tie.Need-returns-2 Inv-loop μ-loop
-returns-2 c = search showing
+returns-3 : tie.Need-returns-3 Inv-loop μ-loop
+returns-3 c = search showing
 
 enum-known-start : tie.Need-enum-known-start Inv-loop μ-loop
 enum-known-start c = search showing
@@ -84,14 +90,16 @@ put-shown-spec =
     returns
     raw-length-requires
     add-from
+    same-length-2
+    returns-2
     first-known-requires
     enum-told-2
     sub-put-text
     part-put-text-start
     part-put-text-end
     put-text-requires
-    same-length-2
-    returns-2
+    same-length-3
+    returns-3
     enum-known-start
     loop-less
     loop-again)

@@ -1,34 +1,28 @@
--- `json_string::string::piece_at` meets its contract, by the laws of PieceLaws.
-use Rattle.json_string.proofs.PieceLaws.{pieces-here}
+-- `json_string::string::piece_at` meets its contract, by the laws of Strings.
+use Rattle.json_string.proofs.Strings.{plain-pieces}
 use Rattle.json_string.proofs.string.piece_at.Statement.{statement}
 use Rattle.json_string.proofs.string.piece_at.Tie as tie
 
 returns : tie.Need-returns
-returns c = search pieces-here
+returns c = search plain-pieces
 
 shared-slice-read-b : tie.Need-shared-slice-read-b
-shared-slice-read-b c = search pieces-here
+shared-slice-read-b c = search plain-pieces
 
-add-t8 : tie.Need-add-t8
-add-t8 c = search pieces-here
-
-returns-2 : tie.Need-returns-2
-returns-2 c = search pieces-here
-
-escape-at-requires : tie.Need-escape-at-requires
-escape-at-requires c κs = search pieces-here
-
-returns-3 : tie.Need-returns-3
-returns-3 c = search pieces-here
+is-plain-requires : tie.Need-is-plain-requires
+is-plain-requires c κs = search plain-pieces
 
 add-t9 : tie.Need-add-t9
-add-t9 c = search pieces-here
+add-t9 c = search plain-pieces
 
-returns-4 : tie.Need-returns-4
-returns-4 c = search pieces-here
+returns-2 : tie.Need-returns-2
+returns-2 c = search plain-pieces
 
-returns-5 : tie.Need-returns-5
-returns-5 c = search pieces-here
+every-piece-at-requires : tie.Need-every-piece-at-requires
+every-piece-at-requires c κs = search plain-pieces
+
+returns-3 : tie.Need-returns-3
+returns-3 c = search plain-pieces
 
 pub piece-at-spec : {M : Type 1} → statement M
 piece-at-spec =
@@ -36,10 +30,8 @@ piece-at-spec =
     (tie.spec
     returns
     shared-slice-read-b
-    add-t8
-    returns-2
-    escape-at-requires
-    returns-3
+    is-plain-requires
     add-t9
-    returns-4
-    returns-5)
+    returns-2
+    every-piece-at-requires
+    returns-3)

@@ -29,8 +29,8 @@ loop-less c = search stringing
 loop-again : tie.Need-loop-again Inv-loop μ-loop
 loop-again c = search stringing
 
-piece-at-requires : tie.Need-piece-at-requires Inv-loop μ-loop
-piece-at-requires c κs = search stringing
+every-piece-at-requires : tie.Need-every-piece-at-requires Inv-loop μ-loop
+every-piece-at-requires c κs = search stringing
 
 enum-known-next : tie.Need-enum-known-next Inv-loop μ-loop
 enum-known-next c = search stringing
@@ -77,7 +77,7 @@ string-end-spec =
     add-at
     loop-less
     loop-again
-    piece-at-requires
+    every-piece-at-requires
     enum-known-next
     loop-less-2
     loop-again-2

@@ -1,4 +1,4 @@
--- `table_pool::write::put_text` meets its contract, by the laws of Writes and an invariant that says: the rest decides as the whole does.
+-- `table_pool::write::put_text` meets its contract, by the laws of Writes and an invariant that says what is done and what is left.
 use Rattle.table_pool.proofs.Writes.{texts, Pasting}
 use Prim.Native.Nat.{_-_}
 use lib.ListN.{length}
@@ -19,6 +19,18 @@ sub-if2 c = search texts
 
 returns-2 : tie.Need-returns-2 Inv-loop μ-loop
 returns-2 c = search texts
+
+put-eights-requires : tie.Need-put-eights-requires Inv-loop μ-loop
+put-eights-requires c κs = search texts
+
+add-t13 : tie.Need-add-t13 Inv-loop μ-loop
+add-t13 c = search texts
+
+same-length : tie.Need-same-length Inv-loop μ-loop
+same-length c = search texts
+
+returns-3 : tie.Need-returns-3 Inv-loop μ-loop
+returns-3 c = search texts
 
 loop-holds : tie.Need-loop-holds Inv-loop μ-loop
 loop-holds c = search texts
@@ -41,14 +53,14 @@ loop-less c = search texts
 loop-again : tie.Need-loop-again Inv-loop μ-loop
 loop-again c = search texts
 
-add-t5 : tie.Need-add-t5 Inv-loop μ-loop
-add-t5 c = search texts
+add-t8 : tie.Need-add-t8 Inv-loop μ-loop
+add-t8 c = search texts
 
-same-length : tie.Need-same-length Inv-loop μ-loop
-same-length c = search texts
+same-length-2 : tie.Need-same-length-2 Inv-loop μ-loop
+same-length-2 c = search texts
 
-returns-3 : tie.Need-returns-3 Inv-loop μ-loop
-returns-3 c = search texts
+returns-4 : tie.Need-returns-4 Inv-loop μ-loop
+returns-4 c = search texts
 
 pub put-text-spec : {M : Type 1} → statement M
 put-text-spec =
@@ -59,6 +71,10 @@ put-text-spec =
     returns
     sub-if2
     returns-2
+    put-eights-requires
+    add-t13
+    same-length
+    returns-3
     loop-holds
     shared-slice-read-pool
     add-pool
@@ -66,6 +82,6 @@ put-text-spec =
     add-k
     loop-less
     loop-again
-    add-t5
-    same-length
-    returns-3)
+    add-t8
+    same-length-2
+    returns-4)
