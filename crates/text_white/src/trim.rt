@@ -155,8 +155,6 @@ pub fn trim_end(s: &[u8]) -> usize
 pub fn trim_both(s: &[u8]) -> Span
     ensures { λ r. ⌜ r ≡ trimBoth (now (s .entry)) ⌝ }
 {
-    // made anew of its two numbers: a slice that was just made is waited for where it is handed on whole
-    let text = &s[..];
     // most texts have nothing to trim, and two bytes tell
     let length = s.len();
     if 0 < length {
@@ -169,7 +167,8 @@ pub fn trim_both(s: &[u8]) -> Span
             }
         }
     }
-    trim_ends(text)
+    // made anew of its two numbers: a slice that was just made is waited for where it is handed on whole
+    trim_ends(&s[..])
 }
 
 fn trim_ends(s: &[u8]) -> Span
