@@ -4,3 +4,4 @@ pub mod Fated
 pub mod Faults
 pub mod Stepping
 pub mod Scanning
+pub mod Turning

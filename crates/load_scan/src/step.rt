@@ -8,7 +8,10 @@ use load_rule::Fate;
 use text_places::NextLine;
 use text_places::next_line;
 ghost use mathlib.Core.Path.{_≡_};
-ghost use Rattle.load_scan.specs.inner.Steps.{isEntered, StepBy};
+ghost use Prim.Native.Nat.{_≤_};
+ghost use lib.ListN.{length};
+ghost use Rattle.ground.specs.Put.{between};
+ghost use Rattle.load_scan.specs.inner.Steps.{isEntered, stepOf, StepBy};
 
 // Where a line stands and where the next one starts; what it is; what becomes of it; whether the current class has a last member after
 // it. Steps are copied once a line: the small fields stand last, so that the large one is copied word by word.
@@ -47,13 +50,18 @@ fn is_entered(kind: Line) -> bool
     }
 }
 
-// The line at the place `at`, where `classes` is how many class lines stand before it.
-pub fn next_step(text: &[u8], at: usize, classes: u32, member: bool) -> Step
-    ensures { λ r. ⌜ StepBy r (now (text .entry)) at classes member ⌝ }
+// The line from `start` to `end`; the next one starts at `next`. `classes` is how many class lines stand before it.
+pub fn step_of(
+    text: &[u8],
+    start: usize,
+    end: usize,
+    next: usize,
+    classes: u32,
+    member: bool,
+) -> Step
+    requires { ⌜ (start ≤ «end») × («end» ≤ length (now text)) ⌝ }
+    ensures { λ r. ⌜ r ≡ stepOf (between (now (text .entry)) start «end») start «end» next classes member ⌝ }
 {
-    let NextLine::Line { start, end, next } = next_line(text, at) else {
-        return Step::End;
-    };
     let line = &text[start..end];
     let kind = read_line(line);
     let number = fault(classes, kind);
@@ -72,4 +80,14 @@ pub fn next_step(text: &[u8], at: usize, classes: u32, member: bool) -> Step
         fate,
         has_member: member_after(member, kind),
     })
+}
+
+// The line at the place `at`, where `classes` is how many class lines stand before it.
+pub fn next_step(text: &[u8], at: usize, classes: u32, member: bool) -> Step
+    ensures { λ r. ⌜ StepBy r (now (text .entry)) at classes member ⌝ }
+{
+    let NextLine::Line { start, end, next } = next_line(text, at) else {
+        return Step::End;
+    };
+    step_of(text, start, end, next, classes, member)
 }

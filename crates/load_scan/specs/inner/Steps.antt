@@ -3,7 +3,9 @@ use mathlib.Core.Path.{_≡_}
 use mathlib.Core.Bool.{Bool, true, false}
 use mathlib.Core.List.{List, []}
 use Prim.Native.Nat.{ℕ, _+_}
+use lib.Dec.{eqb}
 use lib.ListN.{drop}
+use Rattle.ground.specs.Choice.{pick}
 use Rattle.ground.specs.Put.{between}
 use Rattle.text_places.specs.Lines.{lines, Taken}
 use Rattle.line.specs.declared.line.Line.{Line}
@@ -62,3 +64,15 @@ StepBy steps.End s at classes member = lines (drop at s) ≡ []
 StepBy (steps.Faulty number) s at classes member = StepFault s at classes member number
 StepBy (steps.Passed next fate) s at classes member = StepPassed s at classes member next fate
 StepBy (steps.Line x) s at classes member = StepLine s at classes member x
+
+-- a line with the bytes `l` that stands from `a` to `e`, where the next one starts at `n`
+abbrev pub lineStep : List ℕ → ℕ → ℕ → ℕ → Bool → LineStep
+lineStep l a e n member =
+    record { start = a; «end» = e; next = n; kind = lineOf l; fate = fateOf member l (lineOf l); «has_member» = memberAfter member (lineOf l) }
+
+-- its step, after `classes` class lines
+abbrev pub stepOf : List ℕ → ℕ → ℕ → ℕ → ℕ → Bool → Step
+stepOf l a e n classes member =
+    let number = faultOf classes (lineOf l) in
+    let passed = steps.Passed n (fateOf member l (lineOf l)) in
+    pick (eqb number 0) (pick (isEntered (lineOf l)) (steps.Line (lineStep l a e n member)) passed) (steps.Faulty number)

@@ -1,69 +1,27 @@
 -- `load_scan::step::next_step` meets its contract, by the laws of Stepping.
-use Rattle.load_scan.proofs.Stepping.{stepping}
+use Rattle.load_scan.proofs.Stepping.{next-stepping}
 use Rattle.load_scan.proofs.step.next_step.Statement.{statement}
 use Rattle.load_scan.proofs.step.next_step.Tie as tie
 
 next-line-requires : tie.Need-next-line-requires
-next-line-requires c κs = search stepping
+next-line-requires c κs = search next-stepping
 
 enum-known-start : tie.Need-enum-known-start
-enum-known-start c = search stepping
+enum-known-start c = search next-stepping
 
 enum-told : tie.Need-enum-told
-enum-told c = search stepping
+enum-told c = search next-stepping
 
 returns : tie.Need-returns
-returns c = search stepping
+returns c = search next-stepping
 
-sub-line : tie.Need-sub-line
-sub-line c = search stepping
-
-part-line-start : tie.Need-part-line-start
-part-line-start c = search stepping
-
-part-line-end : tie.Need-part-line-end
-part-line-end c = search stepping
-
-read-line-requires : tie.Need-read-line-requires
-read-line-requires c κs = search stepping
-
-fault-requires : tie.Need-fault-requires
-fault-requires c κs = search stepping
+step-of-requires : tie.Need-step-of-requires
+step-of-requires c κs = search next-stepping
 
 returns-2 : tie.Need-returns-2
-returns-2 c = search stepping
-
-fate-of-requires : tie.Need-fate-of-requires
-fate-of-requires c κs = search stepping
-
-is-entered-requires : tie.Need-is-entered-requires
-is-entered-requires c κs = search stepping
-
-returns-3 : tie.Need-returns-3
-returns-3 c = search stepping
-
-member-after-requires : tie.Need-member-after-requires
-member-after-requires c κs = search stepping
-
-returns-4 : tie.Need-returns-4
-returns-4 c = search stepping
+returns-2 c = search next-stepping
 
 pub next-step-spec : {M : Type 1} → statement M
 next-step-spec =
     tie.close
-    (tie.spec
-    next-line-requires
-    enum-known-start
-    enum-told
-    returns
-    sub-line
-    part-line-start
-    part-line-end
-    read-line-requires
-    fault-requires
-    returns-2
-    fate-of-requires
-    is-entered-requires
-    returns-3
-    member-after-requires
-    returns-4)
+    (tie.spec next-line-requires enum-known-start enum-told returns step-of-requires returns-2)

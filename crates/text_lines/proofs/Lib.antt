@@ -1,0 +1,2 @@
+-- What other crates' walks need.
+pub mod walks

@@ -1,0 +1,1 @@
+-- No rule stands here: what is said of a reader is the rule of lines.
