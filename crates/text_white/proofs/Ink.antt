@@ -2,7 +2,7 @@
 use mathlib.Core.Path.{_≡_, refl, sym, _∙_}
 use mathlib.Core.Bool.{Bool, true, false}
 use mathlib.Core.List.{List}
-use Prim.Native.Nat.{ℕ, _≤_, _<_}
+use Prim.Native.Nat.{ℕ, _+_, _≤_, _<_}
 use native.Mathlib.Omega.{arith}
 use lib.ListN.{length, getD, drop}
 use borrow.Author.Needs.{needs}
@@ -13,7 +13,7 @@ use Rattle.text_utf8.specs.Utf8.{sequenceOf, pieces}
 use Rattle.text_utf8.proofs.Sequences.{sequence-ascii, sequence-end}
 use Rattle.text_white.specs.White.{whiteRanges, inRanges, isWhite}
 use Rattle.text_white.specs.Trim.{runOf, startsWhite}
-use Rattle.text_white.proofs.TrimLaws.{Running, run-stops, running, white-here, first-white, last-white}
+use Rattle.text_white.proofs.TrimLaws.{Running, run-stops, run-more, white-here, first-white, last-white}
 
 abbrev pub ink : ℕ → Bool
 ink b = within 0x21 0x7F b
@@ -47,6 +47,10 @@ ink-dark x i =
       within-low 0x3000 0x3000 x (omega arith),
     )
 
+pub space-white : (x : ℕ) → x ≡ 0x20 → isWhite x ≡ true
+unfolding isWhite inRanges whiteRanges
+space-white x e = rw e refl
+
 module _ (s : List ℕ) (at : ℕ) where
   pub white-past : length s ≤ at → false ≡ startsWhite (drop at s)
   white-past h = rw (← sequence-end s at h)
@@ -64,9 +68,14 @@ module _ (s : List ℕ) (at : ℕ) where
     pub run-ink : {r : Bool} → Running isWhite s at → r ≡ ink (getD s at 0) → r ≡ true → at ≡ runOf isWhite (pieces s)
     run-ink k i t = let y = sym i ∙ t in run-stops k (sym (ink-reads y)) refl (ink-dark (getD s at 0) y)
 
-pub ruleset white-or-ink = (white-past, white-ink, white-here)
+    -- a space alone tells that it is white
+    pub space-reads : getD s at 0 ≡ 0x20 → Good (getD s at 0) 1 ≡ sequenceOf (drop at s)
+    space-reads e = sequence-ascii s at h (omega arith)
 
-pub ruleset running-to-ink = (run-ink, running)
+    pub run-space : Running isWhite s at → getD s at 0 ≡ 0x20 → Running isWhite s (at + 1)
+    run-space k e = run-more k (space-reads e) refl (space-white (getD s at 0) e)
+
+pub ruleset white-or-ink = (white-past, white-ink, white-here)
 
 pub ruleset first-past-ink = (ink-passed, first-white)
 

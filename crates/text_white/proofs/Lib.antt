@@ -3,4 +3,5 @@ pub mod Ranges
 pub mod TrimLaws
 mod Ink
 pub mod Sync
+pub mod Starting
 pub mod Cuts

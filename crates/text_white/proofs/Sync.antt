@@ -19,7 +19,7 @@ use Rattle.text_places.specs.declared.spans.Span.{Span}
 use Rattle.text_white.specs.White.{isWhite}
 use Rattle.text_white.specs.Trim.{allWhite, trimStart, trimEnd, trimBoth}
 use Rattle.text_white.specs.inner.Before.{whiteLength, Before}
-use Rattle.text_white.proofs.Ink.{ink, ink-reads, ink-dark, run-ink}
+use Rattle.text_white.proofs.Ink.{ink, ink-reads, ink-dark, run-ink, space-white, space-reads}
 use Rattle.text_white.proofs.TrimLaws.{run-starts}
 use Rattle.text_utf8.proofs.Leads.{lead-low-none}
 use Rattle.text_utf8.proofs.Sequences.{good-fits, end-empty, tails-fit, first-good, second-good, went-on}
@@ -169,7 +169,7 @@ least (x ∷ s) (suc e) h w n = go (allWhite (pieces (x ∷ s))) refl (least s e
     go false q p = ap suc p
 
 -- A white space character with a length is one that was read.
-white-length-reads : (l : List ℕ) (r : ℕ) → whiteLength l ≡ r → 0 < r → (d : ℕ) × (sequenceOf l ≡ Good d r) × (isWhite d ≡ true)
+pub white-length-reads : (l : List ℕ) (r : ℕ) → whiteLength l ≡ r → 0 < r → (d : ℕ) × (sequenceOf l ≡ Good d r) × (isWhite d ≡ true)
 white-length-reads l r w h = go (sequenceOf l) refl
   where
     by : (d m : ℕ) (b : Bool) → isWhite d ≡ b → pick b m 0 ≡ r → sequenceOf l ≡ Good d m → (d : ℕ) × (sequenceOf l ≡ Good d r) × (isWhite d ≡ true)
@@ -275,10 +275,21 @@ module _ {s : List ℕ} {«end» : ℕ} (k : Ending s «end») where
 pub ending-ink : {s : List ℕ} {«end» : ℕ} {r : Bool} → Ending s «end» → 0 < «end» → r ≡ ink (getD s («end» - 1) 0) → r ≡ true → «end» ≡ trimEnd s
 ending-ink {s = s} {«end» = e} k h i t = ending-stops k (ink-before s e (k .inside) h (sym i ∙ t)) refl
 
+pub ending-space : {s : List ℕ} {«end» : ℕ} → Ending s «end» → 0 < «end» → getD s («end» - 1) 0 ≡ 0x20 → Ending s («end» - 1)
+unfolding allWhite
+ending-space {s = s} {«end» = e} k h f =
+    let back : e - 1 + 1 ≡ e = omega arith in
+    record {
+      inside = omega (arith, k .inside);
+      white =
+          rw (pieces-good (drop (e - 1) s) (sym (space-reads s (e - 1) (omega (arith, k .inside)) f)), space-white (getD s (e - 1) 0) f, drop-drop 1 (e - 1) s, back)
+          (k .white);
+    }
+
 pub ending-last : {s : List ℕ} {«end» : ℕ} → Ending s «end» → 0 < «end» → «end» - 1 < length s
 ending-last k h = omega (arith, k .inside)
 
-pub ruleset ending = (ending-ink, ending-last, ending-starts, ending-empty, ending-stops, ending-more, ending-falls, ending-room, needs)
+pub ruleset ending = (ending-ink, ending-space, ending-last, ending-starts, ending-empty, ending-stops, ending-more, ending-falls, ending-room, needs)
 
 -- A text that starts and ends with ink is trimmed already.
 pub inked-ends : (s : List ℕ) → 0 < length s → {a b : Bool} → a ≡ ink (getD s 0 0) → a ≡ true → b ≡ ink (getD s (length s - 1) 0) → b ≡ true →

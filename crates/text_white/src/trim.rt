@@ -56,21 +56,15 @@ pub fn trim_start(s: &[u8]) -> usize
         if is_ink(s[at]) {
             return at;
         }
-        match sequence_at(s, at) {
-            Sequence::End => {
-                return at;
-            }
-            Sequence::Good { code, length } => {
-                if is_white(code) {
-                    at += length;
-                    continue;
-                }
-                return at;
-            }
-            Sequence::Bad { length: _ } => {
-                return at;
-            }
+        if s[at] == b' ' {
+            at += 1;
+            continue;
         }
+        let length = white_length(s, at);
+        if length == 0 {
+            return at;
+        }
+        at += length;
     }
     at
 }
@@ -139,8 +133,13 @@ pub fn trim_end(s: &[u8]) -> usize
 {
     let mut end = s.len();
     while 0 < end {
-        if is_ink(s[end - 1]) {
+        let last = end - 1;
+        if is_ink(s[last]) {
             return end;
+        }
+        if s[last] == b' ' {
+            end = last;
+            continue;
         }
         let length = white_before(s, end);
         if length == 0 {
