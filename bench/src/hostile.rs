@@ -25,16 +25,15 @@ impl Hostile {
     }
 
     /// As many parts as go into the length.
-    pub fn text(&self, length: usize) -> Vec<u8> {
+    pub fn text(&self, length: usize) -> String {
         let room = length.saturating_sub(self.before.len() + self.after.len());
         let parts = self.part.repeat(room / self.part.len());
-        [&self.before[..], &parts, &self.after]
-            .concat()
-            .into_bytes()
+        [&self.before[..], &parts, &self.after].concat()
     }
 }
 
-const KIBIBYTES: [usize; 5] = [64, 128, 256, 512, 1024];
+/// The usual lengths.
+pub const KIBIBYTES: [usize; 5] = [64, 128, 256, 512, 1024];
 
 pub fn print_head(head: &str, said: &str) {
     print_head_of(head, said, &KIBIBYTES);
@@ -56,7 +55,7 @@ pub fn print_row<A: Display, W: FnMut() -> A>(
     runs: u64,
     work: impl FnMut(Vec<u8>) -> W,
 ) {
-    let text = |length| hostile.text(length);
+    let text = |length| hostile.text(length).into_bytes();
     print_row_of(&hostile.name, &KIBIBYTES, runs, text, work);
 }
 
@@ -94,12 +93,12 @@ mod tests {
     #[test]
     fn a_text_is_filled_up_to_its_length() {
         let hostile = Hostile::new("a", "{", "ab", "}");
-        assert_eq!(hostile.text(7), b"{abab}");
-        assert_eq!(hostile.text(8), b"{ababab}");
+        assert_eq!(hostile.text(7), "{abab}");
+        assert_eq!(hostile.text(8), "{ababab}");
     }
 
     #[test]
     fn a_short_text_has_no_part() {
-        assert_eq!(Hostile::new("a", "{", "ab", "}").text(1), b"{}");
+        assert_eq!(Hostile::new("a", "{", "ab", "}").text(1), "{}");
     }
 }

@@ -1,191 +1,143 @@
-//! Loading: a real mapping file and synthetic ones, beside the original's `Mapping::parse`; and texts made to be slow.
+//! Loading: a real mapping file, synthetic ones and such as are made to be slow, beside the original's `Mapping::parse`; and how
+//! the time grows with the length of those made to be slow.
 
-use crate::hostile::{self, Hostile};
-use crate::race::{self, Race, Unequal};
-use crate::shared_marks;
-use clumarief_compare::comment_parts::residual_comment;
-use clumarief_compare::plain::{self, Lent};
-use clumarief_compare::proved::{self, Rooms};
+use crate::buffers::{self, Buffers};
+use crate::hostile::{self, KIBIBYTES};
+use crate::load_table::{LoadTable, Row};
+use crate::load_texts;
+use crate::race::Unequal;
+use clumarief_compare::plain::{self, LIMITS};
 use clumarief_compare::random::Random;
 use clumarief_compare::synthetic::{self, Form};
 use clumarief_compare::timing;
 use std::fs;
 use std::path::Path;
 
-/// Rows and bytes that are lent to one load after the other.
-struct Buffers {
-    classes: Vec<[u32; 4]>,
-    members: Vec<[u32; 15]>,
-    pool: Vec<u8>,
-}
-
-impl Buffers {
-    /// What is needed, rounded up a little.
-    fn of(needed: Lent) -> Self {
-        Buffers {
-            classes: vec![[0; 4]; needed.classes.next_multiple_of(64)],
-            members: vec![[0; 15]; needed.members.next_multiple_of(256)],
-            pool: vec![0; needed.pool.next_multiple_of(4_096)],
-        }
-    }
-
-    /// The number that the load answers.
-    fn load(&mut self, text: &[u8]) -> u32 {
-        let rooms = Rooms {
-            classes: &mut self.classes,
-            members: &mut self.members,
-            pool: &mut self.pool,
-        };
-        proved::load(text, true, rooms)[0]
-    }
-}
-
-fn race(text: &str, name: &'static str, runs: u64) -> Result<(), Unequal> {
-    let needed = match plain::read(text.as_bytes(), true) {
-        Ok(mapping) => mapping.needed(),
-        Err(refused) => {
-            println!("{name:<14}left out: it is refused, {refused:?}");
-            return Ok(());
-        }
-    };
-    println!(
-        "{name:<14}{} bytes, {} classes, {} members, {} pool bytes",
-        text.len(),
-        needed.classes,
-        needed.members,
-        needed.pool
-    );
-    let mut buffers = Buffers::of(needed);
-    let proved = |text: &str| buffers.load(text.as_bytes());
-    let race = Race { text, name, runs };
-    if !timing::AT_HAND {
-        race.run_alone("load", proved);
-        return Ok(());
-    }
-    let original = |text: &str| timing::parse(text.as_bytes());
-    race.run_same("load", proved, original, |number, mapping| {
-        *number == 0 && mapping.is_some()
-    })
-}
-
-fn real(path: Option<&Path>, runs: u64) -> Result<(), Unequal> {
-    let Some(path) = path else {
-        println!("real file     left out: none is named, see run --real");
-        return Ok(());
-    };
-    match fs::read_to_string(path) {
-        Ok(text) => race(&text, "real file", runs),
-        Err(error) => {
-            println!("real file     left out: {error}");
-            Ok(())
-        }
-    }
-}
-
 const MEGABYTE: usize = 1_000_000;
-
-/// The same texts for the same seed.
-fn synthetic(seed: u64, runs: u64) -> Result<(), Unequal> {
-    for (form, name) in [(Form::ProGuard, "as ProGuard"), (Form::R8, "as R8")] {
-        let mut random = Random::new(seed, name);
-        race(&synthetic::mapping(&mut random, form, MEGABYTE), name, runs)?;
-    }
-    Ok(())
-}
 
 const SMALL: &str = include_str!("../../examples/small.map");
 
-/// So many names that share one mark of the index.
-fn alike(count: usize) -> Vec<String> {
-    (0..count).map(|at| shared_marks::name(at, 12)).collect()
+/// The text of the real file, or why there is none.
+fn real_text(path: Option<&Path>) -> Result<String, String> {
+    let path = path.ok_or("no real file is named, see run --real")?;
+    fs::read_to_string(path).map_err(|error| error.to_string())
 }
 
-/// So many classes with such names, and methods that name one after the other, up to the length.
-fn alike_mapping(count: usize, length: usize) -> String {
-    let names = alike(count);
-    let line = |(at, name): (usize, &String)| format!("{name} -> c{at}:\n");
-    let mut text: String = names.iter().enumerate().map(line).collect();
-    let mut at = 0;
-    let mut next = || {
-        // steps of a prime number reach every name
-        at = (at + 1_021) % count;
-        &names[at]
-    };
-    while text.len() + 128 < length {
-        text += &format!(" {} f({},{}) -> d\n", next(), next(), next());
-    }
-    text
+const fn row(name: &'static str, to_reach: &'static str) -> Row {
+    Row { name, to_reach }
 }
 
-/// Names that share one mark: no faster than others, and no slower than the original's hash maps.
-fn colliding(runs: u64) -> Result<(), Unequal> {
-    for (name, count) in [("512 alike", 512), ("4,096 alike", 4_096)] {
-        race(&alike_mapping(count, MEGABYTE), name, runs)?;
+type Maker = fn(&str) -> String;
+
+/// What is made of the real file.
+const REAL: [(Row, Maker); 4] = [
+    (row("real file", "5"), str::to_owned),
+    (row("real file as R8", "3"), load_texts::as_r8),
+    (row("real file, 16 KB comments", "1"), |text| {
+        load_texts::long_comments(text, MEGABYTE)
+    }),
+    (row("real file, CRLF", "1"), load_texts::crlf),
+];
+
+fn real(table: &mut LoadTable, path: Option<&Path>) -> Result<(), Unequal> {
+    let text = real_text(path);
+    for (row, made) in REAL {
+        match &text {
+            Ok(text) => table.row(row, &made(text), buffers::rounded)?,
+            Err(why) => table.leave_out(row, why),
+        }
     }
     Ok(())
 }
 
-/// So many class lines, each with a name of its own.
-fn classes(count: usize) -> String {
-    let line = |at: usize| format!("a.b.C{at} -> c{at}:\n");
-    (0..count).map(line).collect()
-}
-
-fn hostile_texts() -> Vec<Hostile> {
-    let residual = residual_comment("(La/b;)V") + "\n";
-    let parts = [
-        ("blank lines", "", "\n", ""),
-        ("comments", "", "# {}\n", ""),
-        ("residual comments", "", &residual, ""),
-        ("one comment", "# {\"id\":\"", "a", "\"}"),
-        ("arguments", " a b(", "a,", ") -> c"),
-        ("fields", "", " java.lang.String name_of_a_field -> c\n", ""),
-        ("methods", "", " 1:9:void run(int,long,a):10:19 -> d\n", ""),
-        ("type of L", " ", "L", " n -> c"),
-        ("type of pieces", " ", "La;", " n -> c"),
-        ("type of semicolons", " ", ";", " n -> c"),
-        ("type of brackets", " ", "[]", " n -> c"),
-    ];
-    let after_member = |(name, before, part, after): (&str, &str, &str, &str)| {
-        let before = format!("a -> b:\n int n -> c\n{before}");
-        Hostile::new(name, &before, part, after)
-    };
-    let mut texts: Vec<Hostile> = parts.map(after_member).into();
-    // as many as a text of 64 KiB can begin with, and as many as there may be
-    for (name, count) in [
-        ("methods, 1,000 classes", 1_000),
-        ("methods, 4,000 classes", 4_000),
+/// The same texts for the same seed.
+fn synthetic(table: &mut LoadTable, seed: u64) -> Result<(), Unequal> {
+    for (form, row) in [
+        (Form::ProGuard, row("as ProGuard", "near 3")),
+        (Form::R8, row("as R8", "-")),
     ] {
-        let method = " a.b.C0 f(a.b.C1,a.b.C999,a.b.D) -> d\n";
-        texts.push(Hostile::new(name, &classes(count), method, ""));
+        let mut random = Random::new(seed, row.name);
+        let text = synthetic::mapping(&mut random, form, MEGABYTE);
+        table.row(row, &text, buffers::rounded)?;
     }
-    texts
+    Ok(())
 }
 
-fn hostile(runs: u64) {
-    hostile::print_head("hostile load", "answer");
-    for row in hostile_texts() {
-        hostile::print_row(&row, runs, |text| {
-            let needed = plain::read(&text, true).map(|mapping| mapping.needed());
-            let mut buffers = Buffers::of(needed.unwrap_or(plain::LIMITS));
-            move || buffers.load(&text)
-        });
+fn idle(table: &mut LoadTable) -> Result<(), Unequal> {
+    for (name, text) in load_texts::idle_lines() {
+        table.row(row(name, "1"), &text.text(MEGABYTE), buffers::rounded)?;
     }
+    Ok(())
 }
 
-pub fn run(seed: u64, runs: u64, path: Option<&Path>) -> Result<(), Unequal> {
-    race::print_head("original");
-    real(path, runs)?;
-    synthetic(seed, runs)?;
-    race(SMALL, "small file", runs)?;
-    colliding(runs)?;
+/// Names that share one mark: no slower than the original's hash maps, however many they are.
+fn colliding(table: &mut LoadTable) -> Result<(), Unequal> {
+    for (name, count) in [
+        ("512 alike", 512),
+        ("1,024 alike", 1_024),
+        ("2,048 alike", 2_048),
+        ("4,096 alike", 4_096),
+    ] {
+        let text = load_texts::alike_mapping(count, MEGABYTE);
+        table.row(row(name, "1"), &text, buffers::rounded)?;
+    }
+    Ok(())
+}
+
+/// What is lent is zeroed where it is not used, so that the time of a small text is that of what is lent.
+fn small(table: &mut LoadTable) -> Result<(), Unequal> {
+    table.row(row("small file", "-"), SMALL, buffers::rounded)?;
+    table.row(row("small file, most lent", "stated"), SMALL, |_| LIMITS)
+}
+
+/// Prints the table; what is given back names the rows that fall short of the ratio to reach.
+pub fn run(seed: u64, runs: u64, path: Option<&Path>) -> Result<Vec<String>, Unequal> {
+    let mut table = LoadTable::new(runs);
+    real(&mut table, path)?;
+    synthetic(&mut table, seed)?;
+    idle(&mut table)?;
+    colliding(&mut table)?;
+    small(&mut table)?;
     if !timing::AT_HAND {
         println!("The original's source is not at hand, see run --source.");
     }
-    Ok(())
+    println!(
+        "Most lent are {} class rows, {} member rows and {} bytes of pool: a load zeroes what it does not use.",
+        LIMITS.classes, LIMITS.members, LIMITS.pool
+    );
+    Ok(table.end())
 }
 
+/// Loads again and again, with a little more lent than is needed.
+fn loads(text: Vec<u8>) -> impl FnMut() -> u32 {
+    let needed = plain::read(&text, true).map(|mapping| mapping.needed());
+    let mut buffers = Buffers::of(buffers::rounded(needed.unwrap_or(LIMITS)));
+    move || buffers.load(&text)
+}
+
+type LongMaker = fn(&str, usize) -> String;
+
 /// Loads of texts made to be slow; a load takes longer than the other works, so there are fewer runs.
-pub fn run_hostile(runs: u64) {
-    hostile(runs.min(20));
+pub fn run_hostile(runs: u64, path: Option<&Path>) {
+    let runs = runs.min(20);
+    hostile::print_head("hostile load", "answer");
+    for (_, text) in load_texts::idle_lines() {
+        hostile::print_row(&text, runs, loads);
+    }
+    let made: [(&str, LongMaker); 2] = [
+        ("real file, 16 KB comments", load_texts::long_comments),
+        ("real file, CRLF", load_texts::crlf_again),
+    ];
+    for (name, made) in made {
+        match real_text(path) {
+            Ok(real) => {
+                let text = |length| made(&real, length).into_bytes();
+                hostile::print_row_of(name, &KIBIBYTES, runs, text, loads);
+            }
+            Err(why) => println!("{name:<26}left out: {why}"),
+        }
+    }
+    for text in load_texts::hostile_lines() {
+        hostile::print_row(&text, runs, loads);
+    }
 }

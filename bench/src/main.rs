@@ -3,8 +3,11 @@
 
 mod apply_trees;
 mod applying;
+mod buffers;
 mod hostile;
 mod hostile_trees;
+mod load_table;
+mod load_texts;
 mod loads;
 mod lookups;
 mod parts;
@@ -17,7 +20,7 @@ use clumarief_compare::arguments::{self, Asked};
 use clumarief_compare::random::Random;
 use clumarief_compare::synthetic::{self, Form};
 use clumarief_compare::trims::judge_trim;
-use clumarief_compare::{proved, texts};
+use clumarief_compare::{proved, texts, timing};
 use race::{Race, Unequal};
 use std::env;
 use std::process::ExitCode;
@@ -97,6 +100,15 @@ fn races(seed: u64, runs: u64) -> Result<(), Unequal> {
     lines.run("lines, 8 places", proved_places, std_places)
 }
 
+/// The loads whose ratio is below the one to reach.
+fn print_short(short: &[String]) {
+    let rows = match short {
+        [] => "none".to_owned(),
+        rows => rows.join("; "),
+    };
+    println!("\nrows that fall short: {rows}");
+}
+
 /// All tables.
 fn bench(asked: &Asked<2>) -> Result<(), String> {
     let [seed, runs] = asked.numbers;
@@ -108,18 +120,22 @@ fn bench(asked: &Asked<2>) -> Result<(), String> {
         "The proved trim gives 8 places in one call: \"trim\" sets it beside `str::trim` alone,\n\
          \"8 places\" beside the methods of `str` for all of them.\n"
     );
-    loads::run(seed, runs, asked.real.as_deref())
-        .map_err(|Unequal(name)| format!("proved and original disagree on {name}"))?;
+    let short = loads::run(seed, runs, asked.real.as_deref()).map_err(|Unequal(name)| {
+        format!("proved, plain program and original disagree on loading: {name}")
+    })?;
     lookups::run(runs, asked.real.as_deref())
         .map_err(|Unequal(name)| format!("proved and original disagree on a {name}"))?;
     applying::run(runs, asked.real.as_deref())
         .map_err(|Unequal(name)| format!("proved and original disagree on applying: {name}"))?;
     shared_marks::run(runs);
     println!("\nnanoseconds a byte: best at lengths in KiB; median and spread at the last");
-    loads::run_hostile(runs);
+    loads::run_hostile(runs, asked.real.as_deref());
     parts::run(runs);
     trees::run(seed, runs);
     hostile_trees::run(runs);
+    if timing::AT_HAND {
+        print_short(&short);
+    }
     Ok(())
 }
 

@@ -29,49 +29,57 @@ pub fn print_head(other: &str) {
     );
 }
 
+/// Above 1 where the proved one is the faster.
+pub fn ratio(proved: &Times, other: &Times) -> f64 {
+    other.best().as_secs_f64() / proved.best().as_secs_f64()
+}
+
 impl Race<'_> {
     /// Prints the speeds of both, which have to answer the same.
     pub fn run(&self, work: &'static str, proved: Work, std: Work) -> Result<(), Unequal> {
-        self.run_same(work, proved, std, |proved, std| proved == std)
-    }
-
-    /// The same for two answers of which `same` says whether they agree. They run by turns, so that a machine that slows
-    /// down is slow for both, and the best of many runs is the one least disturbed.
-    pub fn run_same<P, O>(
-        &self,
-        work: &'static str,
-        mut proved: impl FnMut(&str) -> P,
-        mut other: impl FnMut(&str) -> O,
-        same: impl Fn(&P, &O) -> bool,
-    ) -> Result<(), Unequal> {
-        let (mut proved_times, mut other_times) = (Vec::new(), Vec::new());
-        for _ in 0..self.runs.max(1) {
-            let (proved_answer, proved_time) = time(&mut proved, self.text);
-            let (other_answer, other_time) = time(&mut other, self.text);
-            if !same(&proved_answer, &other_answer) {
-                return Err(Unequal(work));
-            }
-            proved_times.push(proved_time);
-            other_times.push(other_time);
-        }
-        let (proved, other) = (Times::of(proved_times), Times::of(other_times));
-        let ratio = other.best().as_secs_f64() / proved.best().as_secs_f64();
+        let timed = self.timed(proved, std, |proved, std| proved == std);
+        let [proved, other] = timed.ok_or(Unequal(work))?;
+        let ratio = ratio(&proved, &other);
         let (proved, other) = (self.speeds(&proved), self.speeds(&other));
         println!("{:<14}{work:<17}{proved}{other}{ratio:>8.3}", self.name);
         Ok(())
     }
 
-    /// Prints the speeds of one, where the other is not at hand.
-    pub fn run_alone<P>(&self, work: &str, mut proved: impl FnMut(&str) -> P) {
-        let times = (0..self.runs.max(1)).map(|_| time(&mut proved, self.text).1);
-        let times = Times::of(times.collect());
-        println!("{:<14}{work:<17}{}", self.name, self.speeds(&times));
+    /// The times of both, or none where `same` says that two answers do not agree. They run by turns, so that a machine that
+    /// slows down is slow for both, and the best of many runs is the one least disturbed.
+    pub fn timed<P, O>(
+        &self,
+        mut proved: impl FnMut(&str) -> P,
+        mut other: impl FnMut(&str) -> O,
+        same: impl Fn(&P, &O) -> bool,
+    ) -> Option<[Times; 2]> {
+        let (mut proved_times, mut other_times) = (Vec::new(), Vec::new());
+        for _ in 0..self.runs.max(1) {
+            let (proved_answer, proved_time) = time(&mut proved, self.text);
+            let (other_answer, other_time) = time(&mut other, self.text);
+            if !same(&proved_answer, &other_answer) {
+                return None;
+            }
+            proved_times.push(proved_time);
+            other_times.push(other_time);
+        }
+        Some([proved_times, other_times].map(Times::of))
     }
 
-    /// Best, median and spread.
-    fn speeds(&self, times: &Times) -> String {
-        let speed = |time: Duration| self.text.len() as f64 / time.as_secs_f64() / 1e6;
+    /// The times of one, where the other is not at hand.
+    pub fn timed_alone<P>(&self, mut proved: impl FnMut(&str) -> P) -> Times {
+        let times = (0..self.runs.max(1)).map(|_| time(&mut proved, self.text).1);
+        Times::of(times.collect())
+    }
+
+    /// Best, median and spread, in megabytes a second.
+    pub fn speeds(&self, times: &Times) -> String {
+        let speed = |time: Duration| {
+            let speed = self.text.len() as f64 / time.as_secs_f64() / 1e6;
+            let places = if speed < 10.0 { 2 } else { 0 };
+            format!("{speed:>8.places$}")
+        };
         let (best, median) = (speed(times.best()), speed(times.median()));
-        format!("{best:>8.0}{median:>8.0}{:>7.1}%", times.spread())
+        format!("{best}{median}{:>7.1}%", times.spread())
     }
 }

@@ -28,7 +28,9 @@ impl Shared {
             .map(|number| {
                 let (place, name) = (pool.len() as u32, name(number, bits));
                 pool.extend(name.bytes());
-                [1, 0, place, name.len() as u32, 6, 3, 9, 1, 3, 3, 0, 0, 0, 0, 0]
+                let mut row = [0; 15];
+                row[..10].copy_from_slice(&[1, 0, place, name.len() as u32, 6, 3, 9, 1, 3, 3]);
+                row
             })
             .collect();
         Shared { members, pool }
