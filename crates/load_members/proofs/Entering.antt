@@ -26,7 +26,7 @@ use Rattle.ground.specs.Look.{Look, known, unknown}
 use Rattle.table_rows.specs.Classes.{Pair}
 use Rattle.table_rows.specs.declared.rows.Member as rows
 use Rattle.table_rows.specs.Rows.{packMember}
-use Rattle.load_rule.specs.Fates.{ownerless, faultOf, classLine}
+use Rattle.load_rule.specs.Fates.{memberAfter, ownerless, faultOf, classLine}
 use Rattle.load_rule.specs.Members.{MemberKind, field, method, Entry, rangesOf, Under, under, underAfter, fieldDescriptor, methodDescriptor, nameText, entryIn, entryText, entryRow}
 use Rattle.load_texts.specs.declared.texts.Body.{Body}
 use Rattle.load_texts.specs.declared.texts.Body.the-variants.{Field, Method}
@@ -173,6 +173,15 @@ member-classed c (kinds.Class d r) e f = absurd (let z : _≡_ {A = ℕ} 0 1 = c
 member-classed c (kinds.Field d n r) e f = some-class c f
 member-classed c (kinds.Method m r) e f = some-class c f
 member-classed c (kinds.Refused n) e f = absurd (let z : _≡_ {A = ℕ} 0 1 = cc in omega arith)
+
+-- After a member line the class has a last member.
+pub member-last : (member : Bool) (k : Line) {p : MemberLine} → roleOf k ≡ Member p → memberAfter member k ≡ true
+member-last member kinds.Blank e = absurd (let z : _≡_ {A = ℕ} 0 1 = cc in omega arith)
+member-last member (kinds.Comment b) e = absurd (let z : _≡_ {A = ℕ} 0 1 = cc in omega arith)
+member-last member (kinds.Class d r) e = absurd (let z : _≡_ {A = ℕ} 0 1 = cc in omega arith)
+member-last member (kinds.Field d n r) e = refl
+member-last member (kinds.Method m r) e = refl
+member-last member (kinds.Refused n) e = absurd (let z : _≡_ {A = ℕ} 0 1 = cc in omega arith)
 
 -- Its parts lie in it.
 named-lies : (q : Qualified) (n : ℕ) → NameIn q n → Lies (nameSpan q) n

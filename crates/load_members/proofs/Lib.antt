@@ -3,3 +3,5 @@ pub mod Rowed
 pub mod Entering
 pub mod Slots
 pub mod Filling
+pub mod Adding
+pub mod Applied

@@ -2,6 +2,7 @@
 use crate::role::Role;
 use crate::role::role_of;
 use crate::row::member_row;
+use load_residual::residual_after;
 use load_scan::LineStep;
 use load_texts::Entered;
 use load_texts::MemberLine;
@@ -23,7 +24,8 @@ pub struct Slot {
 }
 
 pub enum NextSlot {
-    At(Slot),
+    // How many bytes behind the line are passed: those of a comment that gives the member a signature, or none.
+    At(Slot, usize),
     // Rows or pool do not hold the member.
     NoRoom,
 }
@@ -70,8 +72,10 @@ fn enter_member(
     let after = &text[next..];
     let bytes = &text[start..end];
     let own = &text[first..last];
-    let Entered::At(places) = write_texts(pool, place, after, bytes, parts, own, classes, index)
-    else {
+    let looked = residual_after(after, 0);
+    let given = looked.residual;
+    let texts = write_texts(pool, place, after, given, bytes, parts, own, classes, index);
+    let Entered::At(places) = texts else {
         return NextSlot::NoRoom;
     };
     let body = parts.body;
@@ -79,7 +83,7 @@ fn enter_member(
     let mut following = slot;
     following.row += 1;
     following.place = places.end;
-    NextSlot::At(following)
+    NextSlot::At(following, looked.passed)
 }
 
 // A class line names the class of the members after it, a member line is entered.
@@ -99,13 +103,13 @@ pub fn enter_line(
 {
     let kind = line.kind;
     match role_of(kind) {
-        Role::Neither => NextSlot::At(slot),
+        Role::Neither => NextSlot::At(slot, 0),
         Role::Class(display) => {
             let mut named = slot;
             named.classes += 1;
             named.own = line.start + display.start;
             named.own_end = line.start + display.end;
-            NextSlot::At(named)
+            NextSlot::At(named, 0)
         }
         Role::Member(parts) => enter_member(members, pool, text, line, parts, slot, classes, index),
     }

@@ -2,6 +2,7 @@
 use crate::enter::NextSlot;
 use crate::enter::enter_line;
 use crate::enter::first_slot;
+use load_rule::Fate;
 use load_rule::Fates;
 use load_rule::Scan;
 use load_scan::Step;
@@ -67,10 +68,15 @@ pub fn write_members(
                 fates = counted(fates, fate);
                 member = line.has_member;
                 let next = enter_line(members, pool, text, line, slot, classes, index);
-                let NextSlot::At(after) = next else {
+                let NextSlot::At(after, passed) = next else {
                     return Filled::Short(scan_from(text, at, fates, member));
                 };
                 slot = after;
+                // The comment behind a member was read with it.
+                if 0 < passed {
+                    at += passed;
+                    fates = counted(fates, Fate::Applied);
+                }
             }
         }
     }

@@ -2,3 +2,4 @@
 pub mod Giving
 pub mod Opened
 pub mod Following
+pub mod Passing

@@ -1,6 +1,7 @@
 // The signatures that comments give.
 mod residual;
 
+pub use residual::Looked;
 pub use residual::Residual;
 pub use residual::gives_signature;
 pub use residual::residual_after;

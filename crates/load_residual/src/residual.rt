@@ -11,14 +11,12 @@ use text_places::next_line;
 use text_white::trim_both;
 ghost use mathlib.Core.Path.{_≡_};
 ghost use Prim.Native.Nat.{_+_};
-ghost use lib.ListN.{drop};
-ghost use Rattle.text_places.specs.Lines.{lines};
 ghost use Rattle.line.specs.declared.line.Line.the-variants as kinds;
 ghost use Rattle.line.specs.Kinds.{lineOf};
-ghost use Rattle.load_rule.specs.Comments.{signatureOf, signatureAt, residualIn};
+ghost use Rattle.load_rule.specs.Comments.{signatureOf, signatureAt};
 ghost use Rattle.text_places.specs.Spans.{shift, Lies, largest};
 ghost use Rattle.ground.specs.Look.{isKnown};
-ghost use Rattle.load_residual.specs.inner.Residuals.{placeLook, jsonPart, openingOf, laterOf, Gives};
+ghost use Rattle.load_residual.specs.inner.Residuals.{placeLook, jsonPart, openingOf, laterOf, passedBy, Gives, Looks};
 
 // A string in a text: its JSON runs from `start` to `end`, and its first char stands at the place `string` of the JSON.
 pub enum Residual {
@@ -28,6 +26,13 @@ pub enum Residual {
         string: usize,
     },
     Nothing,
+}
+
+// What the lines from a place on give, and where the line after the first one starts, if the first is a comment that gives a signature,
+// else that place: who goes over the lines need not read such a comment again.
+pub struct Looked {
+    pub residual: Residual,
+    pub passed: usize,
 }
 
 // A line that may stand between a member and its signature, or any other line.
@@ -133,15 +138,35 @@ fn later(before: Residual, by: usize, line: Residual) -> Residual
     }
 }
 
-// The signature of the last comment that gives one, before another class line or member line. The lines are those from the place `from` on.
-pub fn residual_after(text: &[u8], from: usize) -> Residual
-    ensures { λ r. ⌜ Gives (now (text .entry)) r (residualIn (lines (drop «from» (now (text .entry))))) ⌝ }
+// The place `next` after a line that is the first one and gives a signature, else the place `passed`.
+fn passed_by(passed: usize, first: bool, next: usize, line: Residual) -> usize
+    ensures { λ r. ⌜ r ≡ passedBy passed first next line ⌝ }
 {
-    let mut found = Residual::Nothing;
+    match line {
+        Residual::Text {
+            start: _,
+            end: _,
+            string: _,
+        } => {
+            if first {
+                return next;
+            }
+            passed
+        }
+        Residual::Nothing => passed,
+    }
+}
+
+// The signature of the last comment that gives one, before another class line or member line. The lines are those from the place `from` on.
+pub fn residual_after(text: &[u8], from: usize) -> Looked
+    ensures { λ r. ⌜ Looks (now (text .entry)) «from» r ⌝ }
+{
+    let mut residual = Residual::Nothing;
+    let mut passed = from;
     let mut at = from;
     while at < text.len() {
         let NextLine::Line { start, end, next } = next_line(text, at) else {
-            return found;
+            return Looked { residual, passed };
         };
         match opening_of(&text[start..end]) {
             Opening::Blank => {
@@ -149,13 +174,14 @@ pub fn residual_after(text: &[u8], from: usize) -> Residual
             }
             Opening::Comment(brace) => {
                 let own = signature_at(&text[start..end], brace);
-                found = later(found, start, own);
+                passed = passed_by(passed, at == from, next, own);
+                residual = later(residual, start, own);
                 at = next;
             }
             Opening::Other => {
-                return found;
+                return Looked { residual, passed };
             }
         }
     }
-    found
+    Looked { residual, passed }
 }

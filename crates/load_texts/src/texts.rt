@@ -5,7 +5,6 @@ use line_parts::Method;
 use line_parts::Qualified;
 use load_raw_types::put_raw_type;
 use load_residual::Residual;
-use load_residual::residual_after;
 use table_pool::TwoTexts;
 use table_pool::Wrote;
 use table_pool::put_class;
@@ -20,6 +19,7 @@ ghost use Rattle.table_pool.specs.inner.Wrote.{WroteBy, TwoBy};
 ghost use Rattle.tables.specs.Back.{readBack};
 ghost use Rattle.load_raw_types.specs.inner.Behind.{Indexed};
 ghost use Rattle.load_rule.specs.Comments.{residualIn};
+ghost use Rattle.load_residual.specs.inner.Residuals.{Gives};
 ghost use Rattle.load_texts.specs.inner.Texts.{BodyIn, MemberIn, isMethod, displayTypes, descriptorText, ownerText, textsOf};
 ghost use Rattle.load_texts.specs.inner.Places.{EnteredTextsBy};
 
@@ -101,18 +101,20 @@ fn put_descriptor(
     pool: &mut [u8],
     at: usize,
     after: &[u8],
+    residual: Residual,
     line: &[u8],
     body: Body,
     classes: &[ClassRow],
     index: &[u16],
 ) -> Wrote
-    requires { ⌜ Indexed (now classes) (now pool) (now index) at × BodyIn body (length (now line)) ⌝ }
+    requires { ⌜ Indexed (now classes) (now pool) (now index) at × BodyIn body (length (now line))
+        × Gives (now after) residual (residualIn (lines (now after))) ⌝ }
     ensures { λ r.
         let cs = readBack (now (classes .entry)) (now (pool .entry)) in
         ⌜ WroteBy r (now (pool .entry)) at (descriptorText cs (residualIn (lines (now (after .entry)))) (now (line .entry)) body)
         (now (pool .exit)) ⌝ }
 {
-    match residual_after(after, 0) {
+    match residual {
         Residual::Text { start, end, string } => put_signature(
             pool,
             at,
@@ -150,12 +152,14 @@ fn put_raw_part(
     pool: &mut [u8],
     at: usize,
     after: &[u8],
+    residual: Residual,
     line: &[u8],
     member: MemberLine,
     classes: &[ClassRow],
     index: &[u16],
 ) -> TwoTexts
-    requires { ⌜ Indexed (now classes) (now pool) (now index) at × MemberIn member (length (now line)) ⌝ }
+    requires { ⌜ Indexed (now classes) (now pool) (now index) at × MemberIn member (length (now line))
+        × Gives (now after) residual (residualIn (lines (now after))) ⌝ }
     ensures { λ r.
         let cs = readBack (now (classes .entry)) (now (pool .entry)) in
         ⌜ TwoBy r (now (pool .entry)) at (partOf (now (line .entry)) (member .raw))
@@ -167,7 +171,8 @@ fn put_raw_part(
     let Wrote::Done(second) = put_text(pool, at, &line[start..end]) else {
         return TwoTexts::NoRoom;
     };
-    let Wrote::Done(next) = put_descriptor(pool, second, after, line, body, classes, index) else {
+    let described = put_descriptor(pool, second, after, residual, line, body, classes, index);
+    let Wrote::Done(next) = described else {
         return TwoTexts::NoRoom;
     };
     TwoTexts::At { second, next }
@@ -198,18 +203,20 @@ fn put_display_part(
     TwoTexts::At { second, next }
 }
 
-// All texts of a member.
+// All texts of a member. `residual` is the signature that the lines `after` it give.
 pub fn write_texts(
     pool: &mut [u8],
     at: usize,
     after: &[u8],
+    residual: Residual,
     line: &[u8],
     member: MemberLine,
     own: &[u8],
     classes: &[ClassRow],
     index: &[u16],
 ) -> Entered
-    requires { ⌜ Indexed (now classes) (now pool) (now index) at × MemberIn member (length (now line)) ⌝ }
+    requires { ⌜ Indexed (now classes) (now pool) (now index) at × MemberIn member (length (now line))
+        × Gives (now after) residual (residualIn (lines (now after))) ⌝ }
     ensures { λ r.
         let cs = readBack (now (classes .entry)) (now (pool .entry)) in
         ⌜ EnteredTextsBy r (now (pool .entry)) at
@@ -218,7 +225,7 @@ pub fn write_texts(
     let TwoTexts::At {
         second: descriptor,
         next: name,
-    } = put_raw_part(pool, at, after, line, member, classes, index)
+    } = put_raw_part(pool, at, after, residual, line, member, classes, index)
     else {
         return Entered::NoRoom;
     };

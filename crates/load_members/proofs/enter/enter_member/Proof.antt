@@ -34,11 +34,14 @@ part-own-start c = search member-slots
 part-own-end : tie.Need-part-own-end
 part-own-end c = search member-slots
 
+residual-after-requires : tie.Need-residual-after-requires
+residual-after-requires c κs = search member-slots
+
 write-texts-requires : tie.Need-write-texts-requires
 write-texts-requires c κs = search member-slots
 
-enum-known-places : tie.Need-enum-known-places
-enum-known-places c = search member-slots
+enum-known-texts : tie.Need-enum-known-texts
+enum-known-texts c = search member-slots
 
 enum-told : tie.Need-enum-told
 enum-told c = search member-slots
@@ -55,14 +58,14 @@ sub-member-row c = search member-slots
 member-row-requires : tie.Need-member-row-requires
 member-row-requires c κs = search member-slots
 
-mul-t22 : tie.Need-mul-t22
-mul-t22 c = let a = c .before .before .before .before .before .before .before .before .before .before .before .before .if1 .left in let g = c .before .before .before .before .before .before .before .before .before .before .before .before .before .before .before .before .good .0 in omega arith
+mul-t25 : tie.Need-mul-t25
+mul-t25 c = let a = c .before .before .before .before .before .before .before .before .before .before .before .before .before .if1 .left in let g = c .before .before .before .before .before .before .before .before .before .before .before .before .before .before .before .before .before .good .0 in omega arith
 
 slice-set-from-members : tie.Need-slice-set-from-members
 slice-set-from-members c = search member-slots
 
 add-following : tie.Need-add-following
-add-following c = let a = c .before .before .before .before .before .before .before .before .before .before .before .before .before .if1 .left in let g = c .before .before .before .before .before .before .before .before .before .before .before .before .before .before .before .before .before .good .0 in omega arith
+add-following c = let a = c .before .before .before .before .before .before .before .before .before .before .before .before .before .before .if1 .left in let g = c .before .before .before .before .before .before .before .before .before .before .before .before .before .before .before .before .before .before .good .0 in omega arith
 
 same-length-2 : tie.Need-same-length-2
 same-length-2 c = search member-slots
@@ -71,7 +74,7 @@ same-length-3 : tie.Need-same-length-3
 same-length-3 c = search member-slots
 
 returns-3 : tie.Need-returns-3
-returns-3 c = member-at (c .before .before .before .before .before .before .before .before .before .before .before .before .before .before .before .before .before .pre .0) _ _ _ _ (c .before .before .before .before .before .before .before .before .write-texts .ensures) (c .before .before .before .before .places .given .1) (c .before .before .before .before .before .before .before .before .before .before .before .before .before .if1 .left) (c .before .member-row .ensures)
+returns-3 c = member-at (c .before .before .before .before .before .before .before .before .before .before .before .before .before .before .before .before .before .before .pre .0) _ _ _ _ (c .before .before .before .before .before .before .before .before .write-texts .ensures) (c .before .before .before .before .texts .given .1) (c .before .before .before .before .before .before .before .before .before .before .residual-after .ensures) (c .before .before .before .before .before .before .before .before .before .before .before .before .before .before .if1 .left) (c .before .member-row .ensures)
 
 pub enter-member-spec : {M : Type 1} → statement M
 enter-member-spec =
@@ -87,14 +90,15 @@ enter-member-spec =
     sub-own
     part-own-start
     part-own-end
+    residual-after-requires
     write-texts-requires
-    enum-known-places
+    enum-known-texts
     enum-told
     same-length
     returns-2
     sub-member-row
     member-row-requires
-    mul-t22
+    mul-t25
     slice-set-from-members
     add-following
     same-length-2

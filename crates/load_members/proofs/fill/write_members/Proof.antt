@@ -1,5 +1,6 @@
--- `load_members::fill::write_members` meets its contract, by the laws of Filling and an invariant that says what is done and what is left.
-use Rattle.load_members.proofs.Filling.{filling, Filling}
+-- `load_members::fill::write_members` meets its contract, by the laws of Filling, Adding and Applied and an invariant of what is done.
+use Rattle.load_members.proofs.Applied.{filling}
+use Rattle.load_members.proofs.Filling.{Filling}
 use Prim.Native.Nat.{_-_}
 use lib.ListN.{length}
 use Rattle.load_members.proofs.fill.write_members.Statement.{statement}
@@ -91,11 +92,23 @@ same-length-6 c = search filling
 returns-3 : tie.Need-returns-3 Inv-loop μ-loop
 returns-3 c = search filling
 
+add-at : tie.Need-add-at Inv-loop μ-loop
+add-at c = search filling
+
+counted-requires-3 : tie.Need-counted-requires-3 Inv-loop μ-loop
+counted-requires-3 c κs = search filling
+
 loop-less-2 : tie.Need-loop-less-2 Inv-loop μ-loop
-loop-less-2 c = search filling
+loop-less-2 c = let i = c .before .before .before .before .before .before .before .before .before .before .before .before .before .before .before .before .before .loop .inv in let t = c .before .before .before .before .before .before .before .before .before .before .before .before .before .before .before .before .loop-test .taken in let n = c .before .before .before .before .before .before .before .before .before .before .before .before .before .before .before .next-step .ensures in search filling
 
 loop-again-2 : tie.Need-loop-again-2 Inv-loop μ-loop
-loop-again-2 c = search filling
+loop-again-2 c = let i = c .before .before .before .before .before .before .before .before .before .before .before .before .before .before .before .before .before .loop .inv in let n = c .before .before .before .before .before .before .before .before .before .before .before .before .before .before .before .next-step .ensures in search filling
+
+loop-less-3 : tie.Need-loop-less-3 Inv-loop μ-loop
+loop-less-3 c = search filling
+
+loop-again-3 : tie.Need-loop-again-3 Inv-loop μ-loop
+loop-again-3 c = search filling
 
 same-length-7 : tie.Need-same-length-7 Inv-loop μ-loop
 same-length-7 c = search filling
@@ -138,8 +151,12 @@ write-members-spec =
     same-length-5
     same-length-6
     returns-3
+    add-at
+    counted-requires-3
     loop-less-2
     loop-again-2
+    loop-less-3
+    loop-again-3
     same-length-7
     same-length-8
     returns-4)

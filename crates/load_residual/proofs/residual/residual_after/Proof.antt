@@ -6,10 +6,10 @@ use Rattle.load_residual.proofs.residual.residual_after.Statement.{stat
 use Rattle.load_residual.proofs.residual.residual_after.Tie as tie
 
 abbrev Inv-loop : tie.InvT-loop
-Inv-loop text from found₀ at₀ found at = Following text from at found
+Inv-loop text from residual₀ passed₀ at₀ residual passed at = Following text from at residual passed
 
 abbrev μ-loop : tie.MeasureT-loop
-μ-loop text from found₀ at₀ found at = length text - at
+μ-loop text from residual₀ passed₀ at₀ residual passed at = length text - at
 
 loop-holds : tie.Need-loop-holds Inv-loop μ-loop
 loop-holds c = search following
@@ -62,6 +62,9 @@ part-signature-at-end c = search following
 signature-at-requires : tie.Need-signature-at-requires Inv-loop μ-loop
 signature-at-requires c κs = search following
 
+passed-by-requires : tie.Need-passed-by-requires Inv-loop μ-loop
+passed-by-requires c κs = search following
+
 later-requires : tie.Need-later-requires Inv-loop μ-loop
 later-requires c κs = search following
 
@@ -103,6 +106,7 @@ residual-after-spec =
     part-signature-at-start
     part-signature-at-end
     signature-at-requires
+    passed-by-requires
     later-requires
     loop-less-2
     loop-again-2

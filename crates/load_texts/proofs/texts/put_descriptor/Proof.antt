@@ -3,11 +3,8 @@ use Rattle.load_texts.proofs.Texting.{describing}
 use Rattle.load_texts.proofs.texts.put_descriptor.Statement.{statement}
 use Rattle.load_texts.proofs.texts.put_descriptor.Tie as tie
 
-residual-after-requires : tie.Need-residual-after-requires
-residual-after-requires c κs = search describing
-
-enum-known-start : tie.Need-enum-known-start
-enum-known-start c = search describing
+enum-known-residual : tie.Need-enum-known-residual
+enum-known-residual c = search describing
 
 sub-put-signature : tie.Need-sub-put-signature
 sub-put-signature c = search describing
@@ -46,8 +43,7 @@ pub put-descriptor-spec : {M : Type 1} → statement M
 put-descriptor-spec =
     tie.close
     (tie.spec
-    residual-after-requires
-    enum-known-start
+    enum-known-residual
     sub-put-signature
     part-put-signature-start
     part-put-signature-end

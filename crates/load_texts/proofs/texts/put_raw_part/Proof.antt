@@ -30,8 +30,8 @@ returns c = search raw-part
 put-descriptor-requires : tie.Need-put-descriptor-requires
 put-descriptor-requires c κs = search raw-part
 
-enum-known-next : tie.Need-enum-known-next
-enum-known-next c = search raw-part
+enum-known-described : tie.Need-enum-known-described
+enum-known-described c = search raw-part
 
 enum-told-2 : tie.Need-enum-told-2
 enum-told-2 c = search raw-part
@@ -61,7 +61,7 @@ put-raw-part-spec =
     same-length
     returns
     put-descriptor-requires
-    enum-known-next
+    enum-known-described
     enum-told-2
     same-length-2
     returns-2
