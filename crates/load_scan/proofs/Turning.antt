@@ -30,7 +30,7 @@ use Rattle.load_scan.specs.declared.scan.SoFar.{SoFar}
 use Rattle.load_scan.specs.declared.scan.SoFar.the-variants.{Sound, Faulty}
 use Rattle.load_scan.specs.inner.Bounds.{Within}
 use Rattle.load_scan.specs.inner.Steps.{scanOn, isEntered, lineStep, stepOf}
-use Rattle.load_scan.specs.inner.Turns.{Countable, withLine, endOf}
+use Rattle.load_scan.specs.inner.Turns.{Countable, withLine, scanSoFar}
 use Rattle.load_scan.proofs.Stepping.{within-more, scan-fault, passed-stays}
 use Rattle.load_scan.proofs.Scanning.{one-within, plus-within, scan-line, scan-end}
 
@@ -52,12 +52,12 @@ step-turns f m l a e n = go (eqb (faultOf (f .class) (lineOf l)) 0) (isEntered (
     go true false i = ap (Sound (plus f (one (fateOf m l (lineOf l))))) (sym (passed-stays m (lineOf l) i))
     go false c i = refl
 
-pub end-faulty : {x : SoFar} {n k : ℕ} → x ≡ Faulty n k → scan.Faulty n k ≡ endOf x
-end-faulty e = sym (ap endOf e)
+pub end-faulty : {x : SoFar} {n k : ℕ} → x ≡ Faulty n k → scan.Faulty n k ≡ scanSoFar x
+end-faulty e = sym (ap scanSoFar e)
 
 module _ {x : SoFar} {f : Fates} {m : Bool} (o : x ≡ Sound f m) where
-  pub end-sound : scan.Sound f ≡ endOf x
-  end-sound = sym (ap endOf o)
+  pub end-sound : scan.Sound f ≡ scanSoFar x
+  end-sound = sym (ap scanSoFar o)
 
   pub turn-bounds : Countable x → Within f mostText
   turn-bounds h = rw o at h
@@ -107,7 +107,7 @@ decide-line (Sound f m) l ls = go (eqb (faultOf (f .class) (lineOf l)) 0) refl
     go true e = scan-line f m l ls (eqb-true (faultOf (f .class) (lineOf l)) 0 e)
     go false e = scan-fault f m l ls (eqb-false (faultOf (f .class) (lineOf l)) 0 e)
 
-decide-end : (x : SoFar) → decide x [] ≡ endOf x
+decide-end : (x : SoFar) → decide x [] ≡ scanSoFar x
 decide-end (Sound f m) = scan-end f m
 decide-end (Faulty n k) = refl
 
@@ -135,7 +135,7 @@ pub turning-starts : (s : List ℕ) (at : ℕ) (f : Fates) (m : Bool) → at ≤
 turning-starts s at f m h w = record { inside = h; bound = w; decides = refl }
 
 module _ {s : List ℕ} {all : Scan} {at : ℕ} {x : SoFar} (k : Turning s all at x) where
-  pub turning-ends : nextLine s at ≡ NoLine → endOf x ≡ all
+  pub turning-ends : nextLine s at ≡ NoLine → scanSoFar x ≡ all
   turning-ends z = sym (ap (decide x) (none-taken s at (sym z) refl) ∙ decide-end x) ∙ k .decides
 
   module _ {a e n : ℕ} (z : nextLine s at ≡ Line a e n) where

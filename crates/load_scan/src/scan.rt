@@ -16,7 +16,7 @@ ghost use Rattle.text_places.specs.Lines.{lines};
 ghost use Rattle.load_rule.specs.Loading.{mostText};
 ghost use Rattle.load_scan.specs.inner.Bounds.{Within};
 ghost use Rattle.load_scan.specs.inner.Steps.{scanOn};
-ghost use Rattle.load_scan.specs.inner.Turns.{Countable, withLine, endOf};
+ghost use Rattle.load_scan.specs.inner.Turns.{Countable, withLine, scanSoFar};
 ghost use Rattle.load_scan.specs.declared.scan.SoFar.the-variants.{Sound};
 
 // What became of the lines so far and whether the current class has a last member, or the first faulty line.
@@ -63,7 +63,7 @@ fn scan_line(text: &[u8], start: usize, end: usize, next: usize, so_far: SoFar) 
 
 // No line is left.
 fn ended(so_far: SoFar) -> Scan
-    ensures { λ r. ⌜ r ≡ endOf «so_far» ⌝ }
+    ensures { λ r. ⌜ r ≡ scanSoFar «so_far» ⌝ }
 {
     match so_far {
         SoFar::Sound {

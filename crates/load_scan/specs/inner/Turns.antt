@@ -26,6 +26,6 @@ withLine (Sound f member) l =
 withLine (Faulty number line) l = Faulty number line
 
 -- the answer where no line is left
-abbrev pub endOf : SoFar → Scan
-endOf (Sound f member) = scan.Sound f
-endOf (Faulty number line) = scan.Faulty number line
+abbrev pub scanSoFar : SoFar → Scan
+scanSoFar (Sound f member) = scan.Sound f
+scanSoFar (Faulty number line) = scan.Faulty number line

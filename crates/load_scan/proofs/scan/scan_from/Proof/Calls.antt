@@ -37,7 +37,7 @@ use Rattle.load_rule.proofs.Fates.Laws as F′
 use Rattle.load_rule.proofs.Scan as P
 use Rattle.load_scan.specs.declared.scan.SoFar.{SoFar}
 use Rattle.load_scan.specs.declared.scan.SoFar.the-variants.{Sound}
-use Rattle.load_scan.specs.inner.Turns.{Countable, withLine, endOf}
+use Rattle.load_scan.specs.inner.Turns.{Countable, withLine, scanSoFar}
 use Rattle.load_scan.proofs.scan.SoFar as Y
 use Rattle.load_scan.proofs.scan.SoFar.Laws as Y′
 use Rattle.load_scan.proofs.scan.begun as begun
@@ -130,11 +130,11 @@ module _ {M : Type 1} {𝓤 : URA M} {H : Heap 𝓤} {A : Atoms 𝓤} (W : Given
     abbrev said-ended : Scan → SProp 𝓤
     said-ended y = ensured 𝓤 H A ended.ended (ended.clauses 𝓤 H A mem run) tt (x, tt) tt y
 
-    ended-says : (y : Scan) → ent 𝓤 (said-ended y) (fact 𝓤 (y ≡ endOf x))
-    ended-says y = exE 𝓤 _ (λ ws. snd∗ 𝓤 (sem 𝓤 H A (lasts ended.ended tt (x, tt) ws)) (fact 𝓤 (y ≡ endOf x)))
+    ended-says : (y : Scan) → ent 𝓤 (said-ended y) (fact 𝓤 (y ≡ scanSoFar x))
+    ended-says y = exE 𝓤 _ (λ ws. snd∗ 𝓤 (sem 𝓤 H A (lasts ended.ended tt (x, tt) ws)) (fact 𝓤 (y ≡ scanSoFar x)))
 
     pub gives-ended : {K : Type 0} {Γ : List (Item 𝓤)} {G : Goal 𝓤 H} → K → Soaks G → (v : Val) →
-        ((y : Scan) → y ≡ endOf x → Is P.the-row y (v ∷ []) → Seq K W Γ G) → Seq K W (raw (Ended 𝓤 H A mem run .post to-ended v) ∷ Γ) G
+        ((y : Scan) → y ≡ scanSoFar x → Is P.the-row y (v ∷ []) → Seq K W Γ G) → Seq K W (raw (Ended 𝓤 H A mem run .post to-ended v) ∷ Γ) G
     gives-ended k soaks v rest =
         use1 W (later (some (λ (y : Scan). (‵ ftrue ⊛ ‵ (P.the-row .own y (v ∷ []))) ⊛ raw (said-ended y)))) (id⊢ 𝓤 _) $
-        tells k soaks P.the-row (‵ ftrue) v said-ended (λ y. y ≡ endOf x) ended-says (λ y e is. drop k $ rest y e is)
+        tells k soaks P.the-row (‵ ftrue) v said-ended (λ y. y ≡ scanSoFar x) ended-says (λ y e is. drop k $ rest y e is)
