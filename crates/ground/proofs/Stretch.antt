@@ -12,7 +12,7 @@ pub along-none : (P : ℕ → Type 0) (s : List ℕ) («from» : ℕ) → «from
 along-none P s f h = record { goes = omega arith; inside = h; each = λ i l u. absurd (omega arith) }
 
 module _ {P : ℕ → Type 0} {s : List ℕ} {«from» to : ℕ} (w : Along P s «from» to) where
-  along-more : (n : ℕ) → to + n ≤ length s → ((k : ℕ) → k < n → P (getD s (to + k) 0)) → Along P s «from» (to + n)
+  pub along-more : (n : ℕ) → to + n ≤ length s → ((k : ℕ) → k < n → P (getD s (to + k) 0)) → Along P s «from» (to + n)
   along-more n h f = record { goes = omega (arith, w .goes); inside = h; each = λ i l u. go i l u (le-or-lt to i) }
     where
       go : (i : ℕ) → «from» ≤ i → i < to + n → (to ≤ i) ⊎ (i < to) → P (getD s i 0)

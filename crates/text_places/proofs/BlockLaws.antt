@@ -1,18 +1,22 @@
 -- Blocks that do not hold a byte, and the searches that pass them. Assumes nothing.
-use mathlib.Core.Path.{_≡_, refl, sym, _∙_}
+use mathlib.Core.Path.{_≡_, refl, sym, ap₂, _∙_}
 use mathlib.Core.Bool.{Bool, true, false}
 use mathlib.Core.List.{List}
 use mathlib.Core.Logic.{_⊎_, inl, inr}
-use Prim.Native.Nat.{ℕ, zero, suc, _+_, _-_, _≤_, _<_}
-use native.Mathlib.Nat.{add-zero}
+use Prim.Native.Nat.{ℕ, zero, suc, _+_, _-_, _*_, _/_, _%_, _^_, _≤_, _<_}
+use native.Mathlib.Nat.{add-zero, pow-suc}
 use native.Mathlib.Omega.{arith}
-use lib.Dec.{eqb}
+use mir.Val.{Fits}
+use mir.Syntax.{w64}
+use lib.Dec.{eqb, lit<}
+use lib.Count.{trailingZeros, trailing-le, under}
+use lib.Pow.{pow-mono, high, low}
 use lib.ListN.{length, getD, drop, length-drop}
-use borrow.Author.Tests.{eqb-false}
+use borrow.Author.Tests.{eqb-false, eq-eqb, ne-eqb}
 use borrow.Author.Needs.{needs}
-use Rattle.ground.specs.Choice.{pick}
+use Rattle.ground.specs.Choice.{pick, bit}
 use Rattle.ground.proofs.Cases.{le-or-lt, clash}
-use Rattle.ground.proofs.Stretch.{along-none, along-block, block-inside}
+use Rattle.ground.proofs.Stretch.{along-none, along-more, along-block, block-inside}
 use Rattle.text_places.specs.Places.{starts, startsPair}
 use Rattle.text_places.specs.inner.Blocks.{Without}
 use Rattle.text_places.proofs.PlaceLaws.{Seeking, seeking-starts, seeking-more, seeking, pairing, byte-other, pair-first-other, no-pair}
@@ -40,6 +44,63 @@ module _ {b : ℕ} {s : List ℕ} {at i : ℕ} {holds : Bool} (p : Passed b s at
 
 pub ruleset passing = (passed-none, passed-more, passed-all, needs)
 
+-- what the mask of the bytes from the place `i` of a block on tells: as many of them as it has zeros at its end are not `b`
+pub record Masked (b : ℕ) (s : List ℕ) (at mask i : ℕ) : Type 0 where
+  pub few : i ≤ 16
+  pub small : mask < 2 ^ (16 - i)
+  pub none : (d k : ℕ) → k < trailingZeros d mask → i + k < 16 → getD s (at + (i + k)) 0 ≡ b → ⊥
+
+module _ (mask : ℕ) {x b : ℕ} where
+  pub digit-same : x ≡ b → mask * 2 + 1 ≡ mask * 2 + bit (eqb x b)
+  digit-same e = rw (eq-eqb x b e) refl
+
+  pub digit-other : (x ≡ b → ⊥) → mask * 2 ≡ mask * 2 + bit (eqb x b)
+  digit-other n = rw (ne-eqb x b n) (omega arith)
+
+pub masked-none : (b : ℕ) (s : List ℕ) (at : ℕ) → Masked b s at 0 16
+masked-none b s at = record { few = omega arith; small = lit< tt; none = λ d k h l. absurd (omega arith) }
+
+-- a number with one more digit below it
+bit-below : (m : ℕ) (t : Bool) → ((m * 2 + bit t) % 2 ≡ bit t) × ((m * 2 + bit t) / 2 ≡ m)
+bit-below m true = (low m 1 {lo = 1} (lit< tt), high m 1 {lo = 1} (lit< tt))
+bit-below m false = (low m 1 {lo = 0} (lit< tt), high m 1 {lo = 0} (lit< tt))
+
+zeros-below : (d m : ℕ) (t : Bool) → trailingZeros (suc d) (m * 2 + bit t) ≡ under (bit t) (trailingZeros d m)
+unfolding trailingZeros
+zeros-below d m t = ap₂ (λ (x y : ℕ). under x (trailingZeros d y)) (bit-below m t .0) (bit-below m t .1)
+
+module _ {b : ℕ} {s : List ℕ} {at mask i : ℕ} (m : Masked b s at mask i) where
+  pub masked-half : 0 < i → mask < 32768
+  masked-half h = let e : 2 ^ (16 - i) ≤ 2 ^ 15 = pow-mono {j = 15} (omega arith) in let z = m .small in omega arith
+
+  pub masked-more : 0 < i → {r : ℕ} → r ≡ mask * 2 + bit (eqb (getD s (at + (i - 1)) 0) b) → Masked b s at r (i - 1)
+  masked-more h {r} e = record { few = omega (arith, m .few); small = rw e (wider (eqb (getD s (at + (i - 1)) 0) b)); none = λ d k l. past d k (eqb (getD s (at + (i - 1)) 0) b) refl (rw e at l) }
+    where
+      wider : (t : Bool) → mask * 2 + bit t < 2 ^ (16 - (i - 1))
+      wider t =
+          let q : 16 - (i - 1) ≡ suc (16 - i) = omega (arith, m .few) in
+          let z = m .small in
+          rw q (rw (pow-suc 2 (16 - i)) (go t z))
+        where
+          go : (t : Bool) → mask < 2 ^ (16 - i) → mask * 2 + bit t < 2 ^ (16 - i) * 2
+          go true z = omega arith
+          go false z = omega arith
+
+      past : (d k : ℕ) (t : Bool) → eqb (getD s (at + (i - 1)) 0) b ≡ t → k < trailingZeros d (mask * 2 + bit t) → i - 1 + k < 16 → getD s (at + (i - 1 + k)) 0 ≡ b → ⊥
+      past zero k t q l u v = absurd (let z = trailing-le 0 (mask * 2 + bit t) in omega arith)
+      past (suc d) k true q l u v = absurd (let z : k < 0 = rw (zeros-below d mask true) at l in omega arith)
+      past (suc d) zero false q l u v = eqb-false (getD s (at + (i - 1)) 0) b q (let w : at + (i - 1 + 0) ≡ at + (i - 1) = omega arith in rw w at v)
+      past (suc d) (suc k) false q l u v =
+          let z : suc k < suc (trailingZeros d mask) = rw (zeros-below d mask false) at l in
+          let w : at + (i - 1 + suc k) ≡ at + (i + k) = omega arith in
+          m .none d k (omega arith) (omega arith) (rw w at v)
+
+  pub masked-all : i ≤ 0 → (k : ℕ) → k < trailingZeros 16 mask → getD s (at + k) 0 ≡ b → ⊥
+  masked-all h k l v =
+      let z : i ≡ 0 = omega arith in
+      let w : at + (i + k) ≡ at + k = omega arith in
+      m .none 16 k l (omega (arith, trailing-le 16 mask)) (rw w v)
+
 pub without-none : (b : ℕ) (s : List ℕ) («from» : ℕ) → «from» ≤ length s → Without b s «from» «from»
 without-none b s f h = along-none (λ x. x ≡ b → ⊥) s f h
 
@@ -50,7 +111,17 @@ module _ {b : ℕ} {s : List ℕ} {«from» to : ℕ} (w : Without b s «from» 
   pub without-block : {r : Bool} → (r ≡ false → (k : ℕ) → k < 16 → getD s (to + k) 0 ≡ b → ⊥) → r ≡ false → Without b s «from» (to + 16)
   without-block n f = along-block w h (n f)
 
-pub ruleset blocks = (without-none, without-room, without-block, needs)
+  pub without-in-block : (r : ℕ) → r ≤ 16 → ((k : ℕ) → k < r → getD s (to + k) 0 ≡ b → ⊥) → Without b s «from» (to + r)
+  without-in-block r l n = along-more w r (omega (arith, w .inside)) n
+
+pub zeros-fit : (mask : ℕ) → Fits w64 (trailingZeros 16 mask)
+zeros-fit mask = record { fits = omega (arith, trailing-le 16 mask) }
+
+pub ruleset digits = (digit-same, digit-other, needs)
+
+pub ruleset masking = (masked-none, masked-half, masked-more, masked-all, zeros-fit, trailing-le, needs)
+
+pub ruleset blocks = (without-none, without-room, without-block, without-in-block, needs)
 
 -- A search that passes a stretch in which nothing is found.
 seek-past : (p : List ℕ → Bool) (s : List ℕ) (n at : ℕ) → Seeking p s at → at + n ≤ length s →

@@ -1,4 +1,4 @@
--- `text_places::blocks::after_blocks` meets its contract, by the laws of BlockLaws and an invariant that says: the rest decides as the whole does.
+-- `text_places::blocks::after_blocks` meets its contract, by the laws of BlockLaws and an invariant that says what is done and what is left.
 use Rattle.text_places.proofs.BlockLaws.{blocks}
 use Prim.Native.Nat.{_-_}
 use lib.ListN.{length}
@@ -30,6 +30,15 @@ block-holds-requires c κs = search blocks
 returns-2 : tie.Need-returns-2 Inv-loop μ-loop
 returns-2 c = search blocks
 
+before-in-block-requires : tie.Need-before-in-block-requires Inv-loop μ-loop
+before-in-block-requires c κs = search blocks
+
+add-result : tie.Need-add-result Inv-loop μ-loop
+add-result c = search blocks
+
+returns-3 : tie.Need-returns-3 Inv-loop μ-loop
+returns-3 c = search blocks
+
 add-at : tie.Need-add-at Inv-loop μ-loop
 add-at c = search blocks
 
@@ -39,8 +48,8 @@ loop-less c = search blocks
 loop-again : tie.Need-loop-again Inv-loop μ-loop
 loop-again c = search blocks
 
-returns-3 : tie.Need-returns-3 Inv-loop μ-loop
-returns-3 c = search blocks
+returns-4 : tie.Need-returns-4 Inv-loop μ-loop
+returns-4 c = search blocks
 
 pub after-blocks-spec : {M : Type 1} → statement M
 after-blocks-spec =
@@ -54,7 +63,10 @@ after-blocks-spec =
     sub-loop
     block-holds-requires
     returns-2
+    before-in-block-requires
+    add-result
+    returns-3
     add-at
     loop-less
     loop-again
-    returns-3)
+    returns-4)
