@@ -1,6 +1,6 @@
 -- The check of a whole text: what is found from here on is what is found of the whole. Assumes nothing.
 use mathlib.Core.Path.{_≡_, refl, sym, _∙_, ap}
-use mathlib.Core.Bool.{Bool, true, false}
+use mathlib.Core.Bool.{true, false}
 use mathlib.Core.List.{List}
 use Prim.Native.Nat.{ℕ, zero, suc, _+_, _-_, _^_, _≤_, _<_}
 use native.Mathlib.Omega.{arith}
@@ -12,13 +12,13 @@ use mir.Syntax.{w64}
 use borrow.Author.Needs.{needs}
 use Rattle.ground.proofs.Cases.{le-or-lt, clash}
 use Rattle.text_utf8.specs.declared.sequence.Sequence.{Sequence}
-use Rattle.text_utf8.specs.declared.sequence.Sequence.the-variants.{End, Good, Bad}
+use Rattle.text_utf8.specs.declared.sequence.Sequence.the-variants.{Good}
 use Rattle.text_utf8.specs.declared.check.Check.{Check}
 use Rattle.text_utf8.specs.declared.check.Check.the-variants.{Valid, Broken}
 use Rattle.text_utf8.specs.Utf8.{sequenceOf, pieces, checkFrom, checkOf, isValid, isUtf8}
 use Rattle.text_utf8.specs.inner.Runs.{AsciiTo}
-use Rattle.text_utf8.proofs.Sequences.{sequence-ascii, end-empty}
-use Rattle.text_utf8.proofs.Pieces.{pieces-none, pieces-past, pieces-on, pieces-bad, good-inside}
+use Rattle.text_utf8.proofs.Sequences.{sequence-ascii}
+use Rattle.text_utf8.proofs.Pieces.{pieces-past, pieces-on, good-inside}
 
 pub record Checked (s : List ℕ) (at : ℕ) : Type 0 where
   pub inside : at ≤ length s
@@ -39,14 +39,6 @@ module _ {s : List ℕ} {at : ℕ} (c : Checked s at) where
       inside = good-inside s at (sym e ∙ g) .1;
       decides = rw (pieces-on s at (sym e ∙ g)) at (c .decides);
     }
-
-    pub checked-end : t ≡ End → Valid ≡ checkOf s
-    unfolding checkFrom
-    checked-end g = rw (pieces-none (drop at s) (end-empty (drop at s) (sym e ∙ g))) at (c .decides)
-
-    pub checked-bad : {m : ℕ} → t ≡ Bad m → Broken at m ≡ checkOf s
-    unfolding checkFrom
-    checked-bad g = rw (pieces-bad (drop at s) (sym e ∙ g)) at (c .decides)
 
     pub checked-fits : {d m : ℕ} → length s < 2 ^ 64 → t ≡ Good d m → Fits w64 (at + m)
     checked-fits b g = let i = good-inside s at (sym e ∙ g) in omega arith
@@ -85,8 +77,6 @@ module _ {s : List ℕ} {at blocks to : ℕ} (c : Checked s at) (h : at < length
 
 pub run-inside : {s : List ℕ} {at to : ℕ} → AsciiTo s at to → to ≤ length s
 run-inside a = a .inside
-
-pub ruleset checking = (checked-first, checked-runs, runs-fall, run-inside, checked-all, checked-good, checked-bad, checked-end, checked-fits, checked-falls, needs)
 
 -- Whether a text is UTF-8, by what its check says.
 module _ (s : List ℕ) {t : Check} (e : t ≡ checkOf s) where

@@ -5,5 +5,6 @@ pub mod Pieces
 pub mod Ascii
 pub mod Checking
 pub mod Grammatical
+pub mod Threes
 pub mod Boundaries
 pub mod Lengths

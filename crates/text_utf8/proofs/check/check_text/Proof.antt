@@ -1,7 +1,8 @@
--- `text_utf8::check::check_text` meets its contract, by the laws of Checking and an invariant that says: the rest decides as the whole does.
-use Rattle.text_utf8.proofs.Checking.{checking, Checked}
+-- `text_utf8::check::check_text` meets its contract, by the laws of Threes and an invariant that says what is done and what is left.
+use Rattle.text_utf8.proofs.Threes.{checking}
 use Prim.Native.Nat.{_-_}
 use lib.ListN.{length}
+use Rattle.text_utf8.proofs.Checking.{Checked}
 use Rattle.text_utf8.proofs.check.check_text.Statement.{statement}
 use Rattle.text_utf8.proofs.check.check_text.Tie as tie
 
@@ -35,17 +36,14 @@ loop-less c = search checking
 loop-again : tie.Need-loop-again Inv-loop μ-loop
 loop-again c = search checking
 
-sequence-at-requires : tie.Need-sequence-at-requires Inv-loop μ-loop
-sequence-at-requires c κs = search checking
+good-length-requires : tie.Need-good-length-requires Inv-loop μ-loop
+good-length-requires c κs = search checking
 
-enum-told : tie.Need-enum-told Inv-loop μ-loop
-enum-told c = search checking
+bad-at-requires : tie.Need-bad-at-requires Inv-loop μ-loop
+bad-at-requires c κs = search checking
 
 returns : tie.Need-returns Inv-loop μ-loop
 returns c = search checking
-
-enum-known-length : tie.Need-enum-known-length Inv-loop μ-loop
-enum-known-length c = search checking
 
 add-at : tie.Need-add-at Inv-loop μ-loop
 add-at c = search checking
@@ -56,14 +54,8 @@ loop-less-2 c = search checking
 loop-again-2 : tie.Need-loop-again-2 Inv-loop μ-loop
 loop-again-2 c = search checking
 
-enum-known-length-2 : tie.Need-enum-known-length-2 Inv-loop μ-loop
-enum-known-length-2 c = search checking
-
 returns-2 : tie.Need-returns-2 Inv-loop μ-loop
 returns-2 c = search checking
-
-returns-3 : tie.Need-returns-3 Inv-loop μ-loop
-returns-3 c = search checking
 
 pub check-text-spec : {M : Type 1} → statement M
 check-text-spec =
@@ -79,13 +71,10 @@ check-text-spec =
     ascii-bytes-requires
     loop-less
     loop-again
-    sequence-at-requires
-    enum-told
+    good-length-requires
+    bad-at-requires
     returns
-    enum-known-length
     add-at
     loop-less-2
     loop-again-2
-    enum-known-length-2
-    returns-2
-    returns-3)
+    returns-2)
