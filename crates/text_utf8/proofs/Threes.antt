@@ -38,8 +38,8 @@ module _ (s : List ℕ) (at : ℕ) (h : 3 ≤ length s - at) where
   pub three-inside : at + 2 < length s
   three-inside = omega arith
 
-  here : drop at s ≡ getD s at 0 ∷ getD s (at + 1) 0 ∷ getD s (at + 2) 0 ∷ drop (at + 3) s
-  here =
+  pub three-here : drop at s ≡ getD s at 0 ∷ getD s (at + 1) 0 ∷ getD s (at + 2) 0 ∷ drop (at + 3) s
+  three-here =
       let one : suc at ≡ at + 1 = omega arith in
       let two : suc (at + 1) ≡ at + 2 = omega arith in
       let three : suc (at + 2) ≡ at + 3 = omega arith in
@@ -53,7 +53,7 @@ module _ (s : List ℕ) (at : ℕ) (h : 3 ≤ length s - at) where
         let second = octet (getD s (at + 1) 0) (sym e ∙ g) in
         let third = octet (getD s (at + 2) 0) (sym f ∙ h) in
         let (d, i) = char-reads (right (right (left (right (left (first ⨾ second ⨾ third)))))) (drop (at + 3) s) in
-        record { code = d; good = ap sequenceOf here ∙ i }
+        record { code = d; good = ap sequenceOf three-here ∙ i }
 
 pub three-none : (s : List ℕ) (at : ℕ) → false ≡ true → Three s at
 three-none s at e = clash e refl

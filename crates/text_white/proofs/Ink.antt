@@ -13,7 +13,7 @@ use Rattle.text_utf8.specs.Utf8.{sequenceOf, pieces}
 use Rattle.text_utf8.proofs.Sequences.{sequence-ascii, sequence-end}
 use Rattle.text_white.specs.White.{whiteRanges, inRanges, isWhite}
 use Rattle.text_white.specs.Trim.{runOf, startsWhite}
-use Rattle.text_white.proofs.TrimLaws.{Running, run-stops, run-more, white-here, first-white, last-white}
+use Rattle.text_white.proofs.TrimLaws.{Running, run-stops, run-more, white-none, white-some, first-white, last-white}
 
 abbrev pub ink : ℕ → Bool
 ink b = within 0x21 0x7F b
@@ -75,7 +75,7 @@ module _ (s : List ℕ) (at : ℕ) where
     pub run-space : Running isWhite s at → getD s at 0 ≡ 0x20 → Running isWhite s (at + 1)
     run-space k e = run-more k (space-reads e) refl (space-white (getD s at 0) e)
 
-pub ruleset white-or-ink = (white-past, white-ink, white-here)
+pub ruleset white-or-ink = (white-past, white-ink, white-none, white-some, needs)
 
 pub ruleset first-past-ink = (ink-passed, first-white)
 

@@ -1,5 +1,5 @@
 -- A good sequence holds no start of another one, so that white space can be found from the end of a text. Assumes nothing.
-use mathlib.Core.Path.{_≡_, refl, sym, _∙_, ap}
+use mathlib.Core.Path.{_≡_, refl, sym, _∙_, ap, ap₂}
 use mathlib.Core.Bool.{Bool, true, false}
 use mathlib.Core.List.{List, [], _∷_}
 use mathlib.Core.Logic.{_⊎_, inl, inr}
@@ -301,4 +301,18 @@ inked-ends s h e p f q =
     go zero z = let y = ending-ink (ending-starts s) h f q in ap (λ x. record { start = 0; «end» = x }) (let w : length s ≡ 0 + trimEnd (drop 0 s) = omega arith in w)
     go (suc n) z = absurd (omega arith)
 
-pub ruleset trimmed = (inked-ends, needs)
+-- A text that ends with ink has nothing to trim there.
+pub inked-end : (s : List ℕ) → {n : ℕ} → n ≡ trimStart s → n < length s → {b : Bool} → b ≡ ink (getD s (length s - 1) 0) → b ≡ true →
+    record { start = n; «end» = length s } ≡ trimBoth s
+inked-end s {n} e h {b} f q = go (trimStart s) e
+  where
+    go : (m : ℕ) → n ≡ m → _≡_ {A = Span} (record { start = n; «end» = length s }) (record { start = m; «end» = m + trimEnd (drop m s) })
+    go m z =
+        let l = length-drop m s in
+        let w : m + (length (drop m s) - 1) ≡ length s - 1 = omega arith in
+        let i : b ≡ ink (getD (drop m s) (length (drop m s) - 1) 0) = rw (getD-drop m s (length (drop m s) - 1) 0, w) f in
+        let y = ending-ink (ending-starts (drop m s)) (omega arith) i q in
+        let v : length s ≡ m + trimEnd (drop m s) = omega arith in
+        ap₂ (λ x y. record { start = x; «end» = y }) z v
+
+pub ruleset trimmed = (inked-ends, inked-end, needs)

@@ -6,35 +6,28 @@ use Prim.Native.Nat.{ℕ, zero, suc, _+_, _-_, _^_, _≤_, _<_}
 use native.Mathlib.Nat.{add-zero, add-assoc}
 use native.Mathlib.Omega.{arith}
 use lib.Dec.{eqb, ltb}
-use lib.ListN.{length, take, drop, length-drop}
+use lib.ListN.{length, getD, take, drop, length-drop}
 use mir.Val.{Fits}
 use mir.Syntax.{w64}
-use borrow.Author.Tests.{eq-eqb, ne-eqb, lt-ltb}
+use borrow.Author.Tests.{eq-eqb, ne-eqb, lt-ltb, eqb-true}
 use borrow.Author.Needs.{needs}
 use Rattle.ground.specs.Choice.{pick}
 use Rattle.ground.specs.Put.{between}
+use Rattle.ground.proofs.Cases.{clash}
 use Rattle.ground.proofs.Parts.{take-rest}
 use Rattle.text_utf8.specs.declared.sequence.Sequence.{Sequence}
 use Rattle.text_utf8.specs.declared.sequence.Sequence.the-variants.{End, Good, Bad}
-use Rattle.text_utf8.specs.Utf8.{sequenceOf, pieces}
-use Rattle.text_white.specs.White.{isWhite}
-use Rattle.text_white.specs.Trim.{runOf, allWhite, trimStart, trimEnd, trimBoth, startsWhite}
-use Rattle.text_white.specs.inner.Before.{whiteLength}
+use Rattle.text_utf8.specs.Utf8.{leadOf, tails, afterLead, sequenceOf, pieces}
+use Rattle.text_white.specs.White.{whiteRanges, inRanges, isWhite}
+use Rattle.text_white.specs.Trim.{runOf, allWhite, trimStart, trimEnd, trimBoth, whiteSequence, startsWhite}
+use Rattle.text_white.specs.inner.Before.{whiteLengthOf, whiteLength}
 use Rattle.text_utf8.proofs.Sequences.{end-empty, good-fits}
+use Rattle.text_utf8.proofs.Threes.{three-here}
 use Rattle.text_places.proofs.PlaceLaws.{seeking, backing}
 use Rattle.text_utf8.proofs.Pieces.{pieces-none, pieces-good, pieces-past, pieces-on, pieces-bad, good-inside}
 
 -- White space at the head of a text, by what was read there.
 module _ {t : Sequence} (l : List ℕ) (e : t ≡ sequenceOf l) where
-  pub white-end : t ≡ End → false ≡ startsWhite l
-  white-end g = rw (sym e ∙ g)
-
-  pub white-good : {d m : ℕ} {b : Bool} → t ≡ Good d m → b ≡ isWhite d → b ≡ startsWhite l
-  white-good g w = rw (sym e ∙ g, w)
-
-  pub white-bad : {m : ℕ} → t ≡ Bad m → false ≡ startsWhite l
-  white-bad g = rw (sym e ∙ g)
-
   pub length-end : t ≡ End → 0 ≡ whiteLength l
   length-end g = rw (sym e ∙ g)
 
@@ -47,7 +40,53 @@ module _ {t : Sequence} (l : List ℕ) (e : t ≡ sequenceOf l) where
   pub length-bad : {m : ℕ} → t ≡ Bad m → 0 ≡ whiteLength l
   length-bad g = rw (sym e ∙ g)
 
-pub ruleset white-here = (white-end, white-good, white-bad, length-end, length-white, length-other, length-bad, needs)
+pub ruleset white-here = (length-end, length-white, length-other, length-bad, needs)
+
+-- U+3000 by its octets
+module _ (s : List ℕ) (at : ℕ) (h : at ≤ length s - 3) where
+  pub wide-inside : 3 ≤ length s → at + 2 < length s
+  wide-inside l = omega arith
+
+  pub wide-stands : 3 ≤ length s → getD s at 0 ≡ 0xE3 → getD s (at + 1) 0 ≡ 0x80 → eqb (getD s (at + 2) 0) 0x80 ≡ true → sequenceOf (drop at s) ≡ Good 0x3000 3
+  unfolding sequenceOf afterLead leadOf tails
+  wide-stands l a b c = rw (three-here s at (omega arith), a, b, eqb-true (getD s (at + 2) 0) 0x80 c)
+
+pub wide-none : (l : List ℕ) → false ≡ true → sequenceOf l ≡ Good 0x3000 3
+wide-none l e = clash e refl
+
+pub length-wide : (l : List ℕ) {r : Bool} → (r ≡ true → sequenceOf l ≡ Good 0x3000 3) → r ≡ true → 3 ≡ whiteLength l
+unfolding isWhite inRanges whiteRanges
+length-wide l f e = rw (f e)
+
+pub ruleset wide = (wide-inside, wide-stands, wide-none, needs)
+
+pub ruleset white-long = (length-wide, needs)
+
+-- White space stands there where it has a length.
+module _ (l : List ℕ) {r : ℕ} (e : r ≡ whiteLength l) where
+  pub white-none : r ≡ 0 → false ≡ startsWhite l
+  white-none z = go (sequenceOf l) refl (sym e ∙ z)
+    where
+      go : (t : Sequence) → sequenceOf l ≡ t → whiteLengthOf t ≡ 0 → false ≡ whiteSequence t
+      go End q i = refl
+      go (Bad m) q i = refl
+      go (Good d m) q i = told (isWhite d) i
+        where
+          told : (b : Bool) → pick b m 0 ≡ 0 → false ≡ b
+          told true j = absurd (let f = good-fits l q in omega arith)
+          told false j = refl
+
+  pub white-some : (r ≡ 0 → ⊥) → true ≡ startsWhite l
+  white-some n = go (sequenceOf l) (λ z. n (e ∙ z))
+    where
+      go : (t : Sequence) → (whiteLengthOf t ≡ 0 → ⊥) → true ≡ whiteSequence t
+      go End m = absurd (m refl)
+      go (Bad k) m = absurd (m refl)
+      go (Good d k) m = told (isWhite d) m
+        where
+          told : (b : Bool) → (pick b k 0 ≡ 0 → ⊥) → true ≡ b
+          told true j = refl
+          told false j = absurd (j refl)
 
 -- A run at the start: the run from here on ends where the run of the whole does.
 pub record Running (p : ℕ → Bool) (s : List ℕ) (at : ℕ) : Type 0 where

@@ -5,8 +5,11 @@ use text_places::Span;
 use text_utf8::Sequence;
 use text_utf8::sequence_at;
 ghost use mathlib.Core.Path.{_≡_};
+ghost use mathlib.Core.Bool.{true};
 ghost use lib.ListN.{drop};
 ghost use Rattle.ground.specs.Choice.{within};
+ghost use Rattle.text_utf8.specs.declared.sequence.Sequence.the-variants.{Good};
+ghost use Rattle.text_utf8.specs.Utf8.{sequenceOf};
 ghost use Rattle.text_white.specs.Trim.{trimStart, trimEnd, trimBoth, afterMarks, startsWhite, firstWhite, lastWhite};
 ghost use Rattle.text_white.specs.inner.Before.{whiteLength, Before};
 
@@ -33,11 +36,10 @@ fn white_at(s: &[u8], at: usize) -> bool
     if is_ink(s[at]) {
         return false;
     }
-    match sequence_at(s, at) {
-        Sequence::End => false,
-        Sequence::Good { code, length: _ } => is_white(code),
-        Sequence::Bad { length: _ } => false,
+    if white_length(s, at) == 0 {
+        return false;
     }
+    true
 }
 
 // Whether the first character of a text is white space.
@@ -94,8 +96,38 @@ pub fn after_marks(s: &[u8]) -> usize
     at
 }
 
+// Whether U+3000 stands at a place: of the white space that is not ASCII the one that texts have, and the last that the table has. Promised
+// is only what passing it needs.
+fn is_wide(s: &[u8], at: usize) -> bool
+    ensures { λ r. ⌜ (r ≡ true → sequenceOf (drop at (now (s .entry))) ≡ Good 0x3000 3) ⌝ }
+{
+    if s.len() < 3 {
+        return false;
+    }
+    if s.len() - 3 < at {
+        return false;
+    }
+    if s[at] != 0xE3 {
+        return false;
+    }
+    if s[at + 1] != 0x80 {
+        return false;
+    }
+    s[at + 2] == 0x80
+}
+
 // The length of the white space character at a place, 0 where there is none.
 fn white_length(s: &[u8], at: usize) -> usize
+    ensures { λ r. ⌜ r ≡ whiteLength (drop at (now (s .entry))) ⌝ }
+{
+    if is_wide(s, at) {
+        return 3;
+    }
+    white_read(s, at)
+}
+
+// The same, by the code point that stands there.
+fn white_read(s: &[u8], at: usize) -> usize
     ensures { λ r. ⌜ r ≡ whiteLength (drop at (now (s .entry))) ⌝ }
 {
     match sequence_at(s, at) {
@@ -154,15 +186,19 @@ pub fn trim_end(s: &[u8]) -> usize
 pub fn trim_both(s: &[u8]) -> Span
     ensures { λ r. ⌜ r ≡ trimBoth (now (s .entry)) ⌝ }
 {
-    // most texts have nothing to trim, and two bytes tell
+    // most texts have nothing to trim at their end, and many none at their start: two bytes tell
     let length = s.len();
     if 0 < length {
-        if is_ink(s[0]) {
-            if is_ink(s[length - 1]) {
+        if is_ink(s[length - 1]) {
+            if is_ink(s[0]) {
                 return Span {
                     start: 0,
                     end: length,
                 };
+            }
+            let start = trim_start(&s[..]);
+            if start < length {
+                return Span { start, end: length };
             }
         }
     }

@@ -1,45 +1,19 @@
 -- `text_white::trim::white_length` meets its contract, by the laws of TrimLaws.
-use Rattle.text_white.proofs.TrimLaws.{white-here}
+use Rattle.text_white.proofs.TrimLaws.{white-long}
 use Rattle.text_white.proofs.trim.white_length.Statement.{statement}
 use Rattle.text_white.proofs.trim.white_length.Tie as tie
 
-sequence-at-requires : tie.Need-sequence-at-requires
-sequence-at-requires c κs = search white-here
-
-enum-told : tie.Need-enum-told
-enum-told c = search white-here
-
-enum-known-code : tie.Need-enum-known-code
-enum-known-code c = search white-here
-
-is-white-requires : tie.Need-is-white-requires
-is-white-requires c κs = search white-here
+is-wide-requires : tie.Need-is-wide-requires
+is-wide-requires c κs = search white-long
 
 returns : tie.Need-returns
-returns c = search white-here
+returns c = search white-long
 
-enum-told-2 : tie.Need-enum-told-2
-enum-told-2 c = search white-here
+white-read-requires : tie.Need-white-read-requires
+white-read-requires c κs = search white-long
 
 returns-2 : tie.Need-returns-2
-returns-2 c = search white-here
-
-returns-3 : tie.Need-returns-3
-returns-3 c = search white-here
-
-returns-4 : tie.Need-returns-4
-returns-4 c = search white-here
+returns-2 c = search white-long
 
 pub white-length-spec : {M : Type 1} → statement M
-white-length-spec =
-    tie.close
-    (tie.spec
-    sequence-at-requires
-    enum-told
-    enum-known-code
-    is-white-requires
-    returns
-    enum-told-2
-    returns-2
-    returns-3
-    returns-4)
+white-length-spec = tie.close (tie.spec is-wide-requires returns white-read-requires returns-2)
