@@ -1,5 +1,5 @@
 -- Lines that show by their first byte that they are no class lines. Assumes nothing.
-use mathlib.Core.Path.{_≡_, refl, sym, ap}
+use mathlib.Core.Path.{_≡_, refl, sym, _∙_, ap}
 use mathlib.Core.Bool.{Bool, true, false}
 use mathlib.Core.List.{List, [], _∷_}
 use Prim.Native.Nat.{ℕ, _+_}
@@ -64,10 +64,6 @@ space-white : (t : List ℕ) → startsWhite (0x20 ∷ t) ≡ true
 unfolding sequenceOf afterLead leadOf tails isWhite inRanges whiteRanges
 space-white t = refl
 
-tab-white : (t : List ℕ) → startsWhite (9 ∷ t) ≡ true
-unfolding sequenceOf afterLead leadOf tails isWhite inRanges whiteRanges
-tab-white t = refl
-
 -- `#` is no white space, so that the trimmed line starts with it
 hash-first : (t : List ℕ) → _≡_ {A = ℕ} (trimBoth (0x23 ∷ t) .start) 0
 unfolding runOf piecesFrom sequenceOf afterLead leadOf tails isWhite inRanges whiteRanges
@@ -87,6 +83,9 @@ opened : (P : List ℕ → Type 0) (b : ℕ) → ((t : List ℕ) → P (b ∷ t)
 opened P b f [] n e = absurd (n refl)
 opened P b f (x ∷ t) n e = let same : x ≡ b = e in rw same (f t)
 
+pub told-no-class : (l : List ℕ) {r : Bool} → r ≡ startsWhite l → r ≡ true → classIn l (lineOf l) ≡ []
+told-no-class l e f = white-no-class l (sym e ∙ f)
+
 pub empty-no-class : (l : List ℕ) → length l ≡ 0 → classIn l (lineOf l) ≡ []
 unfolding runOf piecesFrom trimEnd
 empty-no-class [] e = refl
@@ -95,9 +94,6 @@ empty-no-class (x ∷ t) e = absurd (omega arith)
 module _ (l : List ℕ) (n : length l ≡ 0 → ⊥) where
   pub space-no-class : getD l 0 0 ≡ 0x20 → classIn l (lineOf l) ≡ []
   space-no-class = opened (λ x. classIn x (lineOf x) ≡ []) 0x20 (λ t. white-no-class (0x20 ∷ t) (space-white t)) l n
-
-  pub tab-no-class : getD l 0 0 ≡ 9 → classIn l (lineOf l) ≡ []
-  tab-no-class = opened (λ x. classIn x (lineOf x) ≡ []) 9 (λ t. white-no-class (9 ∷ t) (tab-white t)) l n
 
   pub hash-no-class : getD l 0 0 ≡ 0x23 → classIn l (lineOf l) ≡ []
   hash-no-class = opened (λ x. classIn x (lineOf x) ≡ []) 0x23 hash-line l n

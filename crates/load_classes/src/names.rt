@@ -2,6 +2,7 @@
 use line::Line;
 use line::read_line;
 use text_places::Span;
+use text_white::starts_white;
 ghost use Rattle.load_classes.specs.inner.Names.{NamedBy};
 
 pub struct ClassNames {
@@ -14,7 +15,8 @@ pub enum ClassLine {
     Other,
 }
 
-// The names of a line, if it is a class line. Most lines are none, and most of those show it by their first byte: a space or a tab, or `#`.
+// The names of a line, if it is a class line. Most lines are none, and most of those show it by their first byte: a space or `#`. A line that
+// starts with other white space is none either.
 pub fn class_line(line: &[u8]) -> ClassLine
     ensures { λ r. ⌜ NamedBy r (now (line .entry)) ⌝ }
 {
@@ -24,10 +26,10 @@ pub fn class_line(line: &[u8]) -> ClassLine
     if line[0] == b' ' {
         return ClassLine::Other;
     }
-    if line[0] == 9 {
+    if line[0] == b'#' {
         return ClassLine::Other;
     }
-    if line[0] == b'#' {
+    if starts_white(line) {
         return ClassLine::Other;
     }
     match read_line(line) {

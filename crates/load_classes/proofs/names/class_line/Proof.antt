@@ -18,8 +18,8 @@ shared-slice-read-if3 c = search naming
 returns-3 : tie.Need-returns-3
 returns-3 c = search naming
 
-shared-slice-read-if4 : tie.Need-shared-slice-read-if4
-shared-slice-read-if4 c = search naming
+starts-white-requires : tie.Need-starts-white-requires
+starts-white-requires c κs = search naming
 
 returns-4 : tie.Need-returns-4
 returns-4 c = search naming
@@ -72,7 +72,7 @@ class-line-spec =
     returns-2
     shared-slice-read-if3
     returns-3
-    shared-slice-read-if4
+    starts-white-requires
     returns-4
     read-line-requires
     enum-told
