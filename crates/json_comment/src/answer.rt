@@ -4,6 +4,7 @@ use json::member_at;
 use json::skip_space;
 use json::structural_at;
 use json_decode::decoded_is;
+use json_decode::stands_for;
 use json_string::After;
 ghost use mathlib.Core.Path.{_≡_};
 ghost use Prim.Native.Nat.{_≤_, _<_};
@@ -124,5 +125,5 @@ pub fn read_comment(s: &[u8]) -> Comment
 pub fn is_residual(s: &[u8], start: usize) -> bool
     ensures { λ r. ⌜ r ≡ residualOf (charsFrom 0 (drop start (now (s .entry)))) ⌝ }
 {
-    decoded_is(s, start, b"com.android.tools.r8.residualsignature")
+    stands_for(s, start, b"com.android.tools.r8.residualsignature")
 }

@@ -3,3 +3,4 @@ pub mod Lengths
 pub mod OctetLaws
 pub mod Comparing
 pub mod Writing
+pub mod OwnLaws

@@ -1,2 +1,3 @@
 -- Words of inner contracts.
 pub mod Octets
+pub mod Plain

@@ -56,7 +56,7 @@ four (Grammar.u4 {x} {y} {z} {w} {a} {b} {c} {d} p q r s) = record {
 }
 
 -- Chars.
-plain : (x : ℕ) (s : List ℕ) → (x ≡ 0x22 → ⊥) → (x ≡ 0x5C → ⊥) → 0x20 ≤ x → x ≤ 0xFF → pieceOf (x ∷ s) ≡ stands (x ∷ []) 0
+pub plain : (x : ℕ) (s : List ℕ) → (x ≡ 0x22 → ⊥) → (x ≡ 0x5C → ⊥) → 0x20 ≤ x → x ≤ 0xFF → pieceOf (x ∷ s) ≡ stands (x ∷ []) 0
 unfolding pieceOf
 plain x s p q l h = rw (ne-eqb x 0x22 p, ne-eqb x 0x5C q, within-yes 0x20 0xFF x l h)
 
@@ -156,7 +156,7 @@ chars-cons : (l : List ℕ) {v w q : List ℕ} {n : ℕ} → pieceOf l ≡ stand
 unfolding andThen
 chars-cons l p e = chars-stands l p ∙ rw e
 
-quote-closes : (r : List ℕ) → charsFrom 0 (0x22 ∷ r) ≡ got [] r
+pub quote-closes : (r : List ℕ) → charsFrom 0 (0x22 ∷ r) ≡ got [] r
 unfolding charsFrom pieceOf
 quote-closes r = refl
 

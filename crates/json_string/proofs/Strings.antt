@@ -5,22 +5,24 @@ use mathlib.Core.List.{List, [], _∷_, _++_}
 use Prim.Native.Nat.{ℕ, suc, _+_, _-_, _≤_, _<_}
 use native.Mathlib.Omega.{arith}
 use lib.Dec.{eqb, leb}
-use lib.ListN.{length, getD, drop, drop-of-length-le}
-use lib.Seq.{drop-drop}
+use lib.ListN.{length, getD, take, drop, drop-of-length-le}
+use lib.Seq.{drop-drop, getD-drop}
 use mir.Val.{Fits}
 use mir.Syntax.{w8}
 use borrow.Author.Needs.{needs}
 use borrow.Author.Tests.{eqb-false, leb-true}
 use Rattle.ground.specs.Choice.{pick}
+use Rattle.ground.specs.Put.{between}
 use Rattle.json_grammar.specs.Reader as Reader
 use Rattle.json_grammar.specs.Reader.{bad, andThen, pieceOf, charsFrom}
 use Rattle.json_grammar.specs.Encode.{utf8}
 use Rattle.json_grammar.proofs.Items.{before, before-nothing, before-both}
-use Rattle.json_grammar.proofs.StringsAll.{chars-none, chars-stands, chars-close, chars-wrong}
+use Rattle.json_grammar.proofs.StringsAll.{plain, chars-none, chars-stands, chars-close, chars-wrong}
 use Rattle.json_string.specs.declared.string.Piece.{Piece}
 use Rattle.json_string.specs.declared.string.Piece.the-variants.{Byte, Code, Closes, Wrong}
 use Rattle.json_string.specs.inner.Means.{Reached}
-use Rattle.json_string.specs.inner.Pieces.{Stood, Coded, Closed, PieceMeans, isPlain}
+use Rattle.json_string.specs.inner.Pieces.{Stood, Coded, Closed, PieceMeans}
+use Rattle.json_string.specs.inner.Plain.{isPlain, plainRun}
 use Rattle.json_string.proofs.PieceLaws.{piece-end, piece-plain}
 
 -- the answer is a code point
@@ -120,4 +122,29 @@ module _ {s : List ℕ} {start at : ℕ} (k : Stringing s start at) (h : at < le
   pub plain-falls : length s - (at + 1) < length s - at
   plain-falls = omega arith
 
-pub ruleset stringing = (plain-on, plain-falls, string-starts, string-cut, byte-on, code-on, byte-falls, code-falls, string-closed, string-wrong, needs)
+-- Plain bytes stand for themselves, in front of what the rest stands for.
+run-before : (l : List ℕ) → ((i : ℕ) → Fits w8 (getD l i 0)) → charsFrom 0 l ≡ before (take (plainRun l) l) (charsFrom 0 (drop (plainRun l) l))
+unfolding plainRun
+run-before [] w = before-nothing (charsFrom 0 [])
+run-before (x ∷ l) w = go (isPlain x) refl (run-before l (λ i. w (suc i)))
+  where
+    go : (b : Bool) → isPlain x ≡ b → charsFrom 0 l ≡ before (take (plainRun l) l) (charsFrom 0 (drop (plainRun l) l)) →
+        charsFrom 0 (x ∷ l) ≡ before (take (pick b (suc (plainRun l)) 0) (x ∷ l)) (charsFrom 0 (drop (pick b (suc (plainRun l)) 0) (x ∷ l)))
+    go true e again =
+        let f = plain-facts x e in
+        chars-stands (x ∷ l) (plain x l (f .0) (f .1) (f .2) (omega (arith, w 0)))
+        ∙ ap (before (x ∷ [])) again
+        ∙ before-both (x ∷ []) (take (plainRun l) l) (charsFrom 0 (drop (plainRun l) l))
+    go false e again = before-nothing (charsFrom 0 (x ∷ l))
+
+module _ (s : List ℕ) (start : ℕ) {r : ℕ} (e : r ≡ start + plainRun (drop start s)) (w : (i : ℕ) → Fits w8 (getD s i 0)) where
+  pub run-decides : charsFrom 0 (drop start s) ≡ before (between s start r) (charsFrom 0 (drop r s))
+  run-decides =
+      let size : r - start ≡ plainRun (drop start s) = omega arith in
+      let rest : drop (plainRun (drop start s)) (drop start s) ≡ drop r s = drop-drop (plainRun (drop start s)) start s ∙ ap (λ i. drop i s) (sym e) in
+      rw (size, ← rest) (run-before (drop start s) (λ i. rw (getD-drop start s i 0) (w (start + i))))
+
+  pub run-on : Stringing s start r
+  run-on = record { goes = omega arith; passed = between s start r; decides = run-decides }
+
+pub ruleset stringing = (plain-on, plain-falls, run-on, string-cut, byte-on, code-on, byte-falls, code-falls, string-closed, string-wrong, needs)

@@ -1,11 +1,13 @@
 // Strings (RFC 8259, section 7), char by char.
 use crate::after::After;
+use crate::plain::is_plain;
+use crate::plain::plain_end;
 ghost use mathlib.Core.Path.{_≡_};
 ghost use Prim.Native.Nat.{_+_, _≤_, _<_};
 ghost use lib.ListN.{length, drop};
 ghost use Rattle.json_grammar.specs.Reader.{hexdig, hexValue, hex4, second, unicode, escape, pieceOf, charsFrom};
 ghost use Rattle.json_string.specs.inner.Means.{Means};
-ghost use Rattle.json_string.specs.inner.Pieces.{PieceMeans, shortByte, isPlain};
+ghost use Rattle.json_string.specs.inner.Pieces.{PieceMeans, shortByte};
 
 // What stands at a place inside a string, and the place after it.
 pub enum Piece {
@@ -198,19 +200,6 @@ fn every_piece_at(s: &[u8], at: usize) -> Piece
     Piece::Wrong
 }
 
-// Whether a byte alone tells that it is a char: it ends no string, starts no escape and is no control character.
-fn is_plain(octet: u8) -> bool
-    ensures { λ r. ⌜ r ≡ isPlain octet ⌝ }
-{
-    if octet == b'"' {
-        return false;
-    }
-    if octet == b'\\' {
-        return false;
-    }
-    0x20 <= octet
-}
-
 // The same. Most chars are plain: no more is asked of them, and the compiler puts that test where this is called.
 pub fn piece_at(s: &[u8], at: usize) -> Piece
     ensures { λ r. ⌜ PieceMeans (now (s .entry)) at r (pieceOf (drop at (now (s .entry)))) ⌝ }
@@ -229,7 +218,7 @@ pub fn piece_at(s: &[u8], at: usize) -> Piece
 pub fn string_end(s: &[u8], start: usize) -> After
     ensures { λ r. ⌜ Means (now (s .entry)) r (charsFrom 0 (drop start (now (s .entry)))) ⌝ }
 {
-    let mut at = start;
+    let mut at = plain_end(s, start);
     while at < s.len() {
         // most chars: no more is asked
         if is_plain(s[at]) {

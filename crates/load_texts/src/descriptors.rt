@@ -2,12 +2,14 @@
 use descriptor::settle_signature;
 use json_decode::Written;
 use json_decode::decode_at;
+use json_decode::plain_string;
 use line_parts::NextArgument;
 use line_parts::next_argument;
 use load_raw_types::put_raw_type;
 use table_pool::Wrote;
 use table_pool::put_text;
 use table_rows::ClassRow;
+use text_places::Place;
 ghost use mathlib.Core.List.{_∷_};
 ghost use Prim.Native.Nat.{_≤_};
 ghost use lib.ListN.{length, drop};
@@ -21,14 +23,27 @@ ghost use Rattle.descriptor.specs.Raw.{rawTypeOf};
 ghost use Rattle.load_raw_types.specs.inner.Behind.{Indexed};
 ghost use Rattle.load_rule.specs.Members.{argumentTypes, typesDescriptor};
 
-// A residual signature: the string of a comment, whose first char stands at the place `string`. It is decoded and then settled where it
-// stands.
+// A raw signature as it stands in a text: it is copied, and then settled where it stands.
+fn copy_signature(pool: &mut [u8], at: usize, signature: &[u8], method: bool) -> Wrote
+    ensures { λ r. ⌜ WroteBy r (now (pool .entry)) at (rawSignature method (now (signature .entry))) (now (pool .exit)) ⌝ }
+{
+    let Wrote::Done(end) = put_text(pool, at, signature) else {
+        return Wrote::NoRoom;
+    };
+    settle_signature(pool, at, end, method)
+}
+
+// A residual signature: the string of a comment, whose first char stands at the place `string`. It is decoded, or copied where it has no
+// escapes, and then settled where it stands.
 pub fn put_signature(pool: &mut [u8], at: usize, json: &[u8], string: usize, method: bool) -> Wrote
     requires { ⌜ at ≤ length (now pool) ⌝ }
     ensures { λ r.
         ⌜ WroteBy r (now (pool .entry)) at (rawSignature method (decoded (charsFrom 0 (drop string (now (json .entry))))))
         (now (pool .exit)) ⌝ }
 {
+    if let Place::At(end) = plain_string(json, string) {
+        return copy_signature(pool, at, &json[string..end], method);
+    }
     match decode_at(pool, at, json, string) {
         Written::Done(end) => settle_signature(pool, at, end, method),
         Written::NoRoom => Wrote::NoRoom,

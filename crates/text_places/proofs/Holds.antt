@@ -66,7 +66,7 @@ head-is : (b : ℕ) (l : List ℕ) → starts b l ≡ true → getD l 0 0 ≡ b
 head-is b [] e = clash e refl
 head-is b (x ∷ l) e = eqb-true x b e
 
-byte-is : (b : ℕ) (s : List ℕ) (i : ℕ) → starts b (drop i s) ≡ true → getD s i 0 ≡ b
+pub byte-is : (b : ℕ) (s : List ℕ) (i : ℕ) → starts b (drop i s) ≡ true → getD s i 0 ≡ b
 byte-is b s i e = rw (getD-drop i s 0 0, add-zero i) at (head-is b (drop i s) e)
 
 pub first-is : (b : ℕ) (s : List ℕ) {i : ℕ} → firstWhere (starts b) s ≡ At i → getD s i 0 ≡ b

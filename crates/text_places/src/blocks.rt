@@ -8,7 +8,7 @@ ghost use Rattle.ground.specs.Choice.{pick, bit};
 ghost use Rattle.text_places.specs.inner.Blocks.{Without};
 
 // One byte more: whether it or one before it is `b`.
-fn marked(holds: bool, x: u8, b: u8) -> bool
+pub fn marked(holds: bool, x: u8, b: u8) -> bool
     ensures { λ r. ⌜ r ≡ pick (eqb x b) true holds ⌝ }
 {
     if x == b {

@@ -7,6 +7,7 @@ mod lines;
 mod numbers;
 mod spans;
 
+pub use blocks::marked;
 pub use eights::also_differs;
 pub use eights::same_text;
 pub use find::Place;

@@ -1,9 +1,8 @@
 -- What stands at a place inside a string, in terms of RFC 8259's reader on lists.
 use mathlib.Core.Path.{_≡_}
-use mathlib.Core.Bool.{Bool, false}
 use mathlib.Core.List.{List, [], _∷_}
 use Prim.Native.Nat.{ℕ, suc, _+_, _≤_, _<_}
-use lib.Dec.{eqb, leb}
+use lib.Dec.{eqb}
 use lib.ListN.{length}
 use Rattle.ground.specs.Choice.{pick}
 use Rattle.json_grammar.specs.Encode.{utf8}
@@ -43,7 +42,3 @@ abbrev pub shortByte : ℕ → ℕ
 shortByte x =
     pick (eqb x 0x22) 0x22 (pick (eqb x 0x5C) 0x5C (pick (eqb x 0x2F) 0x2F (pick (eqb x 0x62) 0x08
     (pick (eqb x 0x66) 0x0C (pick (eqb x 0x6E) 0x0A (pick (eqb x 0x72) 0x0D (pick (eqb x 0x74) 0x09 0)))))))
-
--- a byte that is a char by itself
-abbrev pub isPlain : ℕ → Bool
-isPlain x = pick (eqb x 0x22) false (pick (eqb x 0x5C) false (leb 0x20 x))

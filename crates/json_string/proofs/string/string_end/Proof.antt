@@ -11,6 +11,9 @@ Inv-loop s start at₀ at = Stringing s start at
 abbrev μ-loop : tie.MeasureT-loop
 μ-loop s start at₀ at = length s - at
 
+plain-end-requires : tie.Need-plain-end-requires Inv-loop μ-loop
+plain-end-requires c κs = search stringing
+
 loop-holds : tie.Need-loop-holds Inv-loop μ-loop
 loop-holds c = search stringing
 
@@ -71,6 +74,7 @@ string-end-spec =
     (tie.spec
     Inv-loop
     μ-loop
+    plain-end-requires
     loop-holds
     shared-slice-read-is-plain
     is-plain-requires

@@ -1,7 +1,7 @@
--- `json_string::string::is_plain` meets its contract, by the laws of PieceLaws.
+-- `json_string::plain::is_plain` meets its contract, by the laws of PieceLaws.
 use Rattle.json_string.proofs.PieceLaws.{by-byte}
-use Rattle.json_string.proofs.string.is_plain.Statement.{statement}
-use Rattle.json_string.proofs.string.is_plain.Tie as tie
+use Rattle.json_string.proofs.plain.is_plain.Statement.{statement}
+use Rattle.json_string.proofs.plain.is_plain.Tie as tie
 
 returns : tie.Need-returns
 returns c = search by-byte
