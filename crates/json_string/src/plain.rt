@@ -79,7 +79,7 @@ pub fn plain_end(s: &[u8], start: usize) -> usize
         if is_plain(s[at]) {
             at += 1;
             // most strings are short: blocks are asked only in long ones
-            if at - start == 16 {
+            if at - start == 4 {
                 at = plain_blocks(s, at);
             }
             continue;
