@@ -4,4 +4,4 @@ pub mod Entering
 pub mod Slots
 pub mod Filling
 pub mod Adding
-pub mod Applied
+pub mod Behind

@@ -1,4 +1,5 @@
 -- Words of inner contracts: no rule cites them.
+pub mod Passed
 pub mod Roles
 pub mod Enters
 pub mod Filled

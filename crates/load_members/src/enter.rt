@@ -1,7 +1,9 @@
 // What a line adds to the rows and the pool.
+use crate::passed::none_passed;
 use crate::role::Role;
 use crate::role::role_of;
 use crate::row::member_row;
+use load_residual::Passed;
 use load_residual::residual_after;
 use load_scan::LineStep;
 use load_texts::Entered;
@@ -24,8 +26,8 @@ pub struct Slot {
 }
 
 pub enum NextSlot {
-    // How many bytes behind the line are passed: those of a comment that gives the member a signature, or none.
-    At(Slot, usize),
+    // Where the next one goes, and the blank lines and comments that were read with this line: those behind a member.
+    At(Slot, Passed),
     // Rows or pool do not hold the member.
     NoRoom,
 }
@@ -72,7 +74,7 @@ fn enter_member(
     let after = &text[next..];
     let bytes = &text[start..end];
     let own = &text[first..last];
-    let looked = residual_after(after, 0);
+    let looked = residual_after(after);
     let given = looked.residual;
     let texts = write_texts(pool, place, after, given, bytes, parts, own, classes, index);
     let Entered::At(places) = texts else {
@@ -83,7 +85,8 @@ fn enter_member(
     let mut following = slot;
     following.row += 1;
     following.place = places.end;
-    NextSlot::At(following, looked.passed)
+    let passed = looked.passed;
+    NextSlot::At(following, passed)
 }
 
 // A class line names the class of the members after it, a member line is entered.
@@ -103,13 +106,13 @@ pub fn enter_line(
 {
     let kind = line.kind;
     match role_of(kind) {
-        Role::Neither => NextSlot::At(slot, 0),
+        Role::Neither => NextSlot::At(slot, none_passed()),
         Role::Class(display) => {
             let mut named = slot;
             named.classes += 1;
             named.own = line.start + display.start;
             named.own_end = line.start + display.end;
-            NextSlot::At(named, 0)
+            NextSlot::At(named, none_passed())
         }
         Role::Member(parts) => enter_member(members, pool, text, line, parts, slot, classes, index),
     }

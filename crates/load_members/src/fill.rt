@@ -2,7 +2,7 @@
 use crate::enter::NextSlot;
 use crate::enter::enter_line;
 use crate::enter::first_slot;
-use load_rule::Fate;
+use crate::passed::with_passed;
 use load_rule::Fates;
 use load_rule::Scan;
 use load_scan::Step;
@@ -72,11 +72,9 @@ pub fn write_members(
                     return Filled::Short(scan_from(text, at, fates, member));
                 };
                 slot = after;
-                // The comment behind a member was read with it.
-                if 0 < passed {
-                    at += passed;
-                    fates = counted(fates, Fate::Applied);
-                }
+                // Blank lines and comments behind a member were read with it.
+                at += passed.bytes;
+                fates = with_passed(fates, passed);
             }
         }
     }

@@ -1,6 +1,7 @@
 // Member rows, written with their texts while the lines of a text are read.
 mod enter;
 mod fill;
+mod passed;
 mod role;
 mod row;
 

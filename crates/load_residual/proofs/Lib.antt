@@ -1,5 +1,6 @@
 -- Laws, one file a subject.
 pub mod Giving
 pub mod Opened
-pub mod Following
+pub mod Ahead
 pub mod Passing
+pub mod Following

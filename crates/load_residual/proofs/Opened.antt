@@ -1,9 +1,9 @@
 -- What a line opens with. Assumes nothing.
 use mathlib.Core.Path.{_≡_, refl, sym, _∙_, ap}
-use mathlib.Core.Bool.{Bool, true, false}
 use mathlib.Core.List.{List}
 use mathlib.Core.Logic.{_⊎_, inl, inr}
 use Prim.Native.Nat.{ℕ, _+_, _-_, _≤_, _<_}
+use native.Mathlib.Omega.{arith}
 use lib.ListN.{length, getD}
 use borrow.Author.Needs.{needs}
 use Rattle.text_places.specs.declared.find.Place.{Place}
@@ -27,6 +27,8 @@ use Rattle.line_parts.specs.Arrows.{arrowOf, classSides}
 use Rattle.line_parts.specs.Fields.{fieldOf}
 use Rattle.line_parts.specs.Methods.{methodOf}
 use Rattle.line.specs.Kinds.{classBy, classAt, methodBy, fieldBy, bySide, memberBy, memberAt, lineOf}
+use Rattle.ground.specs.Look.{Look, unknown}
+use Rattle.load_rule.specs.Comments.{residualBy}
 use Rattle.line.proofs.Kinding.{line-blank, line-first, line-member, line-class}
 use Rattle.load_residual.specs.declared.residual.Opening.the-variants.{Blank, Comment, Other}
 use Rattle.load_residual.specs.inner.Residuals.{openingOf}
@@ -94,3 +96,29 @@ module _ (s : List ℕ) {t : Line} (e : t ≡ lineOf s) where
   read-refused f = ap openingOf (sym f ∙ e)
 
 pub ruleset opened = (opens-blank, opens-inside, opens-other, read-blank, read-comment, read-class, read-field, read-method, read-refused, needs)
+
+-- What a line is by its opening.
+pub blank-is : (k : Line) → openingOf k ≡ Blank → k ≡ kinds.Blank
+blank-is kinds.Blank e = refl
+blank-is (kinds.Comment p) e = absurd (let z : _≡_ {A = ℕ} 0 1 = cc in omega arith)
+blank-is (kinds.Class d r) e = absurd (let z : _≡_ {A = ℕ} 0 1 = cc in omega arith)
+blank-is (kinds.Field d n r) e = absurd (let z : _≡_ {A = ℕ} 0 1 = cc in omega arith)
+blank-is (kinds.Method m r) e = absurd (let z : _≡_ {A = ℕ} 0 1 = cc in omega arith)
+blank-is (kinds.Refused n) e = absurd (let z : _≡_ {A = ℕ} 0 1 = cc in omega arith)
+
+pub comment-is : (k : Line) {p : Place} → openingOf k ≡ Comment p → k ≡ kinds.Comment p
+comment-is kinds.Blank e = absurd (let z : _≡_ {A = ℕ} 0 1 = cc in omega arith)
+comment-is (kinds.Comment p) e = cc
+comment-is (kinds.Class d r) e = absurd (let z : _≡_ {A = ℕ} 0 1 = cc in omega arith)
+comment-is (kinds.Field d n r) e = absurd (let z : _≡_ {A = ℕ} 0 1 = cc in omega arith)
+comment-is (kinds.Method m r) e = absurd (let z : _≡_ {A = ℕ} 0 1 = cc in omega arith)
+comment-is (kinds.Refused n) e = absurd (let z : _≡_ {A = ℕ} 0 1 = cc in omega arith)
+
+-- what it gives where it is any other line
+pub other-by : (l : List ℕ) (k : Line) (later : Look) → openingOf k ≡ Other → residualBy l k later ≡ unknown
+other-by l kinds.Blank later e = absurd (let z : _≡_ {A = ℕ} 0 1 = cc in omega arith)
+other-by l (kinds.Comment p) later e = absurd (let z : _≡_ {A = ℕ} 0 1 = cc in omega arith)
+other-by l (kinds.Class d r) later e = refl
+other-by l (kinds.Field d n r) later e = refl
+other-by l (kinds.Method m r) later e = refl
+other-by l (kinds.Refused n) later e = refl

@@ -1,47 +1,60 @@
--- A comment that is passed, in the text whose rest was looked at. Assumes nothing.
+-- The blank lines and comments that are passed: how many there can be, and where they stand in the text that goes on before them.
+-- Assumes nothing.
 use mathlib.Core.Path.{_≡_, sym, _∙_, ap}
 use mathlib.Core.List.{List, _∷_}
 use Prim.Native.Nat.{ℕ, _+_, _-_, _≤_}
 use native.Mathlib.Omega.{arith}
 use lib.ListN.{length, drop, length-drop}
 use lib.Seq.{drop-drop}
+use borrow.Author.Needs.{needs}
 use Rattle.ground.specs.Put.{between}
-use Rattle.ground.proofs.Parts.{take-rest, part-part}
 use Rattle.text_places.specs.Lines.{lines, Taken}
-use Rattle.line.specs.Kinds.{lineOf}
-use Rattle.ground.specs.Look.{isKnown}
-use Rattle.load_rule.specs.Comments.{signatureAt}
-use Rattle.load_residual.specs.inner.Residuals.{Signed}
+use Rattle.load_residual.specs.declared.residual.Passed.{Passed}
+use Rattle.load_residual.specs.declared.residual.Residual.{Residual}
+use Rattle.load_residual.specs.declared.residual.Residual.the-variants.{Text, Nothing}
+use Rattle.load_residual.specs.inner.Passes.{passedOf, withComment, Passes, none, blank, applied, idle}
 
--- the first line of what is left from the place `n` on is the line there
-taken-there : (s : List ℕ) (n : ℕ) {a e m : ℕ} → n ≤ length s → Taken (between s n (length s)) 0 a e m → Taken s n (n + a) (n + e) (n + m)
-taken-there s n {a} {e} {m} h t =
-    let rest = take-rest s n in
-    let size : length (between s n (length s)) ≡ length s - n = ap length rest ∙ length-drop n s in
-    let o = t .order in
-    let w = t .ends in
-    let p = t .past in
-    let i = t .inside in
-    record {
-      order = omega arith;
-      ends = omega arith;
-      past = omega arith;
-      inside = omega arith;
-      split =
-          ap lines (sym rest) ∙ t .split ∙ ap (λ l. l ∷ lines (drop m (between s n (length s)))) (part-part s n (length s) a e (omega arith))
-          ∙ ap (λ l. between s (n + a) (n + e) ∷ lines l) (ap (drop m) rest ∙ drop-drop m n s);
-    }
+-- One comment more, by what it gives.
+module _ (k : Passed) (next : ℕ) {own : Residual} where
+  pub with-text : {a e p : ℕ} → own ≡ Text a e p → passedOf next (k .blank) (k .applied + 1) (k .idle) ≡ withComment k next own
+  with-text f = sym (ap (withComment k next) f)
 
-pub signed-there : (s : List ℕ) (n : ℕ) {m : ℕ} → n ≤ length s → Signed (between s n (length s)) 0 m → Signed s n (n + m)
-signed-there s n h g =
-    let w = g .taken .ends in
-    let size : length (between s n (length s)) ≡ length s - n = ap length (take-rest s n) ∙ length-drop n s in
-    let same : between (between s n (length s)) (g .start) (g .«end») ≡ between s (n + g .start) (n + g .«end») = part-part s n (length s) (g .start) (g .«end») (omega arith) in
-    record {
-      start = n + g .start;
-      «end» = n + g .«end»;
-      brace = g .brace;
-      taken = taken-there s n h (g .taken);
-      comment = ap lineOf (sym same) ∙ g .comment;
-      given = ap (λ l. isKnown (signatureAt l (g .brace))) (sym same) ∙ g .given;
-    }
+  pub with-nothing : own ≡ Nothing → passedOf next (k .blank) (k .applied) (k .idle + 1) ≡ withComment k next own
+  with-nothing f = sym (ap (withComment k next) f)
+
+pub ruleset with-comments = (with-text, with-nothing, needs)
+
+pub passes-inside : (s : List ℕ) (k : Passed) → Passes s k → k .bytes ≤ length s
+passes-inside s k none = omega arith
+passes-inside s k (blank j a e n p t l) = t .inside
+passes-inside s k (applied j a e n brace p t l g) = t .inside
+passes-inside s k (idle j a e n brace p t l g) = t .inside
+
+-- each line has a byte at least
+pub passes-few : (s : List ℕ) (k : Passed) → Passes s k → k .blank + k .applied + k .idle ≤ k .bytes
+passes-few s k none = omega arith
+passes-few s k (blank j a e n p t l) = let f = passes-few s j p in let o = t .past in omega arith
+passes-few s k (applied j a e n brace p t l g) = let f = passes-few s j p in let o = t .past in omega arith
+passes-few s k (idle j a e n brace p t l g) = let f = passes-few s j p in let o = t .past in omega arith
+
+-- a line of what is left from the place `n` on is a line there
+module _ (s : List ℕ) (n : ℕ) where
+  pub part-there : (a e : ℕ) → between (drop n s) a e ≡ between s (n + a) (n + e)
+  part-there a e = let same : n + e - (n + a) ≡ e - a = omega arith in rw (same, drop-drop a n s)
+
+  pub taken-there : {at a e m : ℕ} → n ≤ length s → Taken (drop n s) at a e m → Taken s (n + at) (n + a) (n + e) (n + m)
+  taken-there {at} {a} {e} {m} h t =
+      let size = length-drop n s in
+      let o = t .order in
+      let w = t .ends in
+      let p = t .past in
+      let i = t .inside in
+      record {
+        order = omega arith;
+        ends = omega arith;
+        past = omega arith;
+        inside = omega arith;
+        split =
+            ap lines (sym (drop-drop at n s)) ∙ t .split ∙ ap (λ l. l ∷ lines (drop m (drop n s))) (part-there a e)
+            ∙ ap (λ l. between s (n + a) (n + e) ∷ lines l) (drop-drop m n s);
+      }

@@ -10,13 +10,16 @@ use text_places::Place;
 use text_places::next_line;
 use text_white::trim_both;
 ghost use mathlib.Core.Path.{_≡_};
-ghost use Prim.Native.Nat.{_+_};
+ghost use Prim.Native.Nat.{_≤_, _<_};
+ghost use lib.ListN.{length, drop};
 ghost use Rattle.line.specs.declared.line.Line.the-variants as kinds;
 ghost use Rattle.line.specs.Kinds.{lineOf};
 ghost use Rattle.load_rule.specs.Comments.{signatureOf, signatureAt};
+ghost use Rattle.load_rule.specs.Loading.{mostText};
 ghost use Rattle.text_places.specs.Spans.{shift, Lies, largest};
 ghost use Rattle.ground.specs.Look.{isKnown};
-ghost use Rattle.load_residual.specs.inner.Residuals.{placeLook, jsonPart, openingOf, laterOf, passedBy, Gives, Looks};
+ghost use Rattle.load_residual.specs.inner.Residuals.{placeLook, jsonPart, openingOf, otherAhead, laterOf, Gives};
+ghost use Rattle.load_residual.specs.inner.Passes.{withComment, Looks};
 
 // A string in a text: its JSON runs from `start` to `end`, and its first char stands at the place `string` of the JSON.
 pub enum Residual {
@@ -28,11 +31,19 @@ pub enum Residual {
     Nothing,
 }
 
-// What the lines from a place on give, and where the line after the first one starts, if the first is a comment that gives a signature,
-// else that place: who goes over the lines need not read such a comment again.
+// Blank lines and comments that stand behind a member: how many bytes they are in all, how many of them are blank, how many give a
+// signature, and how many don't.
+pub struct Passed {
+    pub bytes: usize,
+    pub blank: u32,
+    pub applied: u32,
+    pub idle: u32,
+}
+
+// What the lines behind a member give, and those that were read for it: who goes over the lines need not read these again.
 pub struct Looked {
     pub residual: Residual,
-    pub passed: usize,
+    pub passed: Passed,
 }
 
 // A line that may stand between a member and its signature, or any other line.
@@ -138,45 +149,77 @@ fn later(before: Residual, by: usize, line: Residual) -> Residual
     }
 }
 
-// The place `next` after a line that is the first one and gives a signature, else the place `passed`.
-fn passed_by(passed: usize, first: bool, next: usize, line: Residual) -> usize
-    ensures { λ r. ⌜ r ≡ passedBy passed first next line ⌝ }
+// Whether its first bytes alone tell that the line at a place is neither blank nor a comment: after spaces an ASCII character above `#`.
+// Where they don't, the line has to be read.
+fn opens_other(text: &[u8], at: usize) -> bool
+    ensures { λ r. ⌜ r ≡ otherAhead (drop at (now (text .entry))) ⌝ }
 {
-    match line {
+    let mut i = at;
+    while i < text.len() {
+        let b = text[i];
+        if b != b' ' {
+            if b <= b'#' {
+                return false;
+            }
+            return b < 0x80;
+        }
+        i += 1;
+    }
+    false
+}
+
+// One comment more, which gives `own`; the line behind it starts at `next`.
+fn with_comment(passed: Passed, next: usize, own: Residual) -> Passed
+    requires { ⌜ (passed .applied < mostText) × (passed .idle < mostText) ⌝ }
+    ensures { λ r. ⌜ r ≡ withComment passed next own ⌝ }
+{
+    let mut more = passed;
+    more.bytes = next;
+    match own {
         Residual::Text {
             start: _,
             end: _,
             string: _,
         } => {
-            if first {
-                return next;
-            }
-            passed
+            more.applied += 1;
+            more
         }
-        Residual::Nothing => passed,
+        Residual::Nothing => {
+            more.idle += 1;
+            more
+        }
     }
 }
 
-// The signature of the last comment that gives one, before another class line or member line. The lines are those from the place `from` on.
-pub fn residual_after(text: &[u8], from: usize) -> Looked
-    ensures { λ r. ⌜ Looks (now (text .entry)) «from» r ⌝ }
+// The signature of the last comment that gives one, before another class line or member line. `text` is what stands behind a member.
+pub fn residual_after(text: &[u8]) -> Looked
+    requires { ⌜ length (now text) ≤ mostText ⌝ }
+    ensures { λ r. ⌜ Looks (now (text .entry)) r ⌝ }
 {
     let mut residual = Residual::Nothing;
-    let mut passed = from;
-    let mut at = from;
-    while at < text.len() {
+    let mut passed = Passed {
+        bytes: 0,
+        blank: 0,
+        applied: 0,
+        idle: 0,
+    };
+    while passed.bytes < text.len() {
+        let at = passed.bytes;
+        if opens_other(text, at) {
+            return Looked { residual, passed };
+        }
         let NextLine::Line { start, end, next } = next_line(text, at) else {
             return Looked { residual, passed };
         };
         match opening_of(&text[start..end]) {
             Opening::Blank => {
-                at = next;
+                passed.bytes = next;
+                passed.blank += 1;
             }
             Opening::Comment(brace) => {
                 let own = signature_at(&text[start..end], brace);
-                passed = passed_by(passed, at == from, next, own);
                 residual = later(residual, start, own);
-                at = next;
+                passed = with_comment(passed, next, own);
             }
             Opening::Other => {
                 return Looked { residual, passed };

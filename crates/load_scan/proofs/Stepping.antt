@@ -10,7 +10,7 @@ use mir.Val.{Fits}
 use mir.Syntax.{w32}
 use borrow.Author.Tests.{eq-eqb, ne-eqb, eqb-true, eqb-false, not-true, not-false}
 use borrow.Author.Needs.{needs}
-use Rattle.ground.specs.Choice.{pick, both}
+use Rattle.ground.specs.Choice.{pick}
 use Rattle.ground.specs.Put.{between}
 use Rattle.text_places.specs.declared.lines.NextLine.{NextLine}
 use Rattle.text_places.specs.declared.lines.NextLine.the-variants.{Line, NoLine}
@@ -21,12 +21,10 @@ use Rattle.line.specs.declared.line.Line as line
 use Rattle.line.specs.declared.line.Line.the-variants as kinds
 use Rattle.line.specs.Kinds.{lineOf}
 use Rattle.load_rule.specs.declared.Fate.{Fate}
-use Rattle.load_rule.specs.declared.Fate.the-variants as fate
 use Rattle.load_rule.specs.declared.Fates.{Fates}
 use Rattle.load_rule.specs.declared.Scan.the-variants as scan
-use Rattle.load_rule.specs.Fates.{commentFate, fateOf, memberAfter, faultOf, fatesFrom, faultsFrom}
+use Rattle.load_rule.specs.Fates.{fateOf, memberAfter, faultOf, fatesFrom, faultsFrom}
 use Rattle.load_rule.specs.Loading.{mostText}
-use Rattle.load_residual.specs.inner.Residuals.{Signed}
 use Rattle.load_scan.specs.declared.step.LineStep.{LineStep}
 use Rattle.load_scan.specs.declared.step.Step.{Step}
 use Rattle.load_scan.specs.declared.step.Step.the-variants as steps
@@ -100,7 +98,7 @@ module _ (s : List ℕ) (at classes : ℕ) (member : Bool) {a e n : ℕ} (t : Ta
   line-there : faultOf classes (lineOf (between s a e)) ≡ 0 → StepLine s at classes member (lineStep (between s a e) a e n member)
   line-there z = record { taken = t; is = refl; clean = z; fate = refl; after = refl }
 
-  passed-there : faultOf classes (lineOf (between s a e)) ≡ 0 → isEntered (lineOf (between s a e)) ≡ false →
+  pub passed-there : faultOf classes (lineOf (between s a e)) ≡ 0 → isEntered (lineOf (between s a e)) ≡ false →
       StepPassed s at classes member n (fateOf member (between s a e) (lineOf (between s a e)))
   passed-there z i = record {
     line = lineStep (between s a e) a e n member;
@@ -120,13 +118,6 @@ module _ (s : List ℕ) (at classes : ℕ) (member : Bool) {a e n : ℕ} (t : Ta
       go true z true i = line-there (eqb-true (faultOf classes (lineOf (between s a e))) 0 z)
       go true z false i = passed-there (eqb-true (faultOf classes (lineOf (between s a e))) 0 z) i
       go false z c i = fault-there (eqb-false (faultOf classes (lineOf (between s a e))) 0 z)
-
--- A comment behind a member that gives a signature is applied.
-pub signed-passed : (s : List ℕ) (at classes : ℕ) {n : ℕ} → Signed s at n → StepPassed s at classes true n fate.Applied
-signed-passed s at classes {n} g =
-    let l : List ℕ = between s (g .start) (g .«end») in
-    let applied : fateOf true l (lineOf l) ≡ fate.Applied = ap (fateOf true l) (g .comment) ∙ ap (λ b. commentFate (both true b)) (g .given) in
-    rw applied at (passed-there s at classes true (g .taken) (ap (faultOf classes) (g .comment)) (ap isEntered (g .comment)))
 
 module _ (s : List ℕ) (at classes : ℕ) (member : Bool) {t : NextLine} (b : t ≡ nextLine s at) where
   pub step-end : t ≡ NoLine → lines (drop at s) ≡ []

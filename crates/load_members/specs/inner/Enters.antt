@@ -13,7 +13,8 @@ use Rattle.tables.specs.Back.{readBack}
 use Rattle.load_raw_types.specs.inner.Behind.{Indexed}
 use Rattle.load_rule.specs.Comments.{residualIn}
 use Rattle.load_rule.specs.Loading.{mostText}
-use Rattle.load_residual.specs.inner.Residuals.{Signed}
+use Rattle.load_residual.specs.declared.residual.Passed.{Passed}
+use Rattle.load_residual.specs.inner.Passes.{passedOf, Passes}
 use Rattle.load_texts.specs.declared.texts.MemberLine.{MemberLine}
 use Rattle.load_texts.specs.declared.texts.Places.{Places}
 use Rattle.load_texts.specs.inner.Texts.{MemberIn, MemberTexts, textsOf, allTexts}
@@ -57,16 +58,16 @@ pub record Ready (s : List ℕ) (rows : List (List ℕ)) (index : List ℕ) (x :
 abbrev pub textsIn : List ℕ → List Pair → LineStep → Slot → MemberLine → MemberTexts
 textsIn s cs x t parts = textsOf cs (residualIn (lines (drop (x .next) s))) (partOf s (span (t .own) (t .«own_end»))) (bytesOf s x) parts
 
--- the member is written: its texts into the pool `p`, its row into the rows `m`; the next one goes to `t₁`. Behind its line no bytes are
--- passed, or those of a comment that gives a signature.
-pub record WrittenMember (t₁ : Slot) (passed : ℕ) (s : List ℕ) (rows : List (List ℕ)) (x : LineStep) (parts : MemberLine) (t : Slot)
+-- the member is written: its texts into the pool `p`, its row into the rows `m`; the next one goes to `t₁`. What is passed stands
+-- behind its line.
+pub record WrittenMember (t₁ : Slot) (passed : Passed) (s : List ℕ) (rows : List (List ℕ)) (x : LineStep) (parts : MemberLine) (t : Slot)
     (m : List (List ℕ)) (p : List ℕ) (m₁ : List (List ℕ)) (p₁ : List ℕ) : Type 0 where
   pub places : Places
   pub texts : EnteredTexts places p (t .place) (textsIn s (readBack rows p) x t parts) p₁
   pub room : t .row < length m
   pub row : m₁ ≡ set m (t .row) (packMember (memberPlaced (t .classes - 1) (t .place) places (parts .body)))
   pub next : t₁ ≡ slotAt (t .row + 1) (places .«end») (t .classes) (t .own) (t .«own_end»)
-  pub behind : (passed ≡ 0) ⊎ Signed s (x .next) (x .next + passed)
+  pub behind : Passes (drop (x .next) s) passed
 
 abbrev pub WrittenMemberBy : NextSlot → List ℕ → List (List ℕ) → LineStep → MemberLine → Slot →
     List (List ℕ) → List ℕ → List (List ℕ) → List ℕ → Type 0
@@ -74,9 +75,9 @@ WrittenMemberBy (At t₁ passed) s rows x parts t m p m₁ p₁ = WrittenMember 
 WrittenMemberBy NoRoom s rows x parts t m p m₁ p₁ =
     (length m ≤ t .row) ⊎ (length p < t .place + length (allTexts (textsIn s (readBack rows p) x t parts)))
 
--- nothing is written
+-- nothing is written, and nothing passed
 pub record Kept (r : NextSlot) (t : Slot) (m : List (List ℕ)) (p : List ℕ) (m₁ : List (List ℕ)) (p₁ : List ℕ) : Type 0 where
-  pub answer : r ≡ At t 0
+  pub answer : r ≡ At t (passedOf 0 0 0 0)
   pub rows : m₁ ≡ m
   pub pool : p₁ ≡ p
 

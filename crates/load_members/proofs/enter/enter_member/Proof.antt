@@ -53,13 +53,13 @@ returns-2 : tie.Need-returns-2
 returns-2 c = search member-slots
 
 sub-member-row : tie.Need-sub-member-row
-sub-member-row c = search member-slots
+sub-member-row c = let m = c .before .before .before .before .before .before .before .before .before .before .before .before .before .before .before .before .pre .1 .classed in omega arith
 
 member-row-requires : tie.Need-member-row-requires
 member-row-requires c κs = search member-slots
 
-mul-t25 : tie.Need-mul-t25
-mul-t25 c = let a = c .before .before .before .before .before .before .before .before .before .before .before .before .before .if1 .left in let g = c .before .before .before .before .before .before .before .before .before .before .before .before .before .before .before .before .before .good .0 in omega arith
+mul-t26 : tie.Need-mul-t26
+mul-t26 c = let a = c .before .before .before .before .before .before .before .before .before .before .before .before .before .if1 .left in let g = c .before .before .before .before .before .before .before .before .before .before .before .before .before .before .before .before .before .good .0 in omega arith
 
 slice-set-from-members : tie.Need-slice-set-from-members
 slice-set-from-members c = search member-slots
@@ -74,7 +74,7 @@ same-length-3 : tie.Need-same-length-3
 same-length-3 c = search member-slots
 
 returns-3 : tie.Need-returns-3
-returns-3 c = member-at (c .before .before .before .before .before .before .before .before .before .before .before .before .before .before .before .before .before .before .pre .0) _ _ _ _ (c .before .before .before .before .before .before .before .before .write-texts .ensures) (c .before .before .before .before .texts .given .1) (c .before .before .before .before .before .before .before .before .before .before .residual-after .ensures) (c .before .before .before .before .before .before .before .before .before .before .before .before .before .before .if1 .left) (c .before .member-row .ensures)
+returns-3 c = member-at (c .before .before .before .before .before .before .before .before .before .before .before .before .before .before .before .before .before .before .before .pre .0) _ _ _ _ (c .before .before .before .before .before .before .before .before .before .write-texts .ensures) (c .before .before .before .before .before .texts .given .1) (c .before .before .before .before .before .before .before .before .before .before .before .residual-after .ensures) (c .before .before .before .before .before .before .before .before .before .before .before .before .before .before .before .if1 .left) (c .before .before .member-row .ensures)
 
 pub enter-member-spec : {M : Type 1} → statement M
 enter-member-spec =
@@ -98,7 +98,7 @@ enter-member-spec =
     returns-2
     sub-member-row
     member-row-requires
-    mul-t25
+    mul-t26
     slice-set-from-members
     add-following
     same-length-2

@@ -1,5 +1,5 @@
--- `load_members::fill::write_members` meets its contract, by the laws of Filling, Adding and Applied and an invariant of what is done.
-use Rattle.load_members.proofs.Applied.{filling}
+-- `load_members::fill::write_members` meets its contract, by the laws of Filling, Adding and Behind and an invariant of what is done.
+use Rattle.load_members.proofs.Behind.{filling, filling-skips, filling-read}
 use Rattle.load_members.proofs.Filling.{Filling}
 use Prim.Native.Nat.{_-_}
 use lib.ListN.{length}
@@ -93,22 +93,16 @@ returns-3 : tie.Need-returns-3 Inv-loop μ-loop
 returns-3 c = search filling
 
 add-at : tie.Need-add-at Inv-loop μ-loop
-add-at c = search filling
+add-at c = let i = c .before .before .before .before .before .before .before .before .before .before .before .before .before .before .before .before .loop .inv in let n = c .before .before .before .before .before .before .before .before .before .before .before .before .before .before .next-step .ensures in search filling
 
-counted-requires-3 : tie.Need-counted-requires-3 Inv-loop μ-loop
-counted-requires-3 c κs = search filling
+with-passed-requires : tie.Need-with-passed-requires Inv-loop μ-loop
+with-passed-requires c κs = let i = c .before .before .before .before .before .before .before .before .before .before .before .before .before .before .before .before .loop .inv in let n = c .before .before .before .before .before .before .before .before .before .before .before .before .before .before .next-step .ensures in (search filling, search filling)
 
 loop-less-2 : tie.Need-loop-less-2 Inv-loop μ-loop
-loop-less-2 c = let i = c .before .before .before .before .before .before .before .before .before .before .before .before .before .before .before .before .before .loop .inv in let t = c .before .before .before .before .before .before .before .before .before .before .before .before .before .before .before .before .loop-test .taken in let n = c .before .before .before .before .before .before .before .before .before .before .before .before .before .before .before .next-step .ensures in search filling
+loop-less-2 c = filling-skips (c .before .before .before .before .before .before .before .before .before .before .before .before .before .before .before .before .before .loop .inv) _ (c .before .before .before .before .before .before .before .before .before .before .before .before .before .before .before .next-step .ensures) (c .before .before .before .before .before .before .before .before .before .before .before .before .before .line .given .1) _ _ _ (c .before .before .before .before .before .before .before .before .enter-line .ensures) (c .before .before .before .next2 .given .1) (c .before .before .before .before .before .before .before .before .before .before .before .before .before .before .before .before .loop-test .taken)
 
 loop-again-2 : tie.Need-loop-again-2 Inv-loop μ-loop
-loop-again-2 c = let i = c .before .before .before .before .before .before .before .before .before .before .before .before .before .before .before .before .before .loop .inv in let n = c .before .before .before .before .before .before .before .before .before .before .before .before .before .before .before .next-step .ensures in search filling
-
-loop-less-3 : tie.Need-loop-less-3 Inv-loop μ-loop
-loop-less-3 c = search filling
-
-loop-again-3 : tie.Need-loop-again-3 Inv-loop μ-loop
-loop-again-3 c = search filling
+loop-again-2 c = filling-read (c .before .before .before .before .before .before .before .before .before .before .before .before .before .before .before .before .before .loop .inv) _ (c .before .before .before .before .before .before .before .before .before .before .before .before .before .before .before .next-step .ensures) (c .before .before .before .before .before .before .before .before .before .before .before .before .before .line .given .1) _ _ _ (c .before .before .before .before .before .before .before .before .enter-line .ensures) (c .before .before .before .next2 .given .1) (c .before .before .before .before .before .before .before .before .before .before .before .counted2 .ensures) (c .with-passed .ensures)
 
 same-length-7 : tie.Need-same-length-7 Inv-loop μ-loop
 same-length-7 c = search filling
@@ -152,11 +146,9 @@ write-members-spec =
     same-length-6
     returns-3
     add-at
-    counted-requires-3
+    with-passed-requires
     loop-less-2
     loop-again-2
-    loop-less-3
-    loop-again-3
     same-length-7
     same-length-8
     returns-4)
