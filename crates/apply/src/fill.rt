@@ -12,8 +12,6 @@ use table_rows::MemberRow;
 use tables::Side;
 use tree_rule::TreeCounts;
 use tree_words::counts_in;
-ghost use mathlib.Core.Path.{_≡_};
-ghost use Prim.Native.Nat.{_≤_};
 ghost use lib.ListN.{length};
 ghost use Rattle.tables.specs.declared.search.Side.the-variants.{Raw};
 ghost use Rattle.table_index.specs.inner.Index.{IndexBy};

@@ -7,8 +7,6 @@ use native.Mathlib.Nat.{add-zero}
 use native.Mathlib.Omega.{arith}
 use lib.Dec.{eqb}
 use lib.ListN.{length}
-use mir.Val.{Fits}
-use mir.Syntax.{w64}
 use borrow.Author.Needs.{needs}
 use borrow.Author.Tests.{eq-eqb, ne-eqb, eqb-true, eqb-false}
 use Rattle.ground.specs.Choice.{pick}
@@ -19,7 +17,7 @@ use Rattle.tree_rule.specs.declared.TreeCounts.{TreeCounts}
 use Rattle.tree_rule.specs.declared.Token.{Token}
 use Rattle.tree_rule.specs.declared.Token.the-variants.{Other, MemberName, Descriptor, SourceLine}
 use Rattle.tree_rule.specs.Words.{wordAt, wordBytes}
-use Rattle.tree_rule.specs.Files.{tokensStart, namesStart, bytesStart, fileLength, tokenBy, tokenRow, tokenAt}
+use Rattle.tree_rule.specs.Files.{tokensStart, namesStart, bytesStart, fileLength, tokenRow}
 use Rattle.tree_rule.specs.Theorems.{FormedBy, NamesBelow}
 use Rattle.apply_output.specs.declared.plan.Plan.{Plan}
 use Rattle.apply_output.specs.declared.plan.Plan.the-variants.{Stays, Line, Member, Shown}

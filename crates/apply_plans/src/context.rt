@@ -2,10 +2,10 @@
 use tree_words::parent_at;
 use tree_words::word_at;
 ghost use mathlib.Core.Path.{_≡_};
-ghost use Prim.Native.Nat.{_+_, _*_, _≤_, _<_};
+ghost use Prim.Native.Nat.{_+_, _*_, _≤_};
 ghost use lib.ListN.{length};
 ghost use Rattle.ground.specs.Choice.{pick};
-ghost use Rattle.tree_rule.specs.Files.{nodesStart, parentAt};
+ghost use Rattle.tree_rule.specs.Files.{nodesStart};
 ghost use Rattle.apply_plans.specs.inner.Noted.{wordAbove, ParentBelow};
 
 // The number of the node above; none is above the first.

@@ -4,7 +4,6 @@ use table_rows::ClassRow;
 use table_rows::MemberRow;
 use tree_words::put_word;
 use tree_words::word_at;
-ghost use mathlib.Core.Path.{_≡_};
 ghost use Prim.Native.Nat.{_+_, _*_, _≤_};
 ghost use lib.ListN.{length};
 ghost use Rattle.name_index.specs.inner.Chains.{Chained};

@@ -2,11 +2,10 @@
 use mathlib.Core.Path.{_≡_, refl, sym, _∙_, ap}
 use mathlib.Core.Bool.{Bool, true, false}
 use mathlib.Core.List.{List, [], _∷_, _++_, map, append-assoc, append-nil}
-use Prim.Native.Nat.{ℕ, suc, _+_, _-_, _≤_}
+use Prim.Native.Nat.{ℕ, suc, _+_, _-_}
 use native.Mathlib.Omega.{arith}
 use lib.Dec.{eqb}
-use lib.ListN.{length, take, drop, drop-of-length-le}
-use lib.Seq.{drop-drop, take-all}
+use lib.ListN.{take, drop}
 use borrow.Author.Tests.{eqb-true}
 use Rattle.ground.specs.Choice.{pick}
 use Rattle.text_places.specs.declared.find.Place.the-variants.{At, Nowhere}

@@ -1,7 +1,6 @@
 -- Worked examples of raw descriptors, computed from the rules.
 use mathlib.Core.Path.{_≡_, refl}
 use mathlib.Core.List.{List, [], _∷_}
-use Prim.Native.Nat.{ℕ}
 use Rattle.ground.specs.Ascii.{ascii}
 use Rattle.ground.specs.Join.{join}
 use Rattle.text_places.specs.Places.{firstFrom, lastFrom, same}

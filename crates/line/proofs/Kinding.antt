@@ -5,7 +5,7 @@ use mathlib.Core.List.{List, _∷_}
 use Prim.Native.Nat.{ℕ, suc, _+_, _-_, _^_, _≤_, _<_}
 use native.Mathlib.Omega.{arith}
 use lib.Dec.{eqb, ltb}
-use lib.ListN.{length, getD, take, drop}
+use lib.ListN.{length, getD, drop}
 use lib.Seq.{drop-cons}
 use mir.Val.{Fits}
 use mir.Syntax.{w64}
@@ -33,6 +33,7 @@ use Rattle.text_places.specs.Spans.{shift, partOf, Lies, largest}
 use Rattle.line_parts.specs.Arrows.{arrowOf, classSides}
 use Rattle.line_parts.specs.Fields.{fieldOf}
 use Rattle.line_parts.specs.Methods.{shiftMethod, MethodIn, methodOf}
+use Rattle.line_parts.specs.inner.Opening.{Opens}
 use Rattle.line.specs.Kinds.{placeFrom, commentAt, classBy, classAt, methodBy, methodAt, fieldBy, fieldAt, bySide, memberBy, memberAt, lineIn, lineOf}
 use Rattle.text_white.proofs.TrimLaws.{trim-inside, trim-order, starts-trimmed}
 use Rattle.line_parts.proofs.Lying.{arrow-lies, class-lies, field-lies, shift-lies, part-length}
@@ -133,10 +134,13 @@ module _ (s : List ℕ) (by : ℕ) (h : by + length s ≤ largest) {t : Arrow} (
       pub member-field : p ≡ Nowhere → {z : Line} → z ≡ fieldAt (by + l .start) raw (between s (l .start) (l .«end»)) → z ≡ memberAt by s
       member-field k u = u ∙ sym (whole k)
 
+      pub member-opens : {i : ℕ} → p ≡ At i → Opens (between s (l .start) (l .«end»)) i
+      member-opens k = sym q ∙ k
+
       pub member-method : {i : ℕ} → p ≡ At i → {z : Line} → z ≡ methodAt (by + l .start) raw (between s (l .start) (l .«end»)) → z ≡ memberAt by s
       member-method k u = u ∙ sym (whole k)
 
-pub ruleset membering = (member-none, member-order, member-inside, member-raw, member-base, member-room, member-field, member-method, needs)
+pub ruleset membering = (member-none, member-order, member-inside, member-raw, member-base, member-room, member-field, member-opens, member-method, needs)
 
 -- The line.
 hash-head : (s : List ℕ) (p : Span) → Lies p (length s) → (p .start ≡ p .«end» → ⊥) → starts 0x23 (partOf s p) ≡ eqb (getD s (p .start) 0) 0x23

@@ -8,7 +8,7 @@ use Prim.Native.Nat.{ℕ, _+_, _-_, _≤_}
 use native.Mathlib.Omega.{arith}
 use lib.Dec.{eqb, ltb}
 use lib.ListN.{length, getD, take, drop, length-drop}
-use lib.Seq.{drop-drop, getD-drop, take-take, take-length, length-take-le}
+use lib.Seq.{drop-drop, take-length, length-take-le}
 use borrow.Author.Tests.{eqb-true, ne-eqb}
 use Rattle.ground.specs.Choice.{pick}
 use Rattle.ground.proofs.Parts.{take-rest, cut-part}
@@ -41,7 +41,7 @@ use Rattle.line_parts.specs.declared.method.MethodParts.the-variants.{Parts}
 use Rattle.text_places.specs.Spans.{span, shift, isEmpty, partOf, Lies}
 use Rattle.line_parts.specs.Signatures.{NameIn, qualifiedAt, qualifiedOf, linesAfter, methodSignatureAt, methodSignature}
 use Rattle.line_parts.specs.Arguments.{commaParts, filled, argumentsOf}
-use Rattle.line_parts.specs.Arrows.{sidesOf, splitAt, arrowOf, classSides}
+use Rattle.line_parts.specs.Arrows.{splitAt, arrowOf, classSides}
 use Rattle.line_parts.specs.Fields.{fieldSplit, fieldOf}
 use Rattle.line_parts.specs.Methods.{shiftName, shiftMethod, MethodIn, settledOf, withSignature, typeAt, methodFrom, methodAfter, methodOf}
 use Rattle.line_parts.proofs.Lying.{trim-lies, lies-as, part-length, sides-are, arrow-lies, name-lies, signature-lies, shift-lies}

@@ -17,6 +17,7 @@ ghost use mathlib.Core.Path.{_≡_};
 ghost use Prim.Native.Nat.{_+_, _≤_};
 ghost use lib.ListN.{length};
 ghost use Rattle.text_places.specs.Spans.{largest};
+ghost use Rattle.line_parts.specs.inner.Opening.{Opens};
 ghost use Rattle.line.specs.Kinds.{refusalNumber, lineOf, commentAt, classAt, memberAt, methodAt, fieldAt};
 
 pub enum Line {
@@ -82,11 +83,11 @@ fn class_line(s: &[u8], by: usize) -> Line
     }
 }
 
-fn method_line(left: &[u8], by: usize, raw: Span) -> Line
-    requires { ⌜ by + length (now left) ≤ largest ⌝ }
+fn method_line(left: &[u8], open: usize, by: usize, raw: Span) -> Line
+    requires { ⌜ (by + length (now left) ≤ largest) × Opens (now left) «open» ⌝ }
     ensures { λ r. ⌜ r ≡ methodAt by raw (now (left .entry)) ⌝ }
 {
-    let MethodParts::Parts(method) = method_parts(left) else {
+    let MethodParts::Parts(method) = method_parts(left, open) else {
         return Line::Refused(Refusal::Method);
     };
     Line::Method {
@@ -120,10 +121,10 @@ fn member_line(s: &[u8], by: usize) -> Line
     let end = left.end;
     let side = &s[start..end];
     let raw = shifted(by, right);
-    let Place::At(_) = first_byte(side, b'(') else {
+    let Place::At(open) = first_byte(side, b'(') else {
         return field_line(side, by + start, raw);
     };
-    method_line(side, by + start, raw)
+    method_line(side, open, by + start, raw)
 }
 
 pub fn read_line(s: &[u8]) -> Line

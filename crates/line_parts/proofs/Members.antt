@@ -14,6 +14,7 @@ use Rattle.text_places.specs.declared.find.Place.{Place}
 use Rattle.text_places.specs.declared.find.Place.the-variants.{At, Nowhere}
 use Rattle.text_places.specs.Places.{firstWhere, lastWhere, starts}
 use Rattle.text_places.proofs.PlaceLaws.{first-inside, last-inside}
+use Rattle.text_places.proofs.InPart.{first-in-part}
 use Rattle.text_places.specs.declared.spans.Span.{Span}
 use Rattle.text_white.specs.Trim.{trimBoth, startsWhite, lastWhite}
 use Rattle.number.specs.declared.range.TrailingRange.{TrailingRange}
@@ -25,6 +26,7 @@ use Rattle.line_parts.specs.declared.signature.Signature.the-variants.{P
 use Rattle.text_places.specs.Spans.{span, shift, partOf, Lies, largest}
 use Rattle.line_parts.specs.Fields.{fieldSplit, fieldOf}
 use Rattle.line_parts.specs.Signatures.{qualifiedAt, qualifiedOf, linesAfter, methodSignatureAt, methodSignature}
+use Rattle.line_parts.specs.inner.Opening.{Opens}
 use Rattle.text_white.proofs.TrimLaws.{trim-inside, trim-order}
 
 -- Fields.
@@ -132,3 +134,13 @@ module _ (s : List ℕ) {p : Place} (e : p ≡ firstWhere (starts 0x28) s) where
 
 pub ruleset signing =
     (signature-no-open, signature-no-close, signature-crossed, signature-name, signature-prefix, signature-rest, signature-fits, signature-arguments, signature-read, needs)
+
+-- The first `(` of a part.
+module _ (left : List ℕ) (i start «end» : ℕ) (o : Opens left i) (h : start ≤ «end») (j : start ≤ i) where
+  pub part-opens : i < «end» → At (i - start) ≡ firstWhere (starts 0x28) (between left start «end»)
+  part-opens l = sym (rw (first-in-part 0x28 left o start «end» h j, lt-ltb i «end» l))
+
+  pub part-opens-later : «end» ≤ i → Nowhere ≡ firstWhere (starts 0x28) (between left start «end»)
+  part-opens-later l = sym (rw (first-in-part 0x28 left o start «end» h j, le-ltb i «end» l))
+
+pub ruleset opening = (part-opens, part-opens-later, needs)

@@ -4,7 +4,7 @@ use mathlib.Core.Bool.{Bool, false}
 use mathlib.Core.List.{List}
 use Prim.Native.Nat.{ℕ, _+_, _-_, _^_, _≤_, _<_}
 use native.Mathlib.Omega.{arith}
-use lib.ListN.{length, take, drop, length-drop}
+use lib.ListN.{length, drop, length-drop}
 use lib.Seq.{drop-drop}
 use mir.Val.{Fits}
 use mir.Syntax.{w64}
@@ -74,12 +74,12 @@ module _ (returned : Span) (named : Qualified) (arguments : Span) (raw : LineRan
 pub ruleset settling = (settled-taken, settled-raw, needs)
 
 -- From the return type on.
-module _ (left : List ℕ) (rest : ℕ) (h : rest ≤ length left) (raw : LineRange) {p : Place} (e : p ≡ firstWhite (between left rest (length left))) where
+module _ (left : List ℕ) (rest : ℕ) (h : rest ≤ length left) {p : Place} (e : p ≡ firstWhite (between left rest (length left))) where
   white-is : p ≡ firstWhite (drop rest left)
   white-is = rw (take-rest left rest) at e
 
-  pub method-no-white : p ≡ Nowhere → NoMethod ≡ methodFrom left rest raw
-  method-no-white g = sym (ap (typeAt left rest raw) (sym white-is ∙ g))
+  pub method-no-white : (raw : LineRange) → p ≡ Nowhere → NoMethod ≡ methodFrom left rest raw
+  method-no-white raw g = sym (ap (typeAt left rest raw) (sym white-is ∙ g))
 
   module _ {white : ℕ} (g : p ≡ At white) where
     reach : rest + white < length left
@@ -124,14 +124,14 @@ module _ (left : List ℕ) (rest : ℕ) (h : rest ≤ length left) (raw : LineRa
         signature-is : t ≡ methodSignature (partOf (drop (rest + white) left) part)
         signature-is = s ∙ ap methodSignature text-is
 
-        whole : methodFrom left rest raw ≡ withSignature (span rest (rest + white)) (rest + white + part .start) raw t
-        whole =
+        whole : (raw : LineRange) → methodFrom left rest raw ≡ withSignature (span rest (rest + white)) (rest + white + part .start) raw t
+        whole raw =
             ap (typeAt left rest raw) (sym white-is ∙ g)
             ∙ ap (λ x. withSignature (span rest (rest + white)) (rest + white + x .start) raw (methodSignature (partOf (drop (rest + white) left) x))) (sym part-is)
             ∙ ap (withSignature (span rest (rest + white)) (rest + white + part .start) raw) (sym signature-is)
 
-        pub method-no-signature : t ≡ signature.NoSignature → NoMethod ≡ methodFrom left rest raw
-        method-no-signature k = sym (whole ∙ ap (withSignature (span rest (rest + white)) (rest + white + part .start) raw) k)
+        pub method-no-signature : (raw : LineRange) → t ≡ signature.NoSignature → NoMethod ≡ methodFrom left rest raw
+        method-no-signature raw k = sym (whole raw ∙ ap (withSignature (span rest (rest + white)) (rest + white + part .start) raw) k)
 
         module _ {named : Qualified} {arguments : Span} {lines : TrailingRange} (k : t ≡ signature.Parts named arguments lines) where
           size : length (partOf (drop (rest + white) left) part) ≡ part .«end» - part .start
@@ -150,16 +150,19 @@ module _ (left : List ℕ) (rest : ℕ) (h : rest ≤ length left) (raw : LineRa
               let z = size in let w = within in let o = order in
               shift-lies (rest + white + part .start) arguments (length (partOf (drop (rest + white) left) part)) largest (omega arith) (lie .1)
 
-          pub method-read : {n : Qualified} {a : Span} {m : Method} → n ≡ shiftName (rest + white + part .start) named → a ≡ shift (rest + white + part .start) arguments →
+          pub method-read : (raw : LineRange) {n : Qualified} {a : Span} {m : Method} → n ≡ shiftName (rest + white + part .start) named → a ≡ shift (rest + white + part .start) arguments →
               m ≡ settledOf (span rest (rest + white)) n a raw lines → Parts m ≡ methodFrom left rest raw
-          method-read {n} {a} c d j =
+          method-read raw {n} {a} c d j =
               ap Parts
               (j ∙ ap (λ x. settledOf (span rest (rest + white)) x a raw lines) c
               ∙ ap (λ x. settledOf (span rest (rest + white)) (shiftName (rest + white + part .start) named) x raw lines) d)
-              ∙ sym (whole ∙ ap (withSignature (span rest (rest + white)) (rest + white + part .start) raw) k)
+              ∙ sym (whole raw ∙ ap (withSignature (span rest (rest + white)) (rest + white + part .start) raw) k)
 
 pub ruleset typing =
-    (method-no-white, base-fits, base-inside, start-fits, end-fits, start-before, end-inside, method-no-signature, method-name-lies, method-arguments-lie, method-read, needs)
+    (method-no-white, base-fits, base-inside, start-fits, end-fits, method-no-signature, method-name-lies, method-arguments-lie, method-read, needs)
+
+-- where the signature stands; apart from the others, beside which `search` breaks off
+pub ruleset signature-part = (start-before, end-inside)
 
 -- The raw range.
 module _ (left : List ℕ) {t : LeadingRange} (e : t ≡ leadingRange left) where

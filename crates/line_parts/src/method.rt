@@ -1,7 +1,7 @@
 // The left side of a method.
 use crate::signature::Qualified;
 use crate::signature::Signature;
-use crate::signature::signature_parts;
+use crate::signature::signature_in;
 use number::LeadingRange;
 use number::TrailingRange;
 use number::leading_range;
@@ -16,6 +16,7 @@ ghost use lib.ListN.{length};
 ghost use Rattle.text_places.specs.Spans.{largest};
 ghost use Rattle.line_parts.specs.Signatures.{NameIn};
 ghost use Rattle.line_parts.specs.Methods.{shiftName, shiftMethod, MethodIn, settledOf, methodFrom, methodOf};
+ghost use Rattle.line_parts.specs.inner.Opening.{Opens};
 
 // A range of line numbers, if there is one.
 pub enum LineRange {
@@ -107,8 +108,8 @@ fn settled(
 }
 
 // A method from its return type on, which starts at the place `rest`.
-fn method_from(left: &[u8], rest: usize, raw: LineRange) -> MethodParts
-    requires { ⌜ rest ≤ length (now left) ⌝ }
+fn method_from(left: &[u8], open: usize, rest: usize, raw: LineRange) -> MethodParts
+    requires { ⌜ (rest ≤ length (now left)) × Opens (now left) «open» ⌝ }
     ensures { λ r. ⌜ r ≡ methodFrom (now (left .entry)) rest raw ⌝ }
 {
     let Place::At(white) = first_white(&left[rest..]) else {
@@ -122,7 +123,7 @@ fn method_from(left: &[u8], rest: usize, raw: LineRange) -> MethodParts
         named,
         arguments,
         lines,
-    } = signature_parts(&left[start..end])
+    } = signature_in(left, open, start, end)
     else {
         return MethodParts::NoMethod;
     };
@@ -138,11 +139,13 @@ fn method_from(left: &[u8], rest: usize, raw: LineRange) -> MethodParts
     ))
 }
 
-pub fn method_parts(left: &[u8]) -> MethodParts
+// `open` is the place of the first `(`: a caller has looked for it, to tell a method from a field.
+pub fn method_parts(left: &[u8], open: usize) -> MethodParts
+    requires { ⌜ Opens (now left) «open» ⌝ }
     ensures { λ r. ⌜ r ≡ methodOf (now (left .entry)) ⌝ }
 {
     let LeadingRange::Taken { start, end, rest } = leading_range(left) else {
-        return method_from(left, 0, LineRange::NoLines);
+        return method_from(left, open, 0, LineRange::NoLines);
     };
-    method_from(left, rest, LineRange::Lines { start, end })
+    method_from(left, open, rest, LineRange::Lines { start, end })
 }

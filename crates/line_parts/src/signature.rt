@@ -8,8 +8,12 @@ use text_places::last_byte;
 use text_places::shifted;
 use text_white::trim_both;
 ghost use mathlib.Core.Path.{_≡_};
-ghost use Rattle.text_places.specs.Places.{lastWhere, starts};
+ghost use Prim.Native.Nat.{_≤_};
+ghost use lib.ListN.{length};
+ghost use Rattle.ground.specs.Put.{between};
+ghost use Rattle.text_places.specs.Places.{firstWhere, lastWhere, starts};
 ghost use Rattle.line_parts.specs.Signatures.{nameSpan, qualifiedOf, linesAfter, methodSignature};
+ghost use Rattle.line_parts.specs.inner.Opening.{Opens};
 
 // A method's name, with its owner where it has one.
 pub enum Qualified {
@@ -81,11 +85,12 @@ fn lines_after(s: &[u8]) -> TrailingRange
     trailing_range(&s[start..end])
 }
 
-// What follows the return type, trimmed.
-pub fn signature_parts(s: &[u8]) -> Signature
+// What follows the return type, trimmed; `opened` is the place of its first `(`, if it has one.
+fn signature_parts(s: &[u8], opened: Place) -> Signature
+    requires { ⌜ opened ≡ firstWhere (starts 0x28) (now s) ⌝ }
     ensures { λ r. ⌜ r ≡ methodSignature (now (s .entry)) ⌝ }
 {
-    let Place::At(open) = first_byte(s, b'(') else {
+    let Place::At(open) = opened else {
         return Signature::NoSignature;
     };
     let Place::At(close) = last_close(s) else {
@@ -105,4 +110,27 @@ pub fn signature_parts(s: &[u8]) -> Signature
         },
         lines,
     }
+}
+
+// The first `(` of a part, by the first one of the whole, which stands at the place `open`.
+fn open_in(left: &[u8], open: usize, start: usize, end: usize) -> Place
+    requires { ⌜ (start ≤ «end») × («end» ≤ length (now left)) × Opens (now left) «open» ⌝ }
+    ensures { λ r. ⌜ r ≡ firstWhere (starts 0x28) (between (now (left .entry)) start «end») ⌝ }
+{
+    if start <= open {
+        if open < end {
+            return Place::At(open - start);
+        }
+        return Place::Nowhere;
+    }
+    first_byte(&left[start..end], b'(')
+}
+
+// The signature in a part of a left side whose first `(` stands at the place `open`.
+pub fn signature_in(left: &[u8], open: usize, start: usize, end: usize) -> Signature
+    requires { ⌜ (start ≤ «end») × («end» ≤ length (now left)) × Opens (now left) «open» ⌝ }
+    ensures { λ r. ⌜ r ≡ methodSignature (between (now (left .entry)) start «end») ⌝ }
+{
+    let opened = open_in(left, open, start, end);
+    signature_parts(&left[start..end], opened)
 }

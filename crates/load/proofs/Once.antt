@@ -1,5 +1,5 @@
 -- The promise of an entry point leaves one outcome. Assumes nothing.
-use mathlib.Core.Path.{_≡_, sym, _∙_}
+use mathlib.Core.Path.{sym, _∙_}
 use mathlib.Core.List.{List}
 use Prim.Native.Nat.{ℕ}
 use Rattle.table_rows.specs.Tables.{Tables}

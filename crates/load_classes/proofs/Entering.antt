@@ -1,9 +1,9 @@
 -- One class written. Assumes nothing.
 use mathlib.Core.Path.{_≡_, _∙_, ap}
-use mathlib.Core.List.{List, _++_}
+use mathlib.Core.List.{List}
 use Prim.Native.Nat.{ℕ, _+_, _-_, _≤_, _<_}
 use native.Mathlib.Omega.{arith}
-use lib.ListN.{length, set, take, drop}
+use lib.ListN.{length, set}
 use borrow.Author.Needs.{needs}
 use Rattle.ground.specs.Put.{between}
 use Rattle.table_pool.specs.declared.write.Wrote.the-variants as wrote

@@ -7,7 +7,7 @@ use native.Mathlib.Numerals.{add-one}
 use native.Mathlib.Omega.{arith}
 use lib.Dec.{eqb}
 use lib.ListN.{length, getD, take, drop, length-append, length-map, List·getD-map}
-use lib.Seq.{take-all, take-length, take-suc, drop-cons, take-append-le, drop-append-le, drop-length}
+use lib.Seq.{take-all, take-suc, drop-cons, take-append-le, drop-append-le, drop-length}
 use borrow.Author.Tests.{eqb-true}
 use Rattle.ground.specs.Choice.{pick}
 use Rattle.text_places.specs.declared.find.Place.the-variants.{At, Nowhere}

@@ -1,25 +1,25 @@
 -- A line that opens with spaces and an ASCII character above `#` is neither blank nor a comment. Assumes nothing.
 use mathlib.Core.Path.{_≡_, refl, sym, _∙_, ap}
-use mathlib.Core.Bool.{Bool, true, false, not}
+use mathlib.Core.Bool.{Bool, true, false}
 use mathlib.Core.List.{List, [], _∷_, map}
 use Prim.Native.Nat.{ℕ, suc, _+_, _≤_, _<_}
 use native.Mathlib.Numerals.{add-one}
 use native.Mathlib.Omega.{arith}
-use lib.Dec.{T, eqb, leb, ltb}
+use lib.Dec.{eqb, leb, ltb}
 use lib.ListN.{length, getD, take, drop, drop-of-length-le}
 use lib.Seq.{drop-cons}
 use borrow.Author.Tests.{eq-eqb, ne-eqb, le-leb, lt-leb, lt-ltb, eqb-true, leb-false, ltb-true}
 use borrow.Author.Needs.{needs}
 use Rattle.ground.specs.Choice.{pick, both}
-use Rattle.ground.proofs.Cases.{clash}
-use Rattle.ground.proofs.Table.{in-range}
+use Rattle.ground.proofs.Cases.{clash, within-yes}
 use Rattle.text_places.specs.Lines.{onto, rawLines, crEnd, withoutCr, lines}
 use Rattle.text_utf8.specs.declared.sequence.Sequence.the-variants.{Good}
 use Rattle.text_utf8.specs.Utf8.{sequenceOf}
 use Rattle.text_utf8.proofs.Sequences.{sequence-ascii}
 use Rattle.text_utf8.proofs.Pieces.{pieces-good}
-use Rattle.text_white.specs.White.{whiteRanges, inRanges, isWhite}
+use Rattle.text_white.specs.White.{isWhite}
 use Rattle.text_white.specs.Trim.{runOf, allWhite, trimStart, trimEnd}
+use Rattle.text_white.proofs.Ink.{ink-dark, space-white}
 use Rattle.line.specs.Kinds.{lineOf}
 use Rattle.ground.specs.Look.{unknown}
 use Rattle.load_rule.specs.Comments.{residualIn}
@@ -115,17 +115,8 @@ first-told (b ∷ s) e = go (found b s e) (λ f. first-told s f)
 head-reads : (b : ℕ) (s : List ℕ) → b < 0x80 → sequenceOf (b ∷ s) ≡ Good b 1
 head-reads b s h = sym (sequence-ascii (b ∷ s) 0 (omega arith) h)
 
-space-white : (b : ℕ) → b ≡ 0x20 → isWhite b ≡ true
-unfolding isWhite inRanges whiteRanges
-space-white b e = rw e refl
-
 high-dark : (b : ℕ) → 0x23 < b → b < 0x80 → isWhite b ≡ false
-unfolding isWhite inRanges whiteRanges
-high-dark b l h = go (isWhite b) (in-range 0x24 0x7F 0x80 (omega arith) (λ x. not (isWhite x)) tt b (omega arith) (omega arith))
-  where
-    go : (w : Bool) → T (not w) → w ≡ false
-    go true t = absurd t
-    go false t = refl
+high-dark b l h = ink-dark b (within-yes 0x21 0x7F b (omega arith) (omega arith))
 
 record Inked (s : List ℕ) : Type 0 where
   inside : trimStart s < length s

@@ -2,10 +2,13 @@
 use mathlib.Core.Path.{_≡_, refl, sym, _∙_, ap}
 use mathlib.Core.List.{List}
 use mathlib.Core.Logic.{_⊎_, inl, inr}
-use Prim.Native.Nat.{ℕ, _+_, _-_, _≤_, _<_}
+use Prim.Native.Nat.{ℕ, _+_, _-_, _^_, _≤_, _<_}
 use native.Mathlib.Omega.{arith}
 use lib.ListN.{length, getD}
+use mir.Val.{Fits}
+use mir.Syntax.{w64}
 use borrow.Author.Needs.{needs}
+use Rattle.ground.specs.Put.{between}
 use Rattle.text_places.specs.declared.find.Place.{Place}
 use Rattle.text_places.specs.declared.find.Place.the-variants.{At, Nowhere}
 use Rattle.text_places.specs.Places.{firstWhere, starts}
@@ -19,7 +22,6 @@ use Rattle.line_parts.specs.declared.field.Field.the-variants as fields
 use Rattle.line_parts.specs.declared.method.Method.{Method}
 use Rattle.line_parts.specs.declared.method.MethodParts as method
 use Rattle.line_parts.specs.declared.method.MethodParts.the-variants as methods
-use Rattle.line.specs.declared.line.Refusal.{Refusal}
 use Rattle.line.specs.declared.line.Line.{Line}
 use Rattle.line.specs.declared.line.Line.the-variants as kinds
 use Rattle.text_places.specs.Spans.{shift, partOf}
@@ -29,7 +31,7 @@ use Rattle.line_parts.specs.Methods.{methodOf}
 use Rattle.line.specs.Kinds.{classBy, classAt, methodBy, fieldBy, bySide, memberBy, memberAt, lineOf}
 use Rattle.ground.specs.Look.{Look, unknown}
 use Rattle.load_rule.specs.Comments.{residualBy}
-use Rattle.line.proofs.Kinding.{line-blank, line-first, line-member, line-class}
+use Rattle.line.proofs.Kinding.{comment-none, comment-at, comment-fits, line-blank, line-order, line-inside, line-first, line-room, line-comment, line-member, line-class}
 use Rattle.load_residual.specs.declared.residual.Opening.the-variants.{Blank, Comment, Other}
 use Rattle.load_residual.specs.inner.Residuals.{openingOf}
 
@@ -68,6 +70,22 @@ module _ (s : List ℕ) {p : Span} (e : p ≡ trimBoth s) where
     pub opens-inside : p .start < length s
     opens-inside = line-first s e n
 
+    pub opens-order : p .start ≤ p .«end»
+    opens-order = line-order s e n
+
+    pub opens-end : p .«end» ≤ length s
+    opens-end = line-inside s e n
+
+    module _ (c : getD s (p .start) 0 ≡ 0x23) {q : Place} (f : q ≡ firstWhere (starts 0x7B) (between s (p .start) (p .«end»))) where
+      pub opens-idle : q ≡ Nowhere → Comment Nowhere ≡ openingOf (lineOf s)
+      opens-idle g = ap openingOf (line-comment s e n c (comment-none (between s (p .start) (p .«end»)) (p .start) f g))
+
+      pub opens-comment : {i : ℕ} → q ≡ At i → Comment (At (p .start + i)) ≡ openingOf (lineOf s)
+      opens-comment g = ap openingOf (line-comment s e n c (comment-at (between s (p .start) (p .«end»)) (p .start) f g))
+
+      pub opens-fits : length s < 2 ^ 64 → {i : ℕ} → q ≡ At i → Fits w64 (p .start + i)
+      opens-fits b g = comment-fits (between s (p .start) (p .«end»)) (p .start) f g (line-room s e n b)
+
     pub opens-other : (getD s (p .start) 0 ≡ 0x23 → ⊥) → Other ≡ openingOf (lineOf s)
     opens-other c = go (le-or-lt (p .start) 0)
       where
@@ -75,27 +93,7 @@ module _ (s : List ℕ) {p : Span} (e : p ≡ trimBoth s) where
         go (inl h) = sym (class-other (p .start) (partOf s p)) ∙ ap openingOf (line-class s e n c h refl)
         go (inr h) = sym (member-other (p .start) (partOf s p)) ∙ ap openingOf (line-member s e n c h refl)
 
--- Any other line is what it was read as.
-module _ (s : List ℕ) {t : Line} (e : t ≡ lineOf s) where
-  pub read-blank : t ≡ kinds.Blank → Blank ≡ openingOf (lineOf s)
-  read-blank f = ap openingOf (sym f ∙ e)
-
-  pub read-comment : {brace : Place} → t ≡ kinds.Comment brace → Comment brace ≡ openingOf (lineOf s)
-  read-comment f = ap openingOf (sym f ∙ e)
-
-  pub read-class : {d r : Span} → t ≡ kinds.Class d r → Other ≡ openingOf (lineOf s)
-  read-class f = ap openingOf (sym f ∙ e)
-
-  pub read-field : {d n r : Span} → t ≡ kinds.Field d n r → Other ≡ openingOf (lineOf s)
-  read-field f = ap openingOf (sym f ∙ e)
-
-  pub read-method : {m : Method} {r : Span} → t ≡ kinds.Method m r → Other ≡ openingOf (lineOf s)
-  read-method f = ap openingOf (sym f ∙ e)
-
-  pub read-refused : {k : Refusal} → t ≡ kinds.Refused k → Other ≡ openingOf (lineOf s)
-  read-refused f = ap openingOf (sym f ∙ e)
-
-pub ruleset opened = (opens-blank, opens-inside, opens-other, read-blank, read-comment, read-class, read-field, read-method, read-refused, needs)
+pub ruleset opened = (opens-blank, opens-inside, opens-order, opens-end, opens-other, opens-idle, opens-comment, opens-fits, needs)
 
 -- What a line is by its opening.
 pub blank-is : (k : Line) → openingOf k ≡ Blank → k ≡ kinds.Blank

@@ -3,10 +3,9 @@ use json_comment::Comment;
 use json_comment::Stands;
 use json_comment::is_residual;
 use json_comment::read_comment;
-use line::Line;
-use line::read_line;
 use text_places::NextLine;
 use text_places::Place;
+use text_places::first_byte;
 use text_places::next_line;
 use text_white::trim_both;
 ghost use mathlib.Core.Path.{_≡_};
@@ -120,18 +119,10 @@ fn opening_of(line: &[u8]) -> Opening
     if line[start] != b'#' {
         return Opening::Other;
     }
-    match read_line(line) {
-        Line::Blank => Opening::Blank,
-        Line::Comment(brace) => Opening::Comment(brace),
-        Line::Class { display: _, raw: _ } => Opening::Other,
-        Line::Field {
-            declared: _,
-            name: _,
-            raw: _,
-        } => Opening::Other,
-        Line::Method { method: _, raw: _ } => Opening::Other,
-        Line::Refused(_) => Opening::Other,
-    }
+    let Place::At(gap) = first_byte(&line[start..end], b'{') else {
+        return Opening::Comment(Place::Nowhere);
+    };
+    Opening::Comment(Place::At(start + gap))
 }
 
 // The later of two signatures: that of a comment in the line from `by` on, else the one before.

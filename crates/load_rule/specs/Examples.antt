@@ -1,7 +1,6 @@
 -- Worked examples of loading, computed from the rules.
 use mathlib.Core.Path.{_≡_, refl}
 use mathlib.Core.List.{[], _∷_}
-use Prim.Native.Nat.{ℕ}
 use Prim.Native.String.{String}
 use Rattle.ground.specs.Ascii.{ascii}
 use Rattle.text_places.specs.Places.{firstFrom, lastFrom, same}

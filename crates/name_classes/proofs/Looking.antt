@@ -4,18 +4,17 @@ use mathlib.Core.Bool.{Bool, true, false, not}
 use mathlib.Core.List.{List, []}
 use Prim.Native.Nat.{ℕ, _≤_, _<_}
 use native.Mathlib.Omega.{arith}
-use lib.ListN.{length, getD, take, length-take}
+use lib.ListN.{length, getD, take}
 use borrow.Author.Tests.{not-true, not-false}
 use borrow.Author.Needs.{needs}
 use Rattle.ground.proofs.Parts.{prefix-whole}
 use Rattle.table_rows.specs.declared.rows.Class.{Class}
 use Rattle.table_rows.specs.Rows.{unpackClass}
-use Rattle.table_rows.specs.Classes.{shown}
 use Rattle.table_rows.specs.Tables.{tables}
 use Rattle.tables.specs.declared.check.Used.{Used}
 use Rattle.tables.specs.declared.search.Found.{Found}
 use Rattle.tables.specs.declared.search.Found.the-variants as row
-use Rattle.tables.specs.Back.{textIn, readBack}
+use Rattle.tables.specs.Back.{textIn}
 use Rattle.tables.specs.Check.{wellFormed}
 use Rattle.tables.specs.Search.{lastRaw, lastDisplay}
 use Rattle.tables.proofs.Checking.{formed}

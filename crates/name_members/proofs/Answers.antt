@@ -1,5 +1,5 @@
 -- What is answered for a member, and 14. Assumes nothing.
-use mathlib.Core.Path.{_≡_, refl, sym, _∙_, ap}
+use mathlib.Core.Path.{_≡_, sym, _∙_, ap}
 use mathlib.Core.Bool.{Bool, true, false, not}
 use mathlib.Core.List.{List, []}
 use Prim.Native.Nat.{ℕ, _≤_, _<_}
@@ -29,7 +29,6 @@ use Rattle.name_lines.specs.declared.lines.LineName.{LineName}
 use Rattle.name_lines.specs.declared.lines.LineName.the-variants as line
 use Rattle.name_lines.specs.LineNames.{lineName}
 use Rattle.name_rule.specs.MemberNames.{Key}
-use Rattle.name_rule.specs.MemberRows.{fieldRow, methodRow, lineRow}
 use Rattle.name_rule.proofs.Rows.{field-found, method-found, line-found}
 use Rattle.name_members.specs.declared.rows.Asked.{Asked}
 use Rattle.name_members.specs.declared.rows.Asked.the-variants as asked
@@ -39,7 +38,7 @@ use Rattle.name_members.specs.declared.names.MemberName.{MemberName}
 use Rattle.name_members.specs.declared.names.MemberName.the-variants as name
 use Rattle.name_members.specs.declared.names.MemberLine.{MemberLine}
 use Rattle.name_members.specs.declared.names.MemberLine.the-variants as shown
-use Rattle.name_members.specs.MemberAnswers.{rowAsked, answerOfRow, answering, nameOfRow, nameAnswer, lineOfRow, lineOfAnswer, fieldAnswer, methodAnswer, lineAnswer}
+use Rattle.name_members.specs.MemberAnswers.{rowAsked, answerOfRow, answering, nameOfRow, nameAnswer, lineOfRow, lineOfAnswer}
 
 -- The row that answers is there.
 row-inside : (a : Asked) (cs : List Pair) (k : Key) (rows : List (List ℕ)) (pool : List ℕ) {i : ℕ} → rowAsked a cs k rows pool ≡ row.Row i → i < length rows

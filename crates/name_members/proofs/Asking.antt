@@ -7,7 +7,7 @@ use native.Mathlib.Omega.{arith}
 use lib.ListN.{length, getD}
 use borrow.Author.Needs.{needs}
 use Rattle.ground.specs.Choice.{both}
-use Rattle.ground.specs.Look.{Look, known, unknown}
+use Rattle.ground.specs.Look.{known, unknown}
 use Rattle.ground.proofs.Cases.{clash}
 use Rattle.table_rows.specs.declared.rows.Class.{Class}
 use Rattle.table_rows.specs.Classes.{Pair, shown}
@@ -15,7 +15,7 @@ use Rattle.table_rows.specs.Rows.{unpackClass}
 use Rattle.tables.specs.declared.search.Found.{Found}
 use Rattle.tables.specs.declared.search.Found.the-variants.{Row, Unknown}
 use Rattle.tables.specs.Back.{textIn, readBack}
-use Rattle.tables.specs.Search.{orRow, lastRaw}
+use Rattle.tables.specs.Search.{lastRaw}
 use Rattle.tables.proofs.Searching.{raw-found, raw-unknown}
 use Rattle.name_lines.specs.declared.lines.RawLine.{RawLine}
 use Rattle.name_rule.specs.MemberNames.{Key, key, isFieldKind, isMethodKind, ownedBy}

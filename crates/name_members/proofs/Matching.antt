@@ -16,7 +16,7 @@ use Rattle.table_rows.specs.Classes.{Pair}
 use Rattle.table_rows.specs.Rows.{unpackClass, unpackMember}
 use Rattle.tables.specs.Back.{textIn, pairOf, readBack}
 use Rattle.tables.proofs.Searching.{scanning-starts, scanning-ends, scanning-inside, scanning-found, scanning-more}
-use Rattle.load_rule.specs.Members.{MemberKind, field, method}
+use Rattle.load_rule.specs.Members.{field, method}
 use Rattle.name_lines.specs.declared.lines.RawLine.{RawLine}
 use Rattle.name_lines.specs.LineNames.{holdsLine}
 use Rattle.name_rule.specs.Mappings.{kindBack, memberBack, entryBack}

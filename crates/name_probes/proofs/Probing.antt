@@ -2,14 +2,12 @@
 use mathlib.Core.Path.{_≡_, refl, sym, _∙_, ap}
 use mathlib.Core.Bool.{Bool, true, false, not}
 use mathlib.Core.List.{List, []}
-use Prim.Native.Nat.{ℕ, _+_, _%_, _≤_, _<_, min}
+use Prim.Native.Nat.{ℕ, _+_, _%_, _≤_}
 use native.Mathlib.Omega.{arith}
-use lib.ListN.{length, getD, take, replicate, length-take}
+use lib.ListN.{length, getD, take, length-take}
 use borrow.Author.Tests.{not-true, not-false}
 use borrow.Author.Needs.{needs}
-use Rattle.ground.specs.Choice.{pick}
 use Rattle.ground.proofs.Parts.{prefix-whole}
-use Rattle.table_rows.specs.Classes.{Pair}
 use Rattle.table_rows.specs.Rows.{unpackClass, mostMembers}
 use Rattle.table_rows.specs.Tables.{tables}
 use Rattle.tables.specs.declared.check.Used.{Used}

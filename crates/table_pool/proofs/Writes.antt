@@ -1,15 +1,14 @@
 -- Bytes written one after the other. Assumes nothing.
 use mathlib.Core.Path.{_≡_, refl, sym, _∙_, ap}
-use mathlib.Core.List.{List, [], _∷_, _++_}
+use mathlib.Core.List.{List, _++_}
 use Prim.Native.Nat.{ℕ, _+_, _-_, _^_, _≤_, _<_}
 use native.Mathlib.Nat.{add-assoc}
 use native.Mathlib.Numerals.{add-one}
 use native.Mathlib.Omega.{arith}
-use lib.ListN.{length, getD, set, replicate, length-set, length-append, length-replicate, length-map, getD-replicate, List·getD-map}
+use lib.ListN.{length, getD, set, replicate, length-set, length-append, length-replicate, getD-replicate}
 use lib.Seq.{paste, paste-zero, paste-suc}
 use mir.Val.{Fits}
 use mir.Syntax.{w64}
-use borrow.Author.Tests.{eq-eqb, ne-eqb}
 use borrow.Author.Needs.{needs}
 use Rattle.ground.specs.Put.{put}
 use Rattle.ground.proofs.PutLaws.{paste-put, put-put, length-put}

@@ -1,7 +1,6 @@
 -- "The last class row with a given raw (or display) descriptor answers." Assumes nothing.
 use mathlib.Core.Path.{_≡_}
 use mathlib.Core.List.{List, [], _∷_, _++_}
-use Prim.Native.Nat.{ℕ}
 use Rattle.ground.specs.Look.{known}
 use Rattle.text_places.proofs.PlaceLaws.{same-refl}
 use Rattle.table_rows.specs.Classes.{Pair, shown}

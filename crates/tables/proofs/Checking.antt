@@ -6,14 +6,14 @@ use Prim.Native.Nat.{ℕ, zero, suc, _+_, _≤_, _<_, min}
 use native.Mathlib.Nat.{le-of-suc-le-suc, not-suc-le-zero}
 use native.Mathlib.Omega.{arith}
 use lib.Dec.{leb, ltb}
-use lib.ListN.{length, getD, take, drop, length-drop}
+use lib.ListN.{length, getD, take}
 use lib.Seq.{getD-take, length-take-le, take-at}
 use borrow.Author.Tests.{le-leb, lt-ltb, leb-true, ltb-true}
 use Rattle.ground.specs.Choice.{both}
-use Rattle.ground.proofs.Cases.{both-left, both-right, clash}
+use Rattle.ground.proofs.Cases.{both-left, both-right}
 use Rattle.text_utf8.specs.declared.check.Check.{Check}
-use Rattle.text_utf8.specs.declared.check.Check.the-variants.{Valid, Broken}
-use Rattle.text_utf8.specs.Utf8.{checkOf, isValid, isUtf8}
+use Rattle.text_utf8.specs.declared.check.Check.the-variants.{Valid}
+use Rattle.text_utf8.specs.Utf8.{checkOf, isUtf8}
 use Rattle.text_utf8.proofs.Checking.{valid-told}
 use Rattle.table_rows.specs.declared.rows.Text.{Text}
 use Rattle.table_rows.specs.declared.rows.Member.{Member}

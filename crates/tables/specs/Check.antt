@@ -1,6 +1,6 @@
 -- Document 01, refusal 14, "tables malformed". "Rows and names": "Malformed: a count above the rows or pool lent, a text reaching past the
 -- used pool, a class row, kind or flag out of range, or a named text not UTF-8."
-use mathlib.Core.Bool.{Bool, true, false}
+use mathlib.Core.Bool.{Bool, true}
 use mathlib.Core.List.{List, [], _∷_}
 use Prim.Native.Nat.{ℕ, _+_, min}
 use lib.Dec.{leb, ltb}

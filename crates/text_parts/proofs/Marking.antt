@@ -3,9 +3,9 @@ use mathlib.Core.Path.{_≡_, refl, sym, _∙_, ap}
 use mathlib.Core.Bool.{Bool, true, false, not}
 use mathlib.Core.List.{List, [], _∷_}
 use mathlib.Core.Logic.{_⊎_, inl, inr}
-use Prim.Native.Nat.{ℕ, zero, suc, _+_, _-_, _*_, _^_, _≤_, _<_}
+use Prim.Native.Nat.{ℕ, zero, suc, _+_, _-_, _^_, _≤_, _<_}
 use native.Mathlib.Omega.{arith}
-use lib.ListN.{length, getD, set, take, drop, length-drop, drop-of-length-le, length-set}
+use lib.ListN.{length, getD, set, drop, length-drop, drop-of-length-le, length-set}
 use lib.Seq.{drop-cons, drop-drop, getD-set-same, getD-set-other}
 use mir.Val.{Fits}
 use mir.Syntax.{w32, w64}
@@ -13,15 +13,15 @@ use borrow.Author.Tests.{not-true, not-false}
 use borrow.Author.Needs.{needs}
 use Rattle.ground.specs.Choice.{pick}
 use Rattle.ground.specs.Put.{between}
-use Rattle.ground.proofs.Cases.{cases, le-or-lt}
+use Rattle.ground.proofs.Cases.{le-or-lt}
 use Rattle.ground.proofs.Parts.{take-rest}
 use Rattle.text_utf8.specs.declared.check.Check.{Check}
 use Rattle.text_utf8.specs.declared.check.Check.the-variants.{Valid, Broken}
 use Rattle.text_utf8.specs.Utf8.{checkOf}
 use Rattle.text_utf8.proofs.Boundaries.{Fresh, fresh-as}
-use Rattle.text_parts.specs.inner.Reach.{isTail, tailsUpTo, tailsAt, stopOf, validTo, Begun, groupPlace, groupCount, ReachedTo}
+use Rattle.text_parts.specs.inner.Reach.{isTail, tailsUpTo, tailsAt, validTo, Begun, groupPlace, groupCount, ReachedTo}
 use Rattle.text_parts.proofs.Tails.{tail-low, tail-upper, tails-inside, tails-fresh}
-use Rattle.text_parts.proofs.Reaching.{Extends, valid-extends, moved-on}
+use Rattle.text_parts.proofs.Reaching.{valid-extends, moved-on}
 
 pub ruleset tail-byte = (tail-low, tail-upper, needs)
 

@@ -11,7 +11,7 @@ use borrow.Author.Tests.{lt-ltb, le-ltb, eq-eqb, ne-eqb}
 use Rattle.ground.specs.Abnf.{none, more}
 use Rattle.ground.specs.Put.{between}
 use Rattle.ground.proofs.Cases.{le-or-lt, clash}
-use Rattle.ground.proofs.Parts.{take-rest, drop-take}
+use Rattle.ground.proofs.Parts.{take-rest}
 use Rattle.text_utf8.specs.declared.check.Check.{Check}
 use Rattle.text_utf8.specs.declared.check.Check.the-variants.{Valid, Broken}
 use Rattle.text_utf8.specs.Grammar.{UTF8-char, UTF8-octets}
@@ -20,7 +20,7 @@ use Rattle.text_utf8.proofs.Checking.{valid-told}
 use Rattle.text_utf8.proofs.Grammatical.{valid-iff, broken-breaks}
 use Rattle.text_utf8.proofs.Boundaries.{octets-as, append-octets, Fresh, at-end, fresh-as, octets-fresh, cut-octets}
 use Rattle.text_parts.specs.inner.Reach.{isTail, stopOf, validTo, endsWell}
-use Rattle.text_parts.proofs.Tails.{rest-octets, fresh-here, here-fresh, fresh-head, head-fresh}
+use Rattle.text_parts.proofs.Tails.{rest-octets, here-fresh, fresh-head, head-fresh}
 
 -- A text is UTF-8, or not.
 pub utf8-yes : (s : List ℕ) → UTF8-octets s → isUtf8 s ≡ true

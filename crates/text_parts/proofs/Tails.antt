@@ -1,21 +1,16 @@
 -- Octets that only continue a sequence, and where a well-formed text may be cut. Assumes nothing.
 use mathlib.Core.Path.{_≡_, refl, sym, _∙_, ap}
-use mathlib.Core.Bool.{Bool, true, false, not}
+use mathlib.Core.Bool.{Bool, true, false}
 use mathlib.Core.List.{List, [], _∷_, _++_, append-assoc}
 use mathlib.Core.Logic.{_⊎_, inl, inr}
-use Prim.Native.Nat.{ℕ, zero, suc, _+_, _-_, _^_, _≤_, _<_}
-use native.Mathlib.Nat.{add-zero, add-assoc}
-use native.Mathlib.Numerals.{add-one}
+use Prim.Native.Nat.{ℕ, zero, suc, _+_, _-_, _≤_, _<_}
 use native.Mathlib.Omega.{arith}
 use lib.Dec.{leb}
-use lib.ListN.{length, getD, take, drop, length-drop, length-append}
+use lib.ListN.{length, getD, drop, length-drop, length-append}
 use lib.Seq.{drop-append-seam, drop-cons, getD-drop, getD-append-add}
-use mir.Val.{Fits}
-use mir.Syntax.{w64}
 use borrow.Author.Tests.{le-leb}
-use borrow.Author.Needs.{needs}
 use Rattle.ground.specs.Abnf.{octet, _⨾_, left, right, none, more}
-use Rattle.ground.specs.Choice.{pick, within}
+use Rattle.ground.specs.Choice.{pick}
 use Rattle.ground.proofs.Cases.{within-yes, within-low, within-high, le-or-lt, clash}
 use Rattle.text_utf8.specs.Grammar.{UTF8-char, UTF8-octets}
 use Rattle.text_utf8.proofs.Grammatical.{char-reads}

@@ -5,3 +5,4 @@ pub mod BlockLaws
 pub mod EightLaws
 pub mod Holds
 pub mod Taking
+pub mod InPart

@@ -1,7 +1,7 @@
 -- Laws of the rules, one file a subject.
 pub mod Ranges
 pub mod TrimLaws
-mod Ink
+pub mod Ink
 pub mod Sync
 pub mod Starting
 pub mod Cuts

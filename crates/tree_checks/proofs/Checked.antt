@@ -20,7 +20,7 @@ use Rattle.text_utf8.specs.Utf8.{isUtf8}
 use Rattle.tree_rule.specs.declared.TreeCounts.{TreeCounts}
 use Rattle.tree_rule.specs.declared.RowCheck.{RowCheck}
 use Rattle.tree_rule.specs.declared.RowCheck.the-variants.{Fine, Faulty}
-use Rattle.tree_rule.specs.Words.{wordAt, sumFrom}
+use Rattle.tree_rule.specs.Words.{sumFrom}
 use Rattle.tree_rule.specs.Files.{fileLength, tokensStart, namesStart, parentAt, tokenCountAt, nameRow, nameAt, bytesIn}
 use Rattle.tree_rule.specs.Checks.{
   firstFaulty,

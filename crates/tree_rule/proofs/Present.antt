@@ -1,8 +1,8 @@
 -- The tokens that a signature names. Assumes nothing.
-use mathlib.Core.Path.{_≡_, refl, sym, _∙_, ap}
+use mathlib.Core.Path.{_≡_, refl, _∙_}
 use mathlib.Core.Bool.{Bool, true, false}
 use mathlib.Core.List.{List, [], _∷_}
-use Prim.Native.Nat.{ℕ, zero, suc, _+_, _-_, _≤_, _<_}
+use Prim.Native.Nat.{ℕ, suc, _+_, _-_, _≤_, _<_}
 use native.Mathlib.Omega.{arith}
 use lib.ListN.{length, getD, take, drop, length-drop, length-take}
 use Rattle.ground.specs.Choice.{pick}
@@ -14,7 +14,7 @@ use Rattle.tree_rule.specs.declared.Token.the-variants.{Other}
 use Rattle.tree_rule.specs.declared.Owner.{Owner}
 use Rattle.tree_rule.specs.declared.Owner.the-variants.{Given, At as TokenAt}
 use Rattle.tree_rule.specs.declared.NodeSignature.{NodeSignature}
-use Rattle.tree_rule.specs.declared.NodeSignature.the-variants.{Absent, Present}
+use Rattle.tree_rule.specs.declared.NodeSignature.the-variants.{Present}
 use Rattle.tree_rule.specs.Signatures.{
   firstToken,
   lastToken,

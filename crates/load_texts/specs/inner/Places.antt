@@ -1,6 +1,6 @@
 -- Where the texts of a member stand, and its row.
 use mathlib.Core.Path.{_≡_}
-use mathlib.Core.List.{List, _++_}
+use mathlib.Core.List.{List}
 use Prim.Native.Nat.{ℕ, _+_, _-_, _≤_, _<_}
 use lib.ListN.{length}
 use Rattle.table_pool.specs.inner.Wrote.{Written}

@@ -1,5 +1,5 @@
 -- A mark of each descriptor: descriptors of different marks differ.
-use mathlib.Core.List.{List, [], map}
+use mathlib.Core.List.{List, map}
 use Prim.Native.Nat.{ℕ, _+_, _*_, _-_, _/_, _%_}
 use lib.Dec.{ltb}
 use lib.ListN.{length, getD}

@@ -30,11 +30,11 @@ shifted-requires c κs = search membering
 first-byte-requires : tie.Need-first-byte-requires
 first-byte-requires c κs = search membering
 
+enum-known-open : tie.Need-enum-known-open
+enum-known-open c = search membering
+
 enum-told-2 : tie.Need-enum-told-2
 enum-told-2 c = search membering
-
-enum-told-3 : tie.Need-enum-told-3
-enum-told-3 c = search membering
 
 add-field-line : tie.Need-add-field-line
 add-field-line c = search membering
@@ -67,8 +67,8 @@ member-line-spec =
     part-side-end
     shifted-requires
     first-byte-requires
+    enum-known-open
     enum-told-2
-    enum-told-3
     add-field-line
     field-line-requires
     returns-2

@@ -1,7 +1,6 @@
 -- `line_parts::method::method_from` meets its contract, by the laws of Methods.
 use denote.Ref.{now}
-use Rattle.line_parts.specs.declared.method.LineRange.the-variants.{NoLines}
-use Rattle.line_parts.proofs.Methods.{end-inside, method-read, typing}
+use Rattle.line_parts.proofs.Methods.{typing, signature-part, method-read}
 use Rattle.line_parts.proofs.method.method_from.Statement.{statement}
 use Rattle.line_parts.proofs.method.method_from.Tie as tie
 
@@ -47,17 +46,8 @@ add-start c = search typing
 add-end : tie.Need-add-end
 add-end c = search typing
 
-sub-signature-parts : tie.Need-sub-signature-parts
-sub-signature-parts c = search typing
-
-part-signature-parts-start : tie.Need-part-signature-parts-start
-part-signature-parts-start c = search typing
-
-part-signature-parts-end : tie.Need-part-signature-parts-end
-part-signature-parts-end c = end-inside (now (c .before .before .before .before .before .before .before .before .before .before .args .left)) (c .before .before .before .before .before .before .before .before .before .before .args .rest) (c .before .before .before .before .before .before .before .before .before .before .pre) NoLines (c .before .before .before .before .before .before .before .first-white .ensures) (c .before .before .before .before .before .white .given .1) (c .before .before .trim-both .ensures)
-
-signature-parts-requires : tie.Need-signature-parts-requires
-signature-parts-requires c κs = search typing
+signature-in-requires : tie.Need-signature-in-requires
+signature-in-requires c κs = search signature-part
 
 enum-known-named : tie.Need-enum-known-named
 enum-known-named c = search typing
@@ -78,7 +68,7 @@ settled-requires : tie.Need-settled-requires
 settled-requires c κs = search typing
 
 returns-3 : tie.Need-returns-3
-returns-3 c = method-read (now (c .before .before .before .before .before .before .before .before .before .before .before .before .before .before .before .before .before .before .args .left)) (c .before .before .before .before .before .before .before .before .before .before .before .before .before .before .before .before .before .before .args .rest) (c .before .before .before .before .before .before .before .before .before .before .before .before .before .before .before .before .before .before .pre) (c .before .before .before .before .before .before .before .before .before .before .before .before .before .before .before .before .before .before .args .raw) (c .before .before .before .before .before .before .before .before .before .before .before .before .before .before .before .first-white .ensures) (c .before .before .before .before .before .before .before .before .before .before .before .before .before .white .given .1) (c .before .before .before .before .before .before .before .before .before .before .trim-both .ensures) (c .before .before .before .before .before .before .signature-parts .ensures) (c .before .before .before .before .named .given .1) (c .before .before .shifted-name .ensures) (c .before .shifted .ensures) (c .settled .ensures)
+returns-3 c = method-read (now (c .before .before .before .before .before .before .before .before .before .before .before .before .before .before .before .before .before .args .left)) (c .before .before .before .before .before .before .before .before .before .before .before .before .before .before .before .before .before .args .rest) (c .before .before .before .before .before .before .before .before .before .before .before .before .before .before .before .before .before .pre .0) (c .before .before .before .before .before .before .before .before .before .before .before .before .before .before .first-white .ensures) (c .before .before .before .before .before .before .before .before .before .before .before .before .white .given .1) (c .before .before .before .before .before .before .before .before .before .trim-both .ensures) (c .before .before .before .before .before .before .signature-in .ensures) (c .before .before .before .before .named .given .1) (c .before .before .before .before .before .before .before .before .before .before .before .before .before .before .before .before .before .args .raw) (c .before .before .shifted-name .ensures) (c .before .shifted .ensures) (c .settled .ensures)
 
 pub method-from-spec : {M : Type 1} → statement M
 method-from-spec =
@@ -98,10 +88,7 @@ method-from-spec =
     trim-both-requires
     add-start
     add-end
-    sub-signature-parts
-    part-signature-parts-start
-    part-signature-parts-end
-    signature-parts-requires
+    signature-in-requires
     enum-known-named
     enum-told-2
     returns-2

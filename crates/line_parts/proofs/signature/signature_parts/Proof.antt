@@ -3,11 +3,8 @@ use Rattle.line_parts.proofs.Members.{signing}
 use Rattle.line_parts.proofs.signature.signature_parts.Statement.{statement}
 use Rattle.line_parts.proofs.signature.signature_parts.Tie as tie
 
-first-byte-requires : tie.Need-first-byte-requires
-first-byte-requires c κs = search signing
-
-enum-known-open : tie.Need-enum-known-open
-enum-known-open c = search signing
+enum-known-opened : tie.Need-enum-known-opened
+enum-known-opened c = search signing
 
 enum-told : tie.Need-enum-told
 enum-told c = search signing
@@ -61,8 +58,7 @@ pub signature-parts-spec : {M : Type 1} → statement M
 signature-parts-spec =
     tie.close
     (tie.spec
-    first-byte-requires
-    enum-known-open
+    enum-known-opened
     enum-told
     returns
     last-close-requires

@@ -15,44 +15,32 @@ shared-slice-read-if2 c = search opened
 returns-2 : tie.Need-returns-2
 returns-2 c = search opened
 
-read-line-requires : tie.Need-read-line-requires
-read-line-requires c κs = search opened
+sub-first-byte : tie.Need-sub-first-byte
+sub-first-byte c = search opened
+
+part-first-byte-start : tie.Need-part-first-byte-start
+part-first-byte-start c = search opened
+
+part-first-byte-end : tie.Need-part-first-byte-end
+part-first-byte-end c = search opened
+
+first-byte-requires : tie.Need-first-byte-requires
+first-byte-requires c κs = search opened
+
+enum-known-gap : tie.Need-enum-known-gap
+enum-known-gap c = search opened
 
 enum-told : tie.Need-enum-told
 enum-told c = search opened
 
-enum-known-brace : tie.Need-enum-known-brace
-enum-known-brace c = search opened
-
-enum-told-2 : tie.Need-enum-told-2
-enum-told-2 c = search opened
-
-enum-told-3 : tie.Need-enum-told-3
-enum-told-3 c = search opened
-
-enum-told-4 : tie.Need-enum-told-4
-enum-told-4 c = search opened
-
-enum-told-5 : tie.Need-enum-told-5
-enum-told-5 c = search opened
-
 returns-3 : tie.Need-returns-3
 returns-3 c = search opened
 
+add-t11 : tie.Need-add-t11
+add-t11 c = search opened
+
 returns-4 : tie.Need-returns-4
 returns-4 c = search opened
-
-returns-5 : tie.Need-returns-5
-returns-5 c = search opened
-
-returns-6 : tie.Need-returns-6
-returns-6 c = search opened
-
-returns-7 : tie.Need-returns-7
-returns-7 c = search opened
-
-returns-8 : tie.Need-returns-8
-returns-8 c = search opened
 
 pub opening-of-spec : {M : Type 1} → statement M
 opening-of-spec =
@@ -62,16 +50,12 @@ opening-of-spec =
     returns
     shared-slice-read-if2
     returns-2
-    read-line-requires
+    sub-first-byte
+    part-first-byte-start
+    part-first-byte-end
+    first-byte-requires
+    enum-known-gap
     enum-told
-    enum-known-brace
-    enum-told-2
-    enum-told-3
-    enum-told-4
-    enum-told-5
     returns-3
-    returns-4
-    returns-5
-    returns-6
-    returns-7
-    returns-8)
+    add-t11
+    returns-4)
