@@ -1,6 +1,7 @@
 //! Texts of many equal parts, timed at doubling lengths: where time is linear, a row stays at one number.
 
 use crate::times::{self, Times};
+use clumarief_compare::repeats;
 use std::fmt::Display;
 use std::hint::black_box;
 use std::time::Duration;
@@ -26,9 +27,7 @@ impl Hostile {
 
     /// As many parts as go into the length.
     pub fn text(&self, length: usize) -> String {
-        let room = length.saturating_sub(self.before.len() + self.after.len());
-        let parts = self.part.repeat(room / self.part.len());
-        [&self.before[..], &parts, &self.after].concat()
+        repeats::repeated([&self.before, &self.part, &self.after], length)
     }
 }
 
@@ -84,21 +83,4 @@ pub fn print_row_of<A: Display, W: FnMut() -> A>(
         last = format!("{:>9.3}{:>7.1}%", of_byte(times.median()), times.spread());
     }
     println!("{name:<26}{said:<9}{row}{last}");
-}
-
-#[cfg(test)]
-mod tests {
-    use super::Hostile;
-
-    #[test]
-    fn a_text_is_filled_up_to_its_length() {
-        let hostile = Hostile::new("a", "{", "ab", "}");
-        assert_eq!(hostile.text(7), "{abab}");
-        assert_eq!(hostile.text(8), "{ababab}");
-    }
-
-    #[test]
-    fn a_short_text_has_no_part() {
-        assert_eq!(Hostile::new("a", "{", "ab", "}").text(1), "{}");
-    }
 }

@@ -6,8 +6,10 @@ use crate::hostile::{self, KIBIBYTES};
 use crate::load_table::{LoadTable, Row};
 use crate::load_texts;
 use crate::race::Unequal;
+use clumarief_compare::file_forms;
 use clumarief_compare::plain::{self, LIMITS};
 use clumarief_compare::random::Random;
+use clumarief_compare::shared_marks::{self, Side};
 use clumarief_compare::synthetic::{self, Form};
 use clumarief_compare::timing;
 use std::fs;
@@ -32,11 +34,11 @@ type Maker = fn(&str) -> String;
 /// What is made of the real file.
 const REAL: [(Row, Maker); 4] = [
     (row("real file", "5"), str::to_owned),
-    (row("real file as R8", "3"), load_texts::as_r8),
+    (row("real file as R8", "3"), file_forms::as_r8),
     (row("real file, 16 KB comments", "1"), |text| {
-        load_texts::long_comments(text, MEGABYTE)
+        file_forms::long_comments(text, MEGABYTE)
     }),
-    (row("real file, CRLF", "1"), load_texts::crlf),
+    (row("real file, CRLF", "1"), file_forms::crlf),
 ];
 
 fn real(table: &mut LoadTable, path: Option<&Path>) -> Result<(), Unequal> {
@@ -71,14 +73,20 @@ fn idle(table: &mut LoadTable) -> Result<(), Unequal> {
 }
 
 /// Names that share one mark: no slower than the original's hash maps, however many they are.
+const COLLIDING: [(&str, Side, usize); 8] = [
+    ("512 alike", Side::Display, 512),
+    ("1,024 alike", Side::Display, 1_024),
+    ("2,048 alike", Side::Display, 2_048),
+    ("4,096 alike", Side::Display, 4_096),
+    ("512 raw alike", Side::Raw, 512),
+    ("1,024 raw alike", Side::Raw, 1_024),
+    ("2,048 raw alike", Side::Raw, 2_048),
+    ("4,096 raw alike", Side::Raw, 4_096),
+];
+
 fn colliding(table: &mut LoadTable) -> Result<(), Unequal> {
-    for (name, count) in [
-        ("512 alike", 512),
-        ("1,024 alike", 1_024),
-        ("2,048 alike", 2_048),
-        ("4,096 alike", 4_096),
-    ] {
-        let text = load_texts::alike_mapping(count, MEGABYTE);
+    for (name, side, count) in COLLIDING {
+        let text = shared_marks::mapping(side, count, MEGABYTE);
         table.row(row(name, "1"), &text, buffers::rounded)?;
     }
     Ok(())
@@ -125,8 +133,8 @@ pub fn run_hostile(runs: u64, path: Option<&Path>) {
         hostile::print_row(&text, runs, loads);
     }
     let made: [(&str, LongMaker); 2] = [
-        ("real file, 16 KB comments", load_texts::long_comments),
-        ("real file, CRLF", load_texts::crlf_again),
+        ("real file, 16 KB comments", file_forms::long_comments),
+        ("real file, CRLF", file_forms::crlf_again),
     ];
     for (name, made) in made {
         match real_text(path) {

@@ -4,15 +4,8 @@
 
 use crate::times::{self, Times};
 use clumarief_compare::proved::{self, Tables};
+use clumarief_compare::shared_marks::name;
 use std::hint::black_box;
-
-/// A number by its bits as letters, between four letters and twelve: a mark goes by these and by the length, so that all names of
-/// as many bits have one mark.
-pub fn name(number: usize, bits: usize) -> String {
-    let letter = |bit: usize| if number >> bit & 1 == 1 { 'b' } else { 'a' };
-    let between: String = (0..bits).map(letter).collect();
-    format!("Same{between}TwelveLetter")
-}
 
 /// One class with `1 << bits` methods, each with a name of its own.
 struct Shared {

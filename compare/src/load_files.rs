@@ -3,6 +3,7 @@
 use crate::load_held::Loading;
 use crate::load_rooms::{Load, Room};
 use crate::load_texts;
+use crate::plain::LONGEST;
 use crate::random::Random;
 use crate::report::{Held, Settings};
 use crate::synthetic::{self, Form};
@@ -13,7 +14,8 @@ const ROOMS: &[Room] = &[Room::Exact, Room::ShorterPool, Room::Larger(100)];
 /// Lengths of texts that are like a file.
 const LENGTHS: [usize; 4] = [1_000, 10_000, 100_000, 400_000];
 
-fn hold(random: &mut Random, loading: &mut Loading, text: Vec<u8>, damaged: u64) -> Held {
+/// The text, and so many damaged copies.
+pub fn hold(random: &mut Random, loading: &mut Loading, text: Vec<u8>, damaged: u64) -> Held {
     let (marks, rooms) = (true, ROOMS);
     let mut load = Load { text, marks, rooms };
     loading.hold(&load)?;
@@ -21,9 +23,18 @@ fn hold(random: &mut Random, loading: &mut Loading, text: Vec<u8>, damaged: u64)
     for _ in 0..damaged {
         load.text.clone_from(&whole);
         load_texts::damage(random, &mut load.text);
+        // a long line may have been doubled
+        load.text.truncate(LONGEST);
         loading.hold(&load)?;
     }
     Ok(())
+}
+
+/// The text of the real file, or why there is none.
+pub fn real_text(settings: &Settings) -> Result<Vec<u8>, String> {
+    let path = settings.real.as_ref();
+    let path = path.ok_or("none is named, see run --real")?;
+    fs::read(path).map_err(|error| error.to_string())
 }
 
 pub fn run(settings: &Settings, loading: &mut Loading) -> Held {
@@ -42,14 +53,10 @@ pub fn run(settings: &Settings, loading: &mut Loading) -> Held {
             hold(&mut random, loading, text, 2)?;
         }
     }
-    let Some(path) = &settings.real else {
-        println!("a real mapping file is left out: none is named, see run --real");
-        return Ok(());
-    };
-    match fs::read(path) {
+    match real_text(settings) {
         Ok(text) => hold(&mut random, loading, text, settings.turns(40).end),
-        Err(error) => {
-            println!("a real mapping file is left out: {error}");
+        Err(why) => {
+            println!("a real mapping file is left out: {why}");
             Ok(())
         }
     }

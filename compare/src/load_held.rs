@@ -80,6 +80,7 @@ pub struct Loading {
     #[cfg(original)]
     tables: Comparison<Load, Answer>,
     seen: Seen,
+    texts: u64,
 }
 
 impl Default for Loading {
@@ -89,17 +90,25 @@ impl Default for Loading {
             #[cfg(original)]
             tables: Comparison::new(TABLES),
             seen: Seen::default(),
+            texts: 0,
         }
     }
 }
 
 impl Loading {
     pub fn hold(&mut self, load: &Load) -> Held {
+        self.texts += 1;
         #[cfg(original)]
         self.tables.hold(load)?;
         let seen = &mut self.seen;
         self.load.hold_seen(load, |calls| seen.count(calls))
     }
+
+    /// How many texts were held so far.
+    pub fn texts(&self) -> u64 {
+        self.texts
+    }
+
     /// Says what was held.
     pub fn say(self, report: &mut Report) -> Held {
         #[cfg(original)]

@@ -1,9 +1,10 @@
-//! Loading, over examples, every short text, whole files, random texts and the largest ones.
+//! Loading, over examples, every short text, whole files, random texts, mappings of four kinds and the largest ones.
 
 use crate::every;
 use crate::load_examples;
 use crate::load_files;
 use crate::load_held::Loading;
+use crate::load_kinds;
 use crate::load_largest;
 use crate::load_rooms::{Load, Room};
 use crate::load_texts;
@@ -99,7 +100,9 @@ fn run_in_thread(settings: &Settings, report: &mut Report) -> Held {
     every_text(settings, &mut loading)?;
     load_files::run(settings, &mut loading)?;
     random_texts(settings, &mut loading)?;
+    let kinds = load_kinds::run(settings, &mut loading)?;
     load_largest::run(settings, &mut loading)?;
     println!("  examples with answers of their own: {examples}");
+    println!("  texts of four kinds    {kinds}");
     loading.say(report)
 }

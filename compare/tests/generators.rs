@@ -2,9 +2,11 @@
 
 use clumarief_compare::case::{Case, Text};
 use clumarief_compare::comment_texts;
+use clumarief_compare::equal_names;
 use clumarief_compare::every;
+use clumarief_compare::idle_runs;
 use clumarief_compare::load_texts;
-use clumarief_compare::plain::{self, Mapping};
+use clumarief_compare::plain::{self, LIMITS, LONGEST, Loaded, Mapping};
 use clumarief_compare::random::Random;
 use clumarief_compare::report::{Disagreement, Held, Settings};
 use clumarief_compare::synthetic::{self, Form};
@@ -103,7 +105,7 @@ fn synthetic_mappings_load() {
             let text = synthetic::mapping(&mut Random::new(3, "test"), form, length);
             assert!(text.is_ascii());
             assert!(length <= text.len() && text.len() < length + 1_000);
-            let loaded = read(&text).fit(plain::LIMITS).expect("within the limits");
+            let loaded = read(&text).fit(LIMITS).expect("within the limits");
             let fates = loaded.fates;
             assert_eq!(fates.short, 0);
             match form {
@@ -126,9 +128,61 @@ fn residual_signatures_are_right() {
         .lines()
         .filter(|line| !line.contains("residualsignature"));
     let bare: String = lines.map(|line| format!("{line}\n")).collect();
-    let [with, without] = [&text, &bare].map(|text| read(text).fit(plain::LIMITS).expect("good"));
+    let [with, without] = [&text, &bare].map(|text| read(text).fit(LIMITS).expect("good"));
     assert_eq!(with.pool, without.pool);
     assert_eq!(with.members, without.members);
+}
+
+fn load(text: &str) -> Loaded {
+    assert!(text.len() <= LONGEST);
+    read(text).fit(LIMITS).expect("within the limits")
+}
+
+/// How many of the rows have a text of their own at the place.
+fn texts_at<const N: usize>(loaded: &Loaded, rows: &[[u32; N]], at: usize) -> usize {
+    let text = |row: &[u32; N]| {
+        let start = row[at] as usize;
+        loaded.pool[start..start + row[at + 1] as usize].to_vec()
+    };
+    rows.iter().map(text).collect::<BTreeSet<_>>().len()
+}
+
+#[test]
+fn equal_names_are_of_one_side_or_both() {
+    let mut random = Random::new(1, "test");
+    let mut sides = BTreeSet::new();
+    for _ in 0..50 {
+        let loaded = load(&equal_names::mapping(&mut random, 100, 3));
+        assert_eq!(loaded.classes.len(), 100);
+        let own = [0, 2].map(|at| texts_at(&loaded, &loaded.classes, at) == 100);
+        sides.insert(own);
+        assert!(texts_at(&loaded, &loaded.members, 2) <= 2);
+    }
+    let known = [[true, false], [false, true], [false, false]];
+    assert_eq!(sides, BTreeSet::from(known));
+}
+
+#[test]
+fn equal_names_load_where_they_are_many() {
+    let mut random = Random::new(2, "test");
+    for (lines, members) in [(4_096, 1), (1_000, 4), (3, 3_000)] {
+        for _ in 0..6 {
+            let loaded = load(&equal_names::mapping(&mut random, lines, members));
+            assert_eq!(loaded.classes.len(), lines);
+        }
+    }
+}
+
+#[test]
+fn idle_runs_load_and_are_of_every_fate() {
+    let mut random = Random::new(1, "test");
+    let mut longest = 0;
+    for _ in 0..2_000 {
+        let fates = load(&idle_runs::mapping(&mut random)).fates;
+        assert!((1..4).contains(&fates.class));
+        longest = longest.max(fates.blank.min(fates.applied).min(fates.idle));
+    }
+    assert!(longest > 12, "{longest}");
 }
 
 #[test]
