@@ -9,6 +9,9 @@
 extern "C" {
 #endif
 
+/* Stack, measured on x86-64: a load takes up to 88 KiB (the index of classes, and a comment that nests as deep as is read), applying up to
+ * 257 KiB (the indexes of classes and of members), a look-up less than 1 KiB. There is no state, so any number of threads may call. */
+
 /* What is lent to a load beyond these counts as so much, and is zeroed all the same. */
 #define CLUMARIEF_MOST_TEXT 1048576
 #define CLUMARIEF_MOST_CLASSES 4096
