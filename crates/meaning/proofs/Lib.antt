@@ -1,1 +1,5 @@
 pub mod MarkedHold
+pub mod RoundTrip
+pub mod ClassesBack
+pub mod TokensBack
+pub mod ShownBack

@@ -1,2 +1,6 @@
--- Statements about the written rules.
+-- Theorems about the rules, for readers.
 pub mod Marked
+pub mod TurnedBack
+pub mod BackExamples
+pub mod AcceptedExample
+pub mod Outcomes
