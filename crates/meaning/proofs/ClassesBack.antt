@@ -103,12 +103,12 @@ class-closed l (Field declared name raw) e = every-none
 class-closed l (Method m raw) e = every-none
 class-closed l (Refused r) e = every-none
 
-all-first : {A : Type 0} (p : A → Bool) (a b : List A) → allOf p (a ++ b) ≡ true → allOf p a ≡ true
+pub all-first : {A : Type 0} (p : A → Bool) (a b : List A) → allOf p (a ++ b) ≡ true → allOf p a ≡ true
 unfolding allOf
 all-first p [] b e = refl
 all-first p (x ∷ a) b e = rw (both-left (p x) (allOf p (a ++ b)) e) (all-first p a b (both-right (p x) (allOf p (a ++ b)) e))
 
-all-second : {A : Type 0} (p : A → Bool) (a b : List A) → allOf p (a ++ b) ≡ true → allOf p b ≡ true
+pub all-second : {A : Type 0} (p : A → Bool) (a b : List A) → allOf p (a ++ b) ≡ true → allOf p b ≡ true
 unfolding allOf
 all-second p [] b e = e
 all-second p (x ∷ a) b e = all-second p a b (both-right (p x) (allOf p (a ++ b)) e)

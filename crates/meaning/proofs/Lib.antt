@@ -1,5 +1,8 @@
 pub mod MarkedHold
 pub mod RoundTrip
 pub mod ClassesBack
+pub mod LoadedTables
 pub mod TokensBack
 pub mod ShownBack
+pub mod AppliedComments
+pub mod SuccessStates

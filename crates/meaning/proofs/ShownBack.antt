@@ -6,7 +6,7 @@ use mathlib.Core.List.{List, [], _∷_}
 use Prim.Native.Nat.{ℕ, _<_}
 use lib.ListN.{length, getD, take}
 use Rattle.text_places.proofs.PlaceLaws.{same-equal}
-use Rattle.table_rows.specs.Tables.{Tables, tables}
+use Rattle.table_rows.specs.Tables.{Tables}
 use Rattle.table_rows.specs.Classes.{Pair, back}
 use Rattle.tables.specs.declared.check.Used.{Used}
 use Rattle.tables.proofs.Checking.{all-at}
@@ -15,10 +15,8 @@ use Rattle.load_rule.specs.declared.Fates.{Fates}
 use Rattle.load_rule.specs.declared.Load.the-variants.{Loaded}
 use Rattle.load_rule.specs.Classes.{classesOf}
 use Rattle.load_rule.specs.Theorems.{usedOf}
-use Rattle.load_rule.specs.Loading.{lentOf, answerOf, classesLeft, membersLeft, poolLeft}
 use Rattle.load.specs.Loads.{Loads}
-use Rattle.name_rule.specs.Mappings.{Mapping, mappingOf}
-use Rattle.name_rule.proofs.Loaded.{mapping-loaded}
+use Rattle.name_rule.specs.Mappings.{mappingOf}
 use Rattle.tree_rule.specs.declared.Token.{Token}
 use Rattle.tree_rule.specs.declared.Token.the-variants.{Other, Descriptor}
 use Rattle.tree_rule.specs.Trees.{Tree, nameIn}
@@ -33,16 +31,8 @@ use Rattle.apply_rule.specs.Theorems.{GivenWhen, when-done}
 use Rattle.apply_rule.proofs.Answers.{given-iff, accepted-reads-back}
 use Rattle.meaning.specs.TurnedBack.{displaysOnce, namesClosed, showsRaw, namesUnmistaken, ofTokens, turnsBack}
 use Rattle.meaning.specs.Outcomes.{Applies, Typed}
+use Rattle.meaning.proofs.LoadedTables.{tables-back}
 use Rattle.meaning.proofs.TokensBack.{tree-back}
-
--- the classes of the tables that an accepted load leaves are those of its lines
-loaded-classes : {s : List ℕ} {ls : List (List ℕ)} {before t : Tables} {f : Fates} {names : ℕ} → Loads (Loaded f names) s ls before t →
-    mappingOf t (usedOf f names) .classes ≡ classesOf ls
-loaded-classes {s} {ls} {before} {t} {f} {names} l =
-    let left : mappingOf t (usedOf f names) ≡ mappingOf
-    (tables (classesLeft s ls (lentOf before)) (membersLeft s ls (lentOf before)) (poolLeft s ls (lentOf before))) (usedOf f names) =
-    rw (l .classes, l .members, l .pool) refl in
-    ap (λ m. m .classes) (left ∙ mapping-loaded s ls (lentOf before) (sym (l .answer)))
 
 -- the tree of an accepted file
 accepted-sound : (t : Tables) (used : Used) (class file : List ℕ) (room : ℕ) → ((i : ℕ) → getD file i 0 < 256) → {n : ℕ} →
@@ -73,7 +63,7 @@ module _
       ap (λ o. readTree (take n o)) (a .output)
       ∙ accepted-reads-back t (usedOf f names) class file room (typed .rows) (typed .bytes) accepted in
       ap (ofTokens (turnsBack (classesOf ls))) tree
-      ∙ tree-back (mappingOf t (usedOf f names)) ls (loaded-classes load) once closed class (readTree file)
+      ∙ tree-back (mappingOf t (usedOf f names)) ls (ap (λ m. m .classes) (tables-back load)) once closed class (readTree file)
       (accepted-sound t (usedOf f names) class file room (typed .bytes) accepted) raw clear
 
 -- "So different raw descriptors never show alike": two descriptors of trees that turn back, of one output or of two.

@@ -4,3 +4,4 @@ pub mod TurnedBack
 pub mod BackExamples
 pub mod AcceptedExample
 pub mod Outcomes
+pub mod Success
