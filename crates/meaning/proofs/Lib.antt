@@ -6,3 +6,5 @@ pub mod TokensBack
 pub mod ShownBack
 pub mod AppliedComments
 pub mod SuccessStates
+pub mod SignatureTold
+pub mod Decoding

@@ -5,3 +5,4 @@ pub mod BackExamples
 pub mod AcceptedExample
 pub mod Outcomes
 pub mod Success
+pub mod RfcWords
