@@ -53,6 +53,7 @@ back-shown (c ∷ cs) h p {q} e = go (shown cs p) refl (λ later s. back-shown c
   where
     rest : Bool
     rest = isAmong (c .display) (map displayOf cs)
+
     here : (t : Bool) → same (c .raw) p ≡ t → pick t (known (c .display)) unknown ≡ known q →
         orLook (back cs q) (pick (same (c .display) q) (known (c .raw)) unknown) ≡ known p
     here false s f = clash (ap isKnown f) refl
@@ -62,6 +63,7 @@ back-shown (c ∷ cs) h p {q} e = go (shown cs p) refl (λ later s. back-shown c
         let others : back cs (c .display) ≡ unknown =
         back-unknown (c .display) cs (not-true rest (both-left (not rest) (eachOnce (map displayOf cs)) h)) in
         rw (← is, others, same-refl (c .display), raw)
+
     go : (l : Look) → shown cs p ≡ l → (eachOnce (map displayOf cs) ≡ true → shown cs p ≡ known q → back cs q ≡ known p) →
         orLook l (pick (same (c .raw) p) (known (c .display)) unknown) ≡ known q →
         orLook (back cs q) (pick (same (c .display) q) (known (c .raw)) unknown) ≡ known p
@@ -129,6 +131,7 @@ shown-closed (c ∷ cs) (every-one o h) p {q} e = go (shown cs p) refl (λ s. sh
     here : (t : Bool) → pick t (known (c .display)) unknown ≡ known q → OnePiece q
     here false f = clash (ap isKnown f) refl
     here true f = let is : c .display ≡ q = cc in rw is at o
+
     go : (l : Look) → shown cs p ≡ l → (shown cs p ≡ known q → OnePiece q) →
         orLook l (pick (same (c .raw) p) (known (c .display)) unknown) ≡ known q → OnePiece q
     go (known x) s later f = later (s ∙ f)
@@ -143,6 +146,7 @@ module _ (ls : List (List ℕ)) (once : displaysOnce ls ≡ true) (closed : name
       unknown-stays : (l : Look) → not (isKnown l) ≡ true → lookOr p l ≡ p
       unknown-stays (known x) f = clash f refl
       unknown-stays unknown f = refl
+
       go : (l : Look) → shown (classesOf ls) p ≡ l → either (isKnown l) (not (isKnown (back (classesOf ls) p))) ≡ true →
           Returns (shown (classesOf ls)) (back (classesOf ls)) p
       go (known q) s f =

@@ -32,6 +32,7 @@ tails-read (suc n) low high code taken (x ∷ s) {d} {m} e =
   where
     goes : Sequence
     goes = tails n 0x80 0xBF (code * 64 + (x - 0x80)) (taken + 1) s
+
     go : (b : Bool) → (goes ≡ Good d m → d ≡ codeFrom n (code * 64 + (x - 0x80)) s) → pick b goes (Bad taken) ≡ Good d m →
         d ≡ codeFrom n (code * 64 + (x - 0x80)) s
     go true again f = again f
@@ -44,6 +45,7 @@ sequence-read x s {d} {m} e = go (eqb (leadOf x .octets) 0) e
   where
     goes : Sequence
     goes = tails (pred (leadOf x .octets)) (leadOf x .low) (leadOf x .high) (x - leadOf x .mark) 1 s
+
     go : (b : Bool) → pick b (Bad 1) goes ≡ Good d m → d ≡ codeFrom (pred (leadOf x .octets)) (x - leadOf x .mark) s
     go true f = absurd (let z : _≡_ {A = ℕ} 0 1 = cc in omega arith)
     go false f = tails-read (pred (leadOf x .octets)) (leadOf x .low) (leadOf x .high) (x - leadOf x .mark) 1 s f
@@ -52,27 +54,31 @@ sequence-read x s {d} {m} e = go (eqb (leadOf x .octets) 0) e
 module _ (x : ℕ) where
   first-one : 0x00 ≤ x → x ≤ 0x7F → (leadOf x .octets ≡ 1) × (leadOf x .mark ≡ 0x00)
   unfolding leadOf
-  first-one l h =
-      (range-equal 0x00 0x7F 256 (omega arith) (λ y. leadOf y .octets) (λ y. 1) tt x l h,
-      range-equal 0x00 0x7F 256 (omega arith) (λ y. leadOf y .mark) (λ y. 0x00) tt x l h)
+  first-one l h = (
+    range-equal 0x00 0x7F 256 (omega arith) (λ y. leadOf y .octets) (λ y. 1) tt x l h,
+    range-equal 0x00 0x7F 256 (omega arith) (λ y. leadOf y .mark) (λ y. 0x00) tt x l h,
+  )
 
   first-two : 0xC2 ≤ x → x ≤ 0xDF → (leadOf x .octets ≡ 2) × (leadOf x .mark ≡ 0xC0)
   unfolding leadOf
-  first-two l h =
-      (range-equal 0xC2 0xDF 256 (omega arith) (λ y. leadOf y .octets) (λ y. 2) tt x l h,
-      range-equal 0xC2 0xDF 256 (omega arith) (λ y. leadOf y .mark) (λ y. 0xC0) tt x l h)
+  first-two l h = (
+    range-equal 0xC2 0xDF 256 (omega arith) (λ y. leadOf y .octets) (λ y. 2) tt x l h,
+    range-equal 0xC2 0xDF 256 (omega arith) (λ y. leadOf y .mark) (λ y. 0xC0) tt x l h,
+  )
 
   first-three : 0xE0 ≤ x → x ≤ 0xEF → (leadOf x .octets ≡ 3) × (leadOf x .mark ≡ 0xE0)
   unfolding leadOf
-  first-three l h =
-      (range-equal 0xE0 0xEF 256 (omega arith) (λ y. leadOf y .octets) (λ y. 3) tt x l h,
-      range-equal 0xE0 0xEF 256 (omega arith) (λ y. leadOf y .mark) (λ y. 0xE0) tt x l h)
+  first-three l h = (
+    range-equal 0xE0 0xEF 256 (omega arith) (λ y. leadOf y .octets) (λ y. 3) tt x l h,
+    range-equal 0xE0 0xEF 256 (omega arith) (λ y. leadOf y .mark) (λ y. 0xE0) tt x l h,
+  )
 
   first-four : 0xF0 ≤ x → x ≤ 0xF4 → (leadOf x .octets ≡ 4) × (leadOf x .mark ≡ 0xF0)
   unfolding leadOf
-  first-four l h =
-      (range-equal 0xF0 0xF4 256 (omega arith) (λ y. leadOf y .octets) (λ y. 4) tt x l h,
-      range-equal 0xF0 0xF4 256 (omega arith) (λ y. leadOf y .mark) (λ y. 0xF0) tt x l h)
+  first-four l h = (
+    range-equal 0xF0 0xF4 256 (omega arith) (λ y. leadOf y .octets) (λ y. 4) tt x l h,
+    range-equal 0xF0 0xF4 256 (omega arith) (λ y. leadOf y .mark) (λ y. 0xF0) tt x l h,
+  )
 
 -- Numbers of two, three and four digits in base 64, behind their marks.
 two-digits : (c : ℕ) → (0xC0 + c / 64 - 0xC0) * 64 + (0x80 + c % 64 - 0x80) ≡ c

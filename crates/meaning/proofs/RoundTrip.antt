@@ -127,6 +127,7 @@ module _ (there again : List ℕ → Look) (fine : Part → Bool)
     where
       here : List ℕ
       here = a ∷ (w ++ (x ∷ []))
+
       go : (t : Bool) → eqb x 0x3B ≡ t → Comes s (partsFrom [] s) → (Begun here → Comes (here ++ s) (partsFrom here s)) →
           Comes (a ∷ (w ++ (x ∷ s))) (pick t (piece here ∷ partsFrom [] s) (partsFrom here s))
       go true q closed goes f =

@@ -70,6 +70,7 @@ module _ (s v : List ℕ) where
       picked : (b : Bool) (l : Look) → pick b l unknown ≡ known v → (b ≡ true) × (l ≡ known v)
       picked true l h = (refl, h)
       picked false l h = clash (ap isKnown h) refl
+
       go : (c : Comment) → commentOf s ≡ c → signatureBy s c ≡ known v → GivesSignature s v
       go Unreadable e h = clash (ap isKnown h) refl
       go (Readable i g) e h =

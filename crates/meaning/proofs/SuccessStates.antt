@@ -118,9 +118,9 @@ module _ (cs : List Pair) (before : List (List ℕ)) (l : List ℕ) (after : Lis
   row-stated =
       record {
         applied = λ v a. subst (λ g. DescriptorBy cs l (lineOf l) g (getD all (membersIn before) noEntry .descriptor))
-        (residual-iff after v .1 a) row-descriptor;
+            (residual-iff after v .1 a) row-descriptor;
         unapplied = λ none. subst (λ g. DescriptorBy cs l (lineOf l) g (getD all (membersIn before) noEntry .descriptor))
-        (residual-none after .1 none) row-descriptor;
+            (residual-none after .1 none) row-descriptor;
       }
 
 -- Lines of an accepted load are all read.

@@ -247,3 +247,10 @@ broken-breaks s {at} {m} e =
     let (k, place, b) = breaks-of (length s) s 0 (omega arith) e in
     let here : at ≡ k = omega arith in
     rw here (breaks-there s k m b)
+
+-- and no good sequence stands there
+pub broken-sequence : (s : List ℕ) {at m : ℕ} → checkOf s ≡ Broken at m → sequenceOf (drop at s) ≡ Bad m
+broken-sequence s {at} {m} e =
+    let (k, place, b) = breaks-of (length s) s 0 (omega arith) e in
+    let here : at ≡ k = omega arith in
+    rw here (b .here)

@@ -5,6 +5,7 @@ pub mod Pieces
 pub mod Ascii
 pub mod Checking
 pub mod Grammatical
+pub mod Starts
 pub mod Threes
 pub mod Boundaries
 pub mod Lengths

@@ -1,7 +1,8 @@
 -- RFC 3629, section 4, "Syntax of UTF-8 Byte Sequences", line by line, as statements about texts.
 use mathlib.Core.Path.{_≡_}
 use mathlib.Core.List.{List, _++_}
-use Prim.Native.Nat.{ℕ, _<_}
+use mathlib.Core.Logic.{_↔_, _⊎_}
+use Prim.Native.Nat.{ℕ, _≤_, _<_}
 use lib.ListN.{length, take, drop}
 use Rattle.ground.specs.Abnf.{Kind, Octet, _⊹_, _∣_, Star}
 
@@ -42,3 +43,14 @@ pub record Breaks (s : List ℕ) (at : ℕ) : Type 0 where
   pub inside : at < length s
   pub before : UTF8-octets (take at s)
   pub after : (a r : List ℕ) → UTF8-char a → drop at s ≡ a ++ r → ⊥
+
+-- "the length is the longest start of a good sequence": a text that can be followed by others to a UTF8-char
+abbrev pub StartsChar : List ℕ → Type 0
+StartsChar a = (b : List ℕ) × UTF8-char (a ++ b)
+
+-- "at least 1; 0 if the text ends in one": of the bytes `s` from the bad sequence on
+pub record LongestStart (s : List ℕ) (n : ℕ) : Type 0 where
+  pub cut : (n ≡ 0) ↔ StartsChar s
+  pub starts : 0 < n → StartsChar (take n s) ⊎ ((n ≡ 1) × (StartsChar (take 1 s) → ⊥))
+  pub longest : 0 < n → (k : ℕ) → n < k → StartsChar (take k s) → ⊥
+  pub inside : n ≤ length s
