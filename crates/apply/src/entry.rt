@@ -13,7 +13,7 @@ use tree_checks::well_formed_tree;
 ghost use mathlib.Core.Path.{_≡_};
 ghost use lib.ListN.{length};
 ghost use Rattle.table_rows.specs.Tables.{tables};
-ghost use Rattle.apply_rule.specs.Applying.{appliedFile, applyAnswer, applyOutput};
+ghost use Rattle.apply_rule.specs.Applying.{appliedFile, applyAnswer, applyOutput, appliedNumbers, applyNumbers};
 ghost use Rattle.apply_rule.specs.inner.Plans.{mappingIn};
 ghost use Rattle.apply.specs.inner.Filled.{AcceptReady, fittingAnswer, fittingOutput};
 
@@ -57,7 +57,9 @@ pub fn apply_to_smali(
         let given = now (class .entry) in
         let file = now (tree .entry) in
         let room = length (now (out .entry)) in
-        ⌜ (r ≡ applyAnswer lent used given file room) × (now (out .exit) ≡ applyOutput lent used given file room) ⌝ }
+        ⌜ (r ≡ applyAnswer lent used given file room)
+        × (now (out .exit) ≡ applyOutput lent used given file room)
+        × (appliedNumbers r ≡ applyNumbers lent used given file room) ⌝ }
 {
     zero_bytes(out);
     if !well_formed(classes, members, pool, used) {

@@ -142,12 +142,6 @@ module _ (t : Tables) (used : Used) (class f : List ℕ) (room : ℕ) where
           let rest = length-replicate {A = ℕ} (room - length written) 0 in
           rw (e, le-leb (length f) mostTree h, g, fits-yes room (length written) n k) (omega arith)
 
-  -- the same tables, class, tree and room give the same answer and the same output
-  pub applies-once : {a b : Applied} {x y : List ℕ} →
-      (a ≡ applyAnswer t used class f room) × (x ≡ applyOutput t used class f room) →
-      (b ≡ applyAnswer t used class f room) × (y ≡ applyOutput t used class f room) → (a ≡ b) × (x ≡ y)
-  applies-once p q = (p .0 ∙ sym (q .0), p .1 ∙ sym (q .1))
-
   -- The tree file that comes out of 32-bit rows and bytes is well formed, and is read to the tree with its changes.
   module _ (fits : RowsFit (t .members)) (small : (i : ℕ) → getD f i 0 < 256) {n : ℕ} (a : applyAnswer t used class f room ≡ Done n) where
     accepted-part : take n (applyOutput t used class f room) ≡ written

@@ -177,7 +177,3 @@ module _ (m : Mapping) (class : List ℕ) (name : ℕ → List ℕ) (c : TreeCou
       allChanged (changedNodes m class name (done ++ (contextFrom done i t ∷ [])) (nodesFrom c f (suc i) (t + tokenCountAt f i) n))
   unfolding nodesFrom changedNodes allChanged
   nodes-step done i t n = refl
-
-  pub nodes-end : (done : List Context) (i t : ℕ) → allChanged (changedNodes m class name done (nodesFrom c f i t 0)) ≡ []
-  unfolding nodesFrom changedNodes allChanged
-  nodes-end done i t = refl

@@ -124,3 +124,10 @@ appliedLength Malformed = 0
 appliedLength TooLong = 0
 appliedLength BadTree = 0
 appliedLength NoRoom = 0
+
+abbrev pub appliedNumbers : Applied → List ℕ
+appliedNumbers a = appliedNumber a ∷ appliedLength a ∷ []
+
+-- and what is answered in these: "number, the output's length"
+abbrev pub applyNumbers : Tables → Used → List ℕ → List ℕ → ℕ → List ℕ
+applyNumbers t used class file room = appliedNumbers (applyAnswer t used class file room)

@@ -3,3 +3,4 @@ pub mod Numbering
 pub mod Naming
 pub mod Membering
 pub mod Outputs
+pub mod Once

@@ -7,8 +7,8 @@ use table_rows::MemberRow;
 ghost use mathlib.Core.Path.{_≡_};
 ghost use lib.ListN.{length};
 ghost use Rattle.table_rows.specs.Tables.{tables};
-ghost use Rattle.apply_rule.specs.Applying.{applyAnswer, applyOutput};
-ghost use Rattle.capi.specs.Answers.{usedBy, appliedNumbers};
+ghost use Rattle.apply_rule.specs.Applying.{applyOutput, appliedNumbers, applyNumbers};
+ghost use Rattle.capi.specs.Answers.{usedBy};
 
 fn applied_numbers(applied: Applied) -> [u32; 2]
     ensures { λ r. ⌜ r ≡ appliedNumbers applied ⌝ }
@@ -40,7 +40,7 @@ pub extern "C" fn clumarief_apply(
         let given = now (class .entry) in
         let file = now (tree .entry) in
         let room = length (now (out .entry)) in
-        ⌜ (now (answer .exit) ≡ appliedNumbers (applyAnswer lent counts given file room))
+        ⌜ (now (answer .exit) ≡ applyNumbers lent counts given file room)
         × (now (out .exit) ≡ applyOutput lent counts given file room) ⌝ }
 {
     let applied = apply_to_smali(classes, members, pool, used_of(*used), class, tree, out);

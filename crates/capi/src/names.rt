@@ -7,7 +7,7 @@ use table_rows::MemberRow;
 use tables::Used;
 ghost use mathlib.Core.Path.{_≡_};
 ghost use Rattle.table_rows.specs.Tables.{tables};
-ghost use Rattle.name_classes.specs.ClassNames.{displayOfClass, rawOfClass, classNameNumbers};
+ghost use Rattle.name_classes.specs.ClassNames.{displayOfClass, classNameNumbers, displayNumbers, rawNumbers};
 ghost use Rattle.capi.specs.Answers.{usedBy, mappedNumbers};
 
 // How much is used, as C says it.
@@ -53,7 +53,7 @@ pub extern "C" fn clumarief_display_class_name(
 )
     ensures { λ _.
         let lent = tables (now (classes .entry)) (now (members .entry)) (now (pool .entry)) in
-        ⌜ now (answer .exit) ≡ classNameNumbers (displayOfClass lent (usedBy (now (used .entry))) (now (raw .entry))) ⌝ }
+        ⌜ now (answer .exit) ≡ displayNumbers lent (usedBy (now (used .entry))) (now (raw .entry)) ⌝ }
 {
     let name = display_class_name(classes, members, pool, used_of(*used), raw);
     *answer = class_numbers(name);
@@ -71,7 +71,7 @@ pub extern "C" fn clumarief_raw_class_name(
 )
     ensures { λ _.
         let lent = tables (now (classes .entry)) (now (members .entry)) (now (pool .entry)) in
-        ⌜ now (answer .exit) ≡ classNameNumbers (rawOfClass lent (usedBy (now (used .entry))) (now (display .entry))) ⌝ }
+        ⌜ now (answer .exit) ≡ rawNumbers lent (usedBy (now (used .entry))) (now (display .entry)) ⌝ }
 {
     let turned = raw_class_name(classes, members, pool, used_of(*used), display);
     *answer = class_numbers(turned);

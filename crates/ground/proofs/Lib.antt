@@ -7,3 +7,4 @@ pub mod Fours
 pub mod Parts
 pub mod Joins
 pub mod Stretch
+pub mod Outcomes

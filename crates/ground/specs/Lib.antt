@@ -4,5 +4,6 @@ pub mod Ascii
 pub mod Choice
 pub mod Join
 pub mod Look
+pub mod Outcome
 pub mod Put
 pub mod inner

@@ -24,7 +24,7 @@ use Rattle.text_white.proofs.TrimLaws.{run-inside}
 use Rattle.table_rows.specs.Rows.{zeroClass, zeroMember}
 use Rattle.load_rule.specs.declared.Load.{Load}
 use Rattle.load_rule.specs.declared.Load.the-variants.{TooLong, NotUtf8}
-use Rattle.load_rule.specs.Loading.{Lent, counting, checked, answerOf, isLoaded, leaves, classRowsOf, memberRowsOf, poolOf, lent, lentOf, classesLeft, membersLeft, poolLeft, linesParse, mostText}
+use Rattle.load_rule.specs.Loading.{Lent, counting, checked, answerOf, isLoaded, leaves, classRowsOf, memberRowsOf, poolOf, lent, lentOf, classesLeft, membersLeft, poolLeft, loadNumbers, numbersGiven, linesParse, mostText}
 use Rattle.table_rows.specs.Tables.{Tables}
 use Rattle.load.specs.Loads.{Loads}
 use Rattle.load.specs.inner.Left.{Cleared, Left, Leaving}
@@ -95,5 +95,5 @@ pub ruleset marking = (marks-inside, marks-dropped, needs)
 -- the promise of an entry point as one statement
 pub loads-told : {r : Load} {s : List ℕ} {ls : List (List ℕ)} (before after : Tables) →
     (r ≡ answerOf s ls (lentOf before)) × (after .classes ≡ classesLeft s ls (lentOf before)) × (after .members ≡ membersLeft s ls (lentOf before))
-    × (after .pool ≡ poolLeft s ls (lentOf before)) → Loads r s ls before after
-loads-told before after (a, c, m, p) = record { answer = a; classes = c; members = m; pool = p }
+    × (after .pool ≡ poolLeft s ls (lentOf before)) × (loadNumbers r ≡ numbersGiven s ls (lentOf before)) → Loads r s ls before after
+loads-told before after (a, c, m, p, n) = record { answer = a; classes = c; members = m; pool = p; numbers = n }

@@ -18,7 +18,7 @@ ghost use mathlib.Core.Path.{_≡_};
 ghost use Prim.Native.Nat.{_≤_};
 ghost use lib.ListN.{length, drop};
 ghost use Rattle.text_places.specs.Lines.{lines};
-ghost use Rattle.load_rule.specs.Loading.{isLoaded, linesParse, linesStr, lent, answerOf, classesLeft, membersLeft, poolLeft, mostText};
+ghost use Rattle.load_rule.specs.Loading.{isLoaded, linesParse, linesStr, lent, answerOf, classesLeft, membersLeft, poolLeft, loadNumbers, numbersGiven, mostText};
 ghost use Rattle.load.specs.inner.Left.{Cleared, Left, Leaving};
 
 fn is_loaded(load: Load) -> bool
@@ -129,7 +129,8 @@ pub fn parse_str(
         ⌜ (r ≡ answerOf s ls room)
         × (now (classes .exit) ≡ classesLeft s ls room)
         × (now (members .exit) ≡ membersLeft s ls room)
-        × (now (pool .exit) ≡ poolLeft s ls room) ⌝ }
+        × (now (pool .exit) ≡ poolLeft s ls room)
+        × (loadNumbers r ≡ numbersGiven s ls room) ⌝ }
 {
     load_from(text, 0, classes, members, pool)
 }
@@ -148,7 +149,8 @@ pub fn parse(
         ⌜ (r ≡ answerOf s ls room)
         × (now (classes .exit) ≡ classesLeft s ls room)
         × (now (members .exit) ≡ membersLeft s ls room)
-        × (now (pool .exit) ≡ poolLeft s ls room) ⌝ }
+        × (now (pool .exit) ≡ poolLeft s ls room)
+        × (loadNumbers r ≡ numbersGiven s ls room) ⌝ }
 {
     let start = after_marks(text);
     load_from(text, start, classes, members, pool)

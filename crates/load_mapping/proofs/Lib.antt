@@ -1,2 +1,3 @@
 -- Laws.
 pub mod Programming
+pub mod Once

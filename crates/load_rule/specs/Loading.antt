@@ -127,3 +127,7 @@ loadNumbers NoClasses = refusal 8 0 0
 loadNumbers FewClassRows = refusal 9 0 0
 loadNumbers FewMemberRows = refusal 10 0 0
 loadNumbers ShortPool = refusal 11 0 0
+
+-- and what a text is answered in these
+abbrev pub numbersGiven : List ℕ → List (List ℕ) → Lent → List ℕ
+numbersGiven s ls n = loadNumbers (answerOf s ls n)

@@ -1,12 +1,12 @@
 -- Comments that are applied, forward from a member and back from a comment. Assumes nothing.
 use mathlib.Core.Path.{_≡_, refl, sym, _∙_, ap, subst}
 use mathlib.Core.Bool.{Bool, true, false}
-use mathlib.Core.List.{List, [], _∷_, _++_}
+use mathlib.Core.List.{List, [], _∷_}
 use mathlib.Core.Logic.{_↔_, _⊎_, inl, inr}
 use Prim.Native.Nat.{ℕ}
 use native.Mathlib.Omega.{arith}
 use lib.ListN.{length}
-use Rattle.ground.specs.Choice.{pick, both}
+use Rattle.ground.specs.Choice.{pick}
 use Rattle.ground.specs.Look.{Look, known, unknown, isKnown, orLook}
 use Rattle.ground.proofs.Cases.{both-left, both-right, clash}
 use Rattle.text_places.specs.declared.find.Place.{Place}
@@ -17,7 +17,7 @@ use Rattle.tables.specs.Check.{allOf}
 use Rattle.load_rule.specs.declared.Fate.{Fate}
 use Rattle.load_rule.specs.declared.Fate.the-variants as fate
 use Rattle.load_rule.specs.Comments.{signatureAt, residualBy, residualIn}
-use Rattle.load_rule.specs.Fates.{fateNumber, commentFate, fateOf, memberAfter}
+use Rattle.load_rule.specs.Fates.{fateNumber, fateOf, memberAfter}
 use Rattle.meaning.specs.Success.{
   isBetween,
   isMember,

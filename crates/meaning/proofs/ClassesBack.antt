@@ -1,12 +1,12 @@
 -- The classes of a mapping: what a raw descriptor shows as is turned back to it, where no display descriptor stands on two class lines and
 -- no display name has a `;`. Assumes nothing.
-use mathlib.Core.Path.{_≡_, refl, sym, _∙_, ap}
+use mathlib.Core.Path.{_≡_, refl, _∙_, ap}
 use mathlib.Core.Bool.{Bool, true, false, not}
 use mathlib.Core.List.{List, [], _∷_, _++_, map}
 use Prim.Native.Nat.{ℕ}
 use lib.Dec.{eqb}
-use borrow.Author.Tests.{eqb-true, not-true}
-use Rattle.ground.specs.Choice.{pick, both, either}
+use borrow.Author.Tests.{not-true}
+use Rattle.ground.specs.Choice.{pick, either}
 use Rattle.ground.specs.Look.{Look, known, unknown, isKnown, lookOr, orLook}
 use Rattle.ground.proofs.Cases.{both-left, both-right, clash}
 use Rattle.text_places.specs.Places.{same}
@@ -15,10 +15,9 @@ use Rattle.text_places.proofs.PlaceLaws.{same-equal, same-refl}
 use Rattle.line.specs.declared.line.Line.{Line}
 use Rattle.line.specs.declared.line.Line.the-variants.{Blank, Comment, Class, Field, Method, Refused}
 use Rattle.line.specs.Kinds.{lineOf}
-use Rattle.table_rows.specs.Classes.{Pair, shown, swapped, back}
-use Rattle.table_pool.specs.Names.{slash, slashed, classDescriptor}
+use Rattle.table_rows.specs.Classes.{Pair, shown, back}
+use Rattle.table_pool.specs.Names.{slash, slashed}
 use Rattle.tables.specs.Check.{allOf}
-use Rattle.tables.proofs.Checking.{all-cons}
 use Rattle.descriptor.specs.Pieces.{piece, partsFrom, turn}
 use Rattle.load_rule.specs.Classes.{classIn, classesOf}
 use Rattle.tree_rule.specs.Theorems.{Every, every-none, every-one}

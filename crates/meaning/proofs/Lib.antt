@@ -8,3 +8,4 @@ pub mod AppliedComments
 pub mod SuccessStates
 pub mod SignatureTold
 pub mod Decoding
+pub mod OneOutcome

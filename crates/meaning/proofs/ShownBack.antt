@@ -1,8 +1,8 @@
 -- Demand 3, over the entry points: after an accepted load and an accepted application, turning each shown class back gives the raw
 -- descriptor. So different raw descriptors never show alike. Assumes nothing.
-use mathlib.Core.Path.{_≡_, refl, sym, _∙_, ap}
-use mathlib.Core.Bool.{true, false}
-use mathlib.Core.List.{List, [], _∷_}
+use mathlib.Core.Path.{_≡_, sym, _∙_, ap}
+use mathlib.Core.Bool.{true}
+use mathlib.Core.List.{List}
 use Prim.Native.Nat.{ℕ, _<_}
 use lib.ListN.{length, getD, take}
 use Rattle.text_places.proofs.PlaceLaws.{same-equal}
@@ -24,9 +24,8 @@ use Rattle.tree_rule.specs.Files.{readTree, allTokens}
 use Rattle.tree_rule.specs.Theorems.{SoundTree}
 use Rattle.tree_rule.proofs.Formed.{formed-tree}
 use Rattle.tree_rule.proofs.Sound.{read-sound}
-use Rattle.apply_rule.specs.declared.Applied.{Applied}
 use Rattle.apply_rule.specs.declared.Applied.the-variants.{Done}
-use Rattle.apply_rule.specs.Applying.{appliedTree, applyAnswer, applyOutput}
+use Rattle.apply_rule.specs.Applying.{appliedTree, applyAnswer}
 use Rattle.apply_rule.specs.Theorems.{GivenWhen, when-done}
 use Rattle.apply_rule.proofs.Answers.{given-iff, accepted-reads-back}
 use Rattle.meaning.specs.TurnedBack.{displaysOnce, namesClosed, showsRaw, namesUnmistaken, ofTokens, turnsBack}

@@ -35,7 +35,7 @@ use Rattle.apply_rule.specs.Changes.{
   changedFrom,
   changedNodes,
 }
-use Rattle.apply_rule.specs.Applying.{allChanged, changedIn, appliedTree}
+use Rattle.apply_rule.specs.Applying.{allChanged, appliedTree}
 use Rattle.apply_rule.specs.Theorems.{Each, each-none, each-one, ComesBy, ComesOut}
 use Rattle.apply_rule.proofs.Pieces.{unknown-stays}
 use Rattle.apply_rule.proofs.Kept.{kept-names}

@@ -1,7 +1,6 @@
 -- The same over the entry points: a text that is loaded, a tree file to which it is applied, and what comes out.
 use mathlib.Core.Path.{_≡_, refl}
-use mathlib.Core.Bool.{true}
-use mathlib.Core.List.{List, [], _∷_, _++_}
+use mathlib.Core.List.{List, [], _∷_}
 use Prim.Native.Nat.{ℕ}
 use lib.ListN.{take}
 use Rattle.ground.specs.Ascii.{ascii}
@@ -24,7 +23,7 @@ use Rattle.load_rule.specs.Members.{entriesFrom}
 use Rattle.load_rule.specs.Loading.{Lent, lent, linesParse, answerOf, loadNumbers, classesLeft, membersLeft, poolLeft}
 use Rattle.tree_rule.specs.declared.Token.the-variants.{Descriptor}
 use Rattle.tree_rule.specs.Words.{wordAt, wordBytes, listFrom, sumFrom}
-use Rattle.tree_rule.specs.Trees.{noParent, Tree, descriptor, meaningOf}
+use Rattle.tree_rule.specs.Trees.{noParent, descriptor, meaningOf}
 use Rattle.tree_rule.specs.Files.{nodesFrom, allTokens, readTree, writtenTree}
 use Rattle.tree_rule.specs.Checks.{firstFaulty}
 use Rattle.tree_rule.specs.Signatures.{firstToken, lastToken}

@@ -16,9 +16,9 @@ use Rattle.tables.specs.Check.{allOf}
 use Rattle.descriptor.specs.Pieces.{partsFrom}
 use Rattle.load_rule.specs.Classes.{classesOf}
 use Rattle.load_rule.specs.Loading.{linesParse}
-use Rattle.name_rule.specs.Mappings.{Mapping, mapping}
+use Rattle.name_rule.specs.Mappings.{mapping}
 use Rattle.tree_rule.specs.declared.Token.the-variants.{Descriptor}
-use Rattle.tree_rule.specs.Trees.{noParent, Tree, MeantNode, descriptor, meaningOf}
+use Rattle.tree_rule.specs.Trees.{noParent, Tree, descriptor, meaningOf}
 use Rattle.tree_rule.specs.Files.{allTokens}
 use Rattle.tree_rule.specs.Signatures.{firstToken, lastToken}
 use Rattle.apply_rule.specs.Changes.{pieceKnown, changedFrom, changedNodes}

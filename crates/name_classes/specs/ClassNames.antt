@@ -61,3 +61,9 @@ abbrev pub classNameNumbers : ClassName → List ℕ
 classNameNumbers (Found place length) = 0 ∷ 1 ∷ place ∷ length ∷ []
 classNameNumbers Unknown = 0 ∷ 0 ∷ 0 ∷ 0 ∷ []
 classNameNumbers Malformed = 14 ∷ 0 ∷ 0 ∷ 0 ∷ []
+
+abbrev pub displayNumbers : Tables → Used → List ℕ → List ℕ
+displayNumbers t used raw = classNameNumbers (displayOfClass t used raw)
+
+abbrev pub rawNumbers : Tables → Used → List ℕ → List ℕ
+rawNumbers t used display = classNameNumbers (rawOfClass t used display)

@@ -16,7 +16,7 @@ ghost use Prim.Native.Nat.{_<_};
 ghost use lib.ListN.{length, getD};
 ghost use Rattle.table_rows.specs.Rows.{unpackClass};
 ghost use Rattle.table_rows.specs.Tables.{tables};
-ghost use Rattle.name_classes.specs.ClassNames.{foundAt, displayOfClass, rawOfClass, mappedClass};
+ghost use Rattle.name_classes.specs.ClassNames.{foundAt, displayOfClass, rawOfClass, mappedClass, classNameNumbers, displayNumbers, rawNumbers};
 
 pub enum ClassName {
     // Where it stands in the pool.
@@ -52,7 +52,8 @@ pub fn display_class_name(
 ) -> ClassName
     ensures { λ r.
         let lent = tables (now (classes .entry)) (now (members .entry)) (now (pool .entry)) in
-        ⌜ r ≡ displayOfClass lent used (now (raw .entry)) ⌝ }
+        let name = now (raw .entry) in
+        ⌜ (r ≡ displayOfClass lent used name) × (classNameNumbers r ≡ displayNumbers lent used name) ⌝ }
 {
     if !well_formed(classes, members, pool, used) {
         return ClassName::Malformed;
@@ -75,7 +76,8 @@ pub fn raw_class_name(
 ) -> ClassName
     ensures { λ r.
         let lent = tables (now (classes .entry)) (now (members .entry)) (now (pool .entry)) in
-        ⌜ r ≡ rawOfClass lent used (now (display .entry)) ⌝ }
+        let name = now (display .entry) in
+        ⌜ (r ≡ rawOfClass lent used name) × (classNameNumbers r ≡ rawNumbers lent used name) ⌝ }
 {
     if !well_formed(classes, members, pool, used) {
         return ClassName::Malformed;

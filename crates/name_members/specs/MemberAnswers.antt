@@ -1,5 +1,5 @@
 -- Document 01 "Rows and names": what is answered for a member, and 14 where the tables are malformed.
-use mathlib.Core.List.{List, []}
+use mathlib.Core.List.{List, [], _∷_}
 use Prim.Native.Nat.{ℕ}
 use lib.ListN.{getD, take, drop}
 use Rattle.ground.specs.Choice.{pick}
@@ -85,3 +85,24 @@ abbrev pub lineTold : lined.MemberLine → lines.LineName
 lineTold (shown.Found i n) = line.Line n
 lineTold shown.Unknown = line.Unknown
 lineTold shown.Malformed = line.Unknown
+
+-- the answers as document 01 numbers them: 0 or 14, then 1 where the member is found, the row that answers, and the place and the length of
+-- its name, or the display line
+abbrev pub nameNumbers : named.MemberName → List ℕ
+nameNumbers (name.Found i place length) = 0 ∷ 1 ∷ i ∷ place ∷ length ∷ []
+nameNumbers name.Unknown = 0 ∷ 0 ∷ 0 ∷ 0 ∷ 0 ∷ []
+nameNumbers name.Malformed = 14 ∷ 0 ∷ 0 ∷ 0 ∷ 0 ∷ []
+
+abbrev pub lineNumbers : lined.MemberLine → List ℕ
+lineNumbers (shown.Found i n) = 0 ∷ 1 ∷ i ∷ n .0 ∷ []
+lineNumbers shown.Unknown = 0 ∷ 0 ∷ 0 ∷ 0 ∷ []
+lineNumbers shown.Malformed = 14 ∷ 0 ∷ 0 ∷ 0 ∷ []
+
+abbrev pub fieldNumbers : Tables → Used → Key → List ℕ
+fieldNumbers t used k = nameNumbers (fieldAnswer t used k)
+
+abbrev pub methodNumbers : Tables → Used → Key → List ℕ
+methodNumbers t used k = nameNumbers (methodAnswer t used k)
+
+abbrev pub lineNumbersOf : Tables → Used → Key → RawLine → List ℕ
+lineNumbersOf t used k n = lineNumbers (lineAnswer t used k n)

@@ -1,5 +1,5 @@
 -- What the checks of a tree file say, as plain facts, and the other way. Nothing else opens `wellFormedFile`. Assumes nothing.
-use mathlib.Core.Path.{_≡_, refl, sym, _∙_, subst}
+use mathlib.Core.Path.{_≡_, refl, sym, _∙_}
 use mathlib.Core.Bool.{Bool, true, false, not}
 use mathlib.Core.List.{List}
 use Prim.Native.Nat.{ℕ, _+_, _*_, _-_, _≤_, _<_}
@@ -147,6 +147,3 @@ module _ (f : List ℕ) {b : Bool} (e : b ≡ wellFormedFile f) (n : not b ≡ f
 
   pub head-inside : 16 ≤ length f
   head-inside = let k = formed-told in omega (arith, k .size)
-
-  pub formed-with : {c : TreeCounts} → c ≡ countsIn f → FormedBy c f
-  formed-with g = subst (λ x. FormedBy x f) (sym g) formed-told

@@ -1,4 +1,6 @@
 -- `apply::entry::apply_to_smali` meets its contract, by the laws of Answering.
+use Rattle.ground.proofs.Outcomes.{with-output}
+use Rattle.apply_rule.specs.Applying.{appliedNumbers}
 use Rattle.apply.proofs.Answering.{accept-ready, applying}
 use Rattle.apply.proofs.entry.apply_to_smali.Statement.{statement}
 use Rattle.apply.proofs.entry.apply_to_smali.Tie as tie
@@ -13,13 +15,13 @@ same-length : tie.Need-same-length
 same-length c = search applying
 
 returns : tie.Need-returns
-returns c = (search applying, search applying)
+returns c = with-output appliedNumbers (search applying) (search applying)
 
 same-length-2 : tie.Need-same-length-2
 same-length-2 c = search applying
 
 returns-2 : tie.Need-returns-2
-returns-2 c = (search applying, search applying)
+returns-2 c = with-output appliedNumbers (search applying) (search applying)
 
 well-formed-tree-requires : tie.Need-well-formed-tree-requires
 well-formed-tree-requires c κs = search applying
@@ -28,7 +30,7 @@ same-length-3 : tie.Need-same-length-3
 same-length-3 c = search applying
 
 returns-3 : tie.Need-returns-3
-returns-3 c = (search applying, search applying)
+returns-3 c = with-output appliedNumbers (search applying) (search applying)
 
 cast-class-count : tie.Need-cast-class-count
 cast-class-count c = search applying
@@ -50,7 +52,7 @@ same-length-4 : tie.Need-same-length-4
 same-length-4 c = search applying
 
 returns-4 : tie.Need-returns-4
-returns-4 c = (search applying, search applying)
+returns-4 c = with-output appliedNumbers (search applying) (search applying)
 
 pub apply-to-smali-spec : {M : Type 1} → statement M
 apply-to-smali-spec =

@@ -1,4 +1,6 @@
 -- `load::entry::parse` meets its contract, by the laws of Answering.
+use mathlib.Core.Path.{ap}
+use Rattle.load_rule.specs.Loading.{loadNumbers}
 use Rattle.load.proofs.Answering.{marks-dropped, marking}
 use Rattle.load.proofs.entry.parse.Statement.{statement}
 use Rattle.load.proofs.entry.parse.Tie as tie
@@ -19,7 +21,7 @@ same-length-3 : tie.Need-same-length-3
 same-length-3 c = search marking
 
 returns : tie.Need-returns
-returns c = let l = marks-dropped _ (c .before .before .before .before .before .before .before .before .after-marks .ensures) _ _ _ (c .before .before .before .before .load-from .ensures) in (l .answer, l .classes, l .members, l .pool)
+returns c = let l = marks-dropped _ (c .before .before .before .before .before .before .before .before .after-marks .ensures) _ _ _ (c .before .before .before .before .load-from .ensures) in (l .answer, l .classes, l .members, l .pool, ap loadNumbers (l .answer))
 
 pub parse-spec : {M : Type 1} → statement M
 parse-spec =

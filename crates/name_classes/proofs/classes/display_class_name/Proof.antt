@@ -1,4 +1,6 @@
 -- `name_classes::classes::display_class_name` meets its contract, by the laws of Looking.
+use Rattle.ground.proofs.Outcomes.{with-numbers}
+use Rattle.name_classes.specs.ClassNames.{classNameNumbers}
 use Rattle.name_classes.proofs.Looking.{displaying}
 use Rattle.name_classes.proofs.classes.display_class_name.Statement.{statement}
 use Rattle.name_classes.proofs.classes.display_class_name.Tie as tie
@@ -7,7 +9,7 @@ well-formed-requires : tie.Need-well-formed-requires
 well-formed-requires c κs = search displaying
 
 returns : tie.Need-returns
-returns c = search displaying
+returns c = with-numbers classNameNumbers (search displaying)
 
 cast-count : tie.Need-cast-count
 cast-count c = search displaying
@@ -25,7 +27,7 @@ enum-told : tie.Need-enum-told
 enum-told c = search displaying
 
 returns-2 : tie.Need-returns-2
-returns-2 c = search displaying
+returns-2 c = with-numbers classNameNumbers (search displaying)
 
 class-at-requires : tie.Need-class-at-requires
 class-at-requires c κs = search displaying
@@ -34,7 +36,7 @@ found-requires : tie.Need-found-requires
 found-requires c κs = search displaying
 
 returns-3 : tie.Need-returns-3
-returns-3 c = search displaying
+returns-3 c = with-numbers classNameNumbers (search displaying)
 
 pub display-class-name-spec : {M : Type 1} → statement M
 display-class-name-spec =

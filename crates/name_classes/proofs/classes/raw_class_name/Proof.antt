@@ -1,4 +1,6 @@
 -- `name_classes::classes::raw_class_name` meets its contract, by the laws of Looking.
+use Rattle.ground.proofs.Outcomes.{with-numbers}
+use Rattle.name_classes.specs.ClassNames.{classNameNumbers}
 use Rattle.name_classes.proofs.Looking.{turning}
 use Rattle.name_classes.proofs.classes.raw_class_name.Statement.{statement}
 use Rattle.name_classes.proofs.classes.raw_class_name.Tie as tie
@@ -7,7 +9,7 @@ well-formed-requires : tie.Need-well-formed-requires
 well-formed-requires c κs = search turning
 
 returns : tie.Need-returns
-returns c = search turning
+returns c = with-numbers classNameNumbers (search turning)
 
 cast-count : tie.Need-cast-count
 cast-count c = search turning
@@ -25,7 +27,7 @@ enum-told : tie.Need-enum-told
 enum-told c = search turning
 
 returns-2 : tie.Need-returns-2
-returns-2 c = search turning
+returns-2 c = with-numbers classNameNumbers (search turning)
 
 class-at-requires : tie.Need-class-at-requires
 class-at-requires c κs = search turning
@@ -34,7 +36,7 @@ found-requires : tie.Need-found-requires
 found-requires c κs = search turning
 
 returns-3 : tie.Need-returns-3
-returns-3 c = search turning
+returns-3 c = with-numbers classNameNumbers (search turning)
 
 pub raw-class-name-spec : {M : Type 1} → statement M
 raw-class-name-spec =

@@ -1,4 +1,6 @@
 -- `name_members::names::display_field_name` meets its contract, by the laws of Answers.
+use Rattle.ground.proofs.Outcomes.{with-numbers}
+use Rattle.name_members.specs.MemberAnswers.{nameNumbers}
 use Rattle.name_members.proofs.Answers.{naming}
 use Rattle.name_members.proofs.names.display_field_name.Statement.{statement}
 use Rattle.name_members.proofs.names.display_field_name.Tie as tie
@@ -19,13 +21,13 @@ enum-told-2 : tie.Need-enum-told-2
 enum-told-2 c = search naming
 
 returns : tie.Need-returns
-returns c = search naming
+returns c = with-numbers nameNumbers (search naming)
 
 returns-2 : tie.Need-returns-2
-returns-2 c = search naming
+returns-2 c = with-numbers nameNumbers (search naming)
 
 returns-3 : tie.Need-returns-3
-returns-3 c = search naming
+returns-3 c = with-numbers nameNumbers (search naming)
 
 pub display-field-name-spec : {M : Type 1} → statement M
 display-field-name-spec =

@@ -1,4 +1,6 @@
 -- `name_members::names::display_line` meets its contract, by the laws of Answers.
+use Rattle.ground.proofs.Outcomes.{with-numbers}
+use Rattle.name_members.specs.MemberAnswers.{lineNumbers}
 use Rattle.name_members.proofs.Answers.{lining}
 use Rattle.name_members.proofs.names.display_line.Statement.{statement}
 use Rattle.name_members.proofs.names.display_line.Tie as tie
@@ -19,13 +21,13 @@ enum-told-2 : tie.Need-enum-told-2
 enum-told-2 c = search lining
 
 returns : tie.Need-returns
-returns c = search lining
+returns c = with-numbers lineNumbers (search lining)
 
 returns-2 : tie.Need-returns-2
-returns-2 c = search lining
+returns-2 c = with-numbers lineNumbers (search lining)
 
 returns-3 : tie.Need-returns-3
-returns-3 c = search lining
+returns-3 c = with-numbers lineNumbers (search lining)
 
 pub display-line-spec : {M : Type 1} → statement M
 display-line-spec =
