@@ -5,7 +5,8 @@
  * Every function takes any bytes and any tables, ends, and answers in numbers. Nothing is allocated, and nothing is kept between calls:
  * the caller lends all memory, so any number of threads may call, each with slices of its own. What the functions ask of a caller, since
  * C cannot: no pointer is null or unaligned, also where a length is 0; each slice has the length that is said; a slice that is written
- * overlaps no other. All numbers are 32 bits unsigned. Texts are UTF-8 and end with no NUL.
+ * overlaps no other. Rows and answers are structs of 32-bit unsigned numbers, in this order and with nothing between them. Texts are UTF-8
+ * and end with no NUL.
  *
  * Stack, measured on x86-64: a load takes up to 88 KiB (the index of classes, and a comment that nests as deep as is read), applying up to
  * 257 KiB (the indexes of classes and of members), a look-up less than 1 KiB. */
@@ -70,33 +71,40 @@ static inline const char *clumarief_words(uint32_t number)
 }
 
 /* A class row: raw descriptor and display descriptor, each its place in the pool and its length. */
-typedef uint32_t clumarief_class[4];
+typedef struct clumarief_class {
+    uint32_t raw_place, raw_length;
+    uint32_t display_place, display_length;
+} clumarief_class;
 
-/* A member row: kind (0 field, 1 method); class row; place and length of raw name, raw descriptor, display name and
- * display owner (0, 0 for a field); range flag (0 none, 1 display only, 2 both); start and end of the raw range, and of
- * the display range (absent ones are zeros). */
-typedef uint32_t clumarief_member[15];
+/* A member row. */
+typedef struct clumarief_member {
+    uint32_t kind;      /* 0 field, 1 method */
+    uint32_t class_row; /* counted from 0 */
+    uint32_t raw_name_place, raw_name_length;
+    uint32_t descriptor_place, descriptor_length; /* the raw descriptor */
+    uint32_t name_place, name_length;             /* the display name */
+    uint32_t owner_place, owner_length;           /* the display owner, a class descriptor; 0, 0 for a field */
+    uint32_t range_flag;                          /* 0 none, 1 display only, 2 both; absent ranges are zeros */
+    uint32_t raw_start, raw_end;
+    uint32_t display_start, display_end;
+} clumarief_member;
 
-/* What a load answers.
- *
- *  0 number   0 accepted, or 1 to 11; asked in this order: 1, 2, 3 to 7 for the first faulty line, 8, 9, 10, 11
- *  1 place    at 2 the valid bytes before it; at 3 to 7 the line, counted from 1; else 0
- *  2 length   at 2 that of the bad sequence, 1 to 3, or 0 where the text is cut short in it; else 0
- *
- * The counts of an accepted load; zeros for a refused one:
- *
- *  3 lines    all of them, the sum of the next six
- *  4 blank
- *  5 applied  comments that replaced a raw signature
- *  6 idle     all other comments
- *  7 class    also the number of class rows used
- *  8 field    with 9 also the number of member rows used
- *  9 method
- * 10 short    methods whose display range has a second part that does not read
- * 11 names    pool bytes used
- * 12 to 23    zeros
- */
-typedef uint32_t clumarief_load[24];
+/* What a load answers. The counts are zeros where it is refused. */
+typedef struct clumarief_load {
+    uint32_t number;  /* 0 accepted, or 1 to 11, asked in this order: 1, 2, 3 to 7 for the first faulty line, 8, 9, 10, 11 */
+    uint32_t place;   /* at 2 the valid bytes before it; at 3 to 7 the line, counted from 1; else 0 */
+    uint32_t length;  /* at 2 that of the bad sequence, 1 to 3, or 0 where the text is cut short in it; else 0 */
+    uint32_t lines;   /* all of them, the sum of the next six */
+    uint32_t blank;
+    uint32_t applied; /* comments that replaced a raw signature */
+    uint32_t idle;    /* all other comments */
+    uint32_t classes; /* class lines; also the number of class rows used */
+    uint32_t fields;  /* with methods also the number of member rows used */
+    uint32_t methods;
+    uint32_t shorts;  /* methods whose display range has a second part that does not read */
+    uint32_t names;   /* pool bytes used */
+    uint32_t zeros[12];
+} clumarief_load;
 
 /* Loads the mapping of a text, without the marks (U+FEFF) that it begins with.
  *
@@ -109,8 +117,8 @@ typedef uint32_t clumarief_load[24];
  *     static uint8_t pool[1 << 20];
  *     clumarief_load load;
  *     clumarief_parse(text, text_length, classes, 1024, members, 8192, pool, sizeof pool, &load);
- *     if (load[0] != CLUMARIEF_ACCEPTED)
- *         fprintf(stderr, "refused %u: %s, line %u\n", load[0], clumarief_words(load[0]), load[1]);
+ *     if (load.number != CLUMARIEF_ACCEPTED)
+ *         fprintf(stderr, "refused %u: %s, line %u\n", load.number, clumarief_words(load.number), load.place);
  */
 void clumarief_parse(const uint8_t *text, size_t text_length,
                      clumarief_class *classes, size_t class_rows,
@@ -125,26 +133,30 @@ void clumarief_parse_str(const uint8_t *text, size_t text_length,
                          uint8_t *pool, size_t pool_length,
                          clumarief_load *answer);
 
-/* How much of the tables is used: class rows, member rows, pool bytes; after a load its numbers 7, 8 + 9 and 11.
+/* How much of the tables is used.
  *
- *     clumarief_used used = {load[7], load[8] + load[9], load[11]};
+ *     clumarief_used used = {load.classes, load.fields + load.methods, load.names};
  */
-typedef uint32_t clumarief_used[3];
+typedef struct clumarief_used {
+    uint32_t class_rows, member_rows, pool_bytes;
+} clumarief_used;
 
-/* What a look-up answers: number (0, or 14 where the tables are malformed), 1 found or 0 unknown, place and length in the
- * pool (zeros where nothing is found).
+/* What a look-up answers: number 0, or 14 where the tables are malformed; found 1, or 0 where the class is unknown; place and length in
+ * the pool, zeros where nothing is found.
  *
  * Tables are malformed where a count is above what is lent (or above the most there may be), a text reaches past the used
  * pool, a class row, kind or range flag is out of range, or a text that a used row names is not UTF-8. */
-typedef uint32_t clumarief_class_name[4];
+typedef struct clumarief_class_name {
+    uint32_t number, found, place, length;
+} clumarief_class_name;
 
 /* The display descriptor of the class with a raw descriptor, as `Lx;`: that of the last class row that has it. Any tables
  * may be lent: nothing is read past them, and nothing is written but the answer.
  *
  *     clumarief_class_name name;
  *     clumarief_display_class_name(classes, 1024, members, 8192, pool, sizeof pool, &used, (const uint8_t *)"Lx;", 3, &name);
- *     if (name[0] == CLUMARIEF_ACCEPTED && name[1] == 1)
- *         printf("%.*s\n", (int)name[3], (const char *)pool + name[2]);
+ *     if (name.found)
+ *         printf("%.*s\n", (int)name.length, (const char *)pool + name.place);
  */
 void clumarief_display_class_name(const clumarief_class *classes, size_t class_rows,
                                   const clumarief_member *members, size_t member_rows,
@@ -161,15 +173,17 @@ void clumarief_raw_class_name(const clumarief_class *classes, size_t class_rows,
                               const uint8_t *display, size_t display_length,
                               clumarief_class_name *answer);
 
-/* What a raw descriptor shows as: 1, place and length of its display descriptor in the pool; or three zeros, and then it is
+/* What a raw descriptor shows as: its display descriptor in the pool, where from_pool is 1; or three zeros, and then it is
  * the caller's own descriptor, since the class is unknown or the tables are malformed.
  *
  *     clumarief_mapped mapped;
  *     clumarief_mapped_class_name(classes, 1024, members, 8192, pool, sizeof pool, &used, raw, raw_length, &mapped);
- *     const uint8_t *shown = mapped[0] == 1 ? pool + mapped[1] : raw;
- *     size_t shown_length = mapped[0] == 1 ? mapped[2] : raw_length;
+ *     const uint8_t *shown = mapped.from_pool ? pool + mapped.place : raw;
+ *     size_t shown_length = mapped.from_pool ? mapped.length : raw_length;
  */
-typedef uint32_t clumarief_mapped[3];
+typedef struct clumarief_mapped {
+    uint32_t from_pool, place, length;
+} clumarief_mapped;
 
 void clumarief_mapped_class_name(const clumarief_class *classes, size_t class_rows,
                                  const clumarief_member *members, size_t member_rows,
@@ -178,9 +192,11 @@ void clumarief_mapped_class_name(const clumarief_class *classes, size_t class_ro
                                  const uint8_t *raw, size_t raw_length,
                                  clumarief_mapped *answer);
 
-/* What a look-up of a member's name answers: number (0 or 14), 1 found or 0 unknown, the member row that answers, place and
- * length of its display name in the pool. */
-typedef uint32_t clumarief_member_name[5];
+/* What a look-up of a member's name answers: number 0 or 14, found 1 or 0, the member row that answers, place and length of its
+ * display name in the pool. */
+typedef struct clumarief_member_name {
+    uint32_t number, found, row, place, length;
+} clumarief_member_name;
 
 /* The display name of a field: by the raw descriptor of its class, as `Lx;`, its raw name, and its raw descriptor, as `I`.
  * Members of all class rows with that raw descriptor belong together; the last field that matches answers.
@@ -188,8 +204,8 @@ typedef uint32_t clumarief_member_name[5];
  *     clumarief_member_name field;
  *     clumarief_display_field_name(classes, 1024, members, 8192, pool, sizeof pool, &used, (const uint8_t *)"Lx;", 3,
  *                                  (const uint8_t *)"b", 1, (const uint8_t *)"I", 1, &field);
- *     if (field[0] == CLUMARIEF_ACCEPTED && field[1] == 1)
- *         printf("row %u: %.*s\n", field[2], (int)field[4], (const char *)pool + field[3]);
+ *     if (field.found)
+ *         printf("row %u: %.*s\n", field.row, (int)field.length, (const char *)pool + field.place);
  */
 void clumarief_display_field_name(const clumarief_class *classes, size_t class_rows,
                                   const clumarief_member *members, size_t member_rows,
@@ -211,8 +227,10 @@ void clumarief_display_method_name(const clumarief_class *classes, size_t class_
                                    const uint8_t *descriptor, size_t descriptor_length,
                                    clumarief_member_name *answer);
 
-/* What a look-up of a line answers: number (0 or 14), 1 found or 0 unknown, the member row that answers, the display line. */
-typedef uint32_t clumarief_line[4];
+/* What a look-up of a line answers: number 0 or 14, found 1 or 0, the member row that answers, the display line. */
+typedef struct clumarief_line {
+    uint32_t number, found, row, line;
+} clumarief_line;
 
 /* The display line of a raw line of a method: by the last method that matches, whose display owner is the class's display
  * descriptor, and whose raw range holds the line.
@@ -220,8 +238,8 @@ typedef uint32_t clumarief_line[4];
  *     clumarief_line shown;
  *     clumarief_display_line(classes, 1024, members, 8192, pool, sizeof pool, &used, (const uint8_t *)"Lx;", 3,
  *                            (const uint8_t *)"c", 1, (const uint8_t *)"(Lx;)V", 6, 2, &shown);
- *     if (shown[0] == CLUMARIEF_ACCEPTED && shown[1] == 1)
- *         printf("line %u, by row %u\n", shown[3], shown[2]);
+ *     if (shown.found)
+ *         printf("line %u, by row %u\n", shown.line, shown.row);
  */
 void clumarief_display_line(const clumarief_class *classes, size_t class_rows,
                             const clumarief_member *members, size_t member_rows,
@@ -234,7 +252,9 @@ void clumarief_display_line(const clumarief_class *classes, size_t class_rows,
                             clumarief_line *answer);
 
 /* What applying answers: number, the output's length. */
-typedef uint32_t clumarief_applied[2];
+typedef struct clumarief_applied {
+    uint32_t number, length;
+} clumarief_applied;
 
 /* Applies a mapping to a tree file, for a class by its raw descriptor. Numbers, in this order: 14 tables malformed; 1 the tree file has
  * over 4,194,304 bytes; 12 it is malformed; 13 the output is shorter than needed, or more than 4,194,304 bytes are needed; 0 accepted.
@@ -251,8 +271,8 @@ typedef uint32_t clumarief_applied[2];
  *     clumarief_applied applied;
  *     clumarief_apply(classes, 1024, members, 8192, pool, sizeof pool, &used, (const uint8_t *)"Lx;", 3,
  *                     tree, tree_length, output, sizeof output, &applied);
- *     if (applied[0] == CLUMARIEF_ACCEPTED)
- *         fwrite(output, 1, applied[1], stdout);
+ *     if (applied.number == CLUMARIEF_ACCEPTED)
+ *         fwrite(output, 1, applied.length, stdout);
  */
 void clumarief_apply(const clumarief_class *classes, size_t class_rows,
                      const clumarief_member *members, size_t member_rows,

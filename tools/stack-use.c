@@ -141,18 +141,16 @@ int main(void)
     struct text most = mapping(CLUMARIEF_MOST_CLASSES), few = mapping(1), file = tree();
     print("parse, one class, 127 levels", parse, &few);
     print("parse, 4,096 classes, 127 levels", parse, &most);
-    if (loaded[0] || loaded[7] != CLUMARIEF_MOST_CLASSES || loaded[6] != 1) {
-        printf("the text was not loaded as it should be: %u\n", loaded[0]);
+    if (loaded.number || loaded.classes != CLUMARIEF_MOST_CLASSES || loaded.idle != 1) {
+        printf("the text was not loaded as it should be: %u\n", loaded.number);
         return 1;
     }
-    used[0] = loaded[7];
-    used[1] = loaded[8] + loaded[9];
-    used[2] = loaded[11];
+    used = (clumarief_used){loaded.classes, loaded.fields + loaded.methods, loaded.names};
     print("display_class_name", display_class_name, NULL);
     print("display_line", display_line, NULL);
     print("apply, 4,096 classes", apply, &file);
-    if (applied[0]) {
-        printf("the tree was not taken: %u\n", applied[0]);
+    if (applied.number) {
+        printf("the tree was not taken: %u\n", applied.number);
         return 1;
     }
     return 0;

@@ -32,14 +32,12 @@ static int load(const char *name)
     fclose(file);
     clumarief_load answer;
     clumarief_parse(text, length, TABLES, &answer);
-    if (answer[0] != CLUMARIEF_ACCEPTED) {
-        fprintf(stderr, "%s: refused %u at %u: %s\n", name, answer[0], answer[1], clumarief_words(answer[0]));
+    if (answer.number != CLUMARIEF_ACCEPTED) {
+        fprintf(stderr, "%s: refused %u at %u: %s\n", name, answer.number, answer.place, clumarief_words(answer.number));
         return 1;
     }
-    printf("lines %u applied %u idle %u short %u\n", answer[3], answer[5], answer[6], answer[10]);
-    used[0] = answer[7];
-    used[1] = answer[8] + answer[9];
-    used[2] = answer[11];
+    printf("lines %u applied %u idle %u short %u\n", answer.lines, answer.applied, answer.idle, answer.shorts);
+    used = (clumarief_used){answer.classes, answer.fields + answer.methods, answer.names};
     return 0;
 }
 
@@ -47,12 +45,12 @@ static void show_method(const char *class_given, const char *name, const char *d
 {
     clumarief_member_name method;
     clumarief_display_method_name(TABLES, &used, TEXT(class_given), TEXT(name), TEXT(descriptor), &method);
-    if (method[1] == 1)
-        say("method", name, method[3], method[4]);
+    if (method.found)
+        say("method", name, method.place, method.length);
     clumarief_line shown;
     clumarief_display_line(TABLES, &used, TEXT(class_given), TEXT(name), TEXT(descriptor), line, &shown);
-    if (shown[1] == 1)
-        printf("line %u -> %u, by row %u\n", line, shown[3], shown[2]);
+    if (shown.found)
+        printf("line %u -> %u, by row %u\n", line, shown.line, shown.row);
 }
 
 static void put(uint8_t *tree, size_t at, uint32_t number)
@@ -74,10 +72,10 @@ static void show_tree(const char *class_given)
     memcpy(tree + 44, class_given, length);
     clumarief_applied applied;
     clumarief_apply(TABLES, &used, TEXT(class_given), tree, end, output, sizeof output, &applied);
-    if (applied[0] != CLUMARIEF_ACCEPTED)
-        fprintf(stderr, "refused %u: %s\n", applied[0], clumarief_words(applied[0]));
+    if (applied.number != CLUMARIEF_ACCEPTED)
+        fprintf(stderr, "refused %u: %s\n", applied.number, clumarief_words(applied.number));
     else
-        printf("tree of %u bytes -> %u bytes\n", (unsigned)end, applied[1]);
+        printf("tree of %u bytes -> %u bytes\n", (unsigned)end, applied.length);
 }
 
 int main(int count, char **words)
@@ -91,8 +89,8 @@ int main(int count, char **words)
         return refused;
     clumarief_class_name name;
     clumarief_display_class_name(TABLES, &used, TEXT(words[2]), &name);
-    if (name[1] == 1)
-        say("class", words[2], name[2], name[3]);
+    if (name.found)
+        say("class", words[2], name.place, name.length);
     if (count == 6)
         show_method(words[2], words[3], words[4], (uint32_t)strtoul(words[5], NULL, 10));
     show_tree(words[2]);

@@ -6,8 +6,10 @@ use std::path::PathBuf;
 fn main() {
     println!("cargo:rerun-if-changed=build.rs");
     println!("cargo:rerun-if-env-changed=CLUMARIEF_LIB");
-    let package = PathBuf::from(env::var_os("CARGO_MANIFEST_DIR").expect("cargo sets CARGO_MANIFEST_DIR"));
-    let folder = env::var_os("CLUMARIEF_LIB").map_or(package.join("../../target/dist/lib"), PathBuf::from);
+    let package =
+        PathBuf::from(env::var_os("CARGO_MANIFEST_DIR").expect("cargo sets CARGO_MANIFEST_DIR"));
+    let folder =
+        env::var_os("CLUMARIEF_LIB").map_or(package.join("../../target/dist/lib"), PathBuf::from);
     let library = folder.join("libclumarief.a");
     assert!(
         library.is_file(),

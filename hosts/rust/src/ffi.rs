@@ -31,17 +31,25 @@ mod c {
 
     extern "C" {
         pub fn clumarief_parse(
-            text: *const u8, text_length: usize,
-            classes: *mut ClassRow, class_rows: usize,
-            members: *mut MemberRow, member_rows: usize,
-            pool: *mut u8, pool_length: usize,
+            text: *const u8,
+            text_length: usize,
+            classes: *mut ClassRow,
+            class_rows: usize,
+            members: *mut MemberRow,
+            member_rows: usize,
+            pool: *mut u8,
+            pool_length: usize,
             answer: *mut LoadNumbers,
         );
         pub fn clumarief_parse_str(
-            text: *const u8, text_length: usize,
-            classes: *mut ClassRow, class_rows: usize,
-            members: *mut MemberRow, member_rows: usize,
-            pool: *mut u8, pool_length: usize,
+            text: *const u8,
+            text_length: usize,
+            classes: *mut ClassRow,
+            class_rows: usize,
+            members: *mut MemberRow,
+            member_rows: usize,
+            pool: *mut u8,
+            pool_length: usize,
             answer: *mut LoadNumbers,
         );
     }
@@ -78,7 +86,13 @@ pub enum Marks {
 }
 
 /// Loads a text into what is lent.
-pub fn load(marks: Marks, text: &[u8], classes: &mut [ClassRow], members: &mut [MemberRow], pool: &mut [u8]) -> LoadNumbers {
+pub fn load(
+    marks: Marks,
+    text: &[u8],
+    classes: &mut [ClassRow],
+    members: &mut [MemberRow],
+    pool: &mut [u8],
+) -> LoadNumbers {
     let mut answer = [0; 24];
     let call = match marks {
         Marks::Go => c::clumarief_parse,
@@ -139,38 +153,79 @@ macro_rules! called {
 
 impl Tables<'_> {
     pub fn display_class_name(&self, raw: &[u8]) -> [u32; 4] {
-        called!(clumarief_display_class_name, self, [0; 4], raw.as_ptr(), raw.len())
+        called!(
+            clumarief_display_class_name,
+            self,
+            [0; 4],
+            raw.as_ptr(),
+            raw.len()
+        )
     }
 
     pub fn raw_class_name(&self, display: &[u8]) -> [u32; 4] {
-        called!(clumarief_raw_class_name, self, [0; 4], display.as_ptr(), display.len())
+        called!(
+            clumarief_raw_class_name,
+            self,
+            [0; 4],
+            display.as_ptr(),
+            display.len()
+        )
     }
 
     pub fn display_field_name(&self, key: Key<'_>) -> [u32; 5] {
         called!(
-            clumarief_display_field_name, self, [0; 5],
-            key.owner.as_ptr(), key.owner.len(), key.name.as_ptr(), key.name.len(), key.descriptor.as_ptr(), key.descriptor.len()
+            clumarief_display_field_name,
+            self,
+            [0; 5],
+            key.owner.as_ptr(),
+            key.owner.len(),
+            key.name.as_ptr(),
+            key.name.len(),
+            key.descriptor.as_ptr(),
+            key.descriptor.len()
         )
     }
 
     pub fn display_method_name(&self, key: Key<'_>) -> [u32; 5] {
         called!(
-            clumarief_display_method_name, self, [0; 5],
-            key.owner.as_ptr(), key.owner.len(), key.name.as_ptr(), key.name.len(), key.descriptor.as_ptr(), key.descriptor.len()
+            clumarief_display_method_name,
+            self,
+            [0; 5],
+            key.owner.as_ptr(),
+            key.owner.len(),
+            key.name.as_ptr(),
+            key.name.len(),
+            key.descriptor.as_ptr(),
+            key.descriptor.len()
         )
     }
 
     pub fn display_line(&self, key: Key<'_>, line: u32) -> [u32; 4] {
         called!(
-            clumarief_display_line, self, [0; 4],
-            key.owner.as_ptr(), key.owner.len(), key.name.as_ptr(), key.name.len(), key.descriptor.as_ptr(), key.descriptor.len(), line
+            clumarief_display_line,
+            self,
+            [0; 4],
+            key.owner.as_ptr(),
+            key.owner.len(),
+            key.name.as_ptr(),
+            key.name.len(),
+            key.descriptor.as_ptr(),
+            key.descriptor.len(),
+            line
         )
     }
 
     pub fn apply(&self, class: &[u8], tree: &[u8], output: &mut [u8]) -> [u32; 2] {
         called!(
-            clumarief_apply, self, [0; 2],
-            class.as_ptr(), class.len(), tree.as_ptr(), tree.len(), output.as_mut_ptr(), output.len()
+            clumarief_apply,
+            self,
+            [0; 2],
+            class.as_ptr(),
+            class.len(),
+            tree.as_ptr(),
+            tree.len(),
+            output.as_mut_ptr(),
+            output.len()
         )
     }
 }

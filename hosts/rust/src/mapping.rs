@@ -66,16 +66,28 @@ impl Mapping {
 
     /// Tables of an earlier load, as they were stored. They are refused with 14 where they are malformed. The counts of lines are not known
     /// of them.
-    pub fn from_tables(classes: Vec<ClassRow>, members: Vec<MemberRow>, pool: Vec<u8>) -> Result<Self, Refusal> {
+    pub fn from_tables(
+        classes: Vec<ClassRow>,
+        members: Vec<MemberRow>,
+        pool: Vec<u8>,
+    ) -> Result<Self, Refusal> {
         let mapping = Mapping {
             classes,
             members,
             pool,
             fates: Fates::default(),
         };
-        let lengths = [mapping.classes.len(), mapping.members.len(), mapping.pool.len()];
+        let lengths = [
+            mapping.classes.len(),
+            mapping.members.len(),
+            mapping.pool.len(),
+        ];
         let most = [MOST_CLASSES, MOST_MEMBERS, MOST_POOL];
-        let malformed = lengths.iter().zip(most).any(|(length, most)| *length > most) || mapping.tables().display_class_name(b"")[0] != 0;
+        let malformed = lengths
+            .iter()
+            .zip(most)
+            .any(|(length, most)| *length > most)
+            || mapping.tables().display_class_name(b"")[0] != 0;
         if malformed {
             return Err(Refusal::new(14, 0, 0));
         }
@@ -135,22 +147,32 @@ impl Mapping {
     /// # Ok::<(), clumarief::Refusal>(())
     /// ```
     pub fn classes(&self) -> impl ExactSizeIterator<Item = Class<'_>> {
-        self.classes.iter().enumerate().map(|(row, numbers)| rows::class(&self.pool, row, numbers))
+        self.classes
+            .iter()
+            .enumerate()
+            .map(|(row, numbers)| rows::class(&self.pool, row, numbers))
     }
 
     /// The members, in the order of the text.
     pub fn members(&self) -> impl ExactSizeIterator<Item = Member<'_>> {
-        self.members.iter().enumerate().map(|(row, numbers)| rows::member(&self.pool, row, numbers))
+        self.members
+            .iter()
+            .enumerate()
+            .map(|(row, numbers)| rows::member(&self.pool, row, numbers))
     }
 
     /// The class of a row.
     pub fn class(&self, row: usize) -> Option<Class<'_>> {
-        self.classes.get(row).map(|numbers| rows::class(&self.pool, row, numbers))
+        self.classes
+            .get(row)
+            .map(|numbers| rows::class(&self.pool, row, numbers))
     }
 
     /// The member of a row.
     pub fn member(&self, row: usize) -> Option<Member<'_>> {
-        self.members.get(row).map(|numbers| rows::member(&self.pool, row, numbers))
+        self.members
+            .get(row)
+            .map(|numbers| rows::member(&self.pool, row, numbers))
     }
 
     /// The display descriptor of a class, by its raw one: that of the last class line with it.
@@ -169,19 +191,46 @@ impl Mapping {
     }
 
     /// The display name of a field, by the raw descriptor of its class, its raw name and its raw descriptor.
-    pub fn display_field_name(&self, class: &str, name: &str, descriptor: &str) -> Option<NamedMember<'_>> {
-        self.member_name(self.tables().display_field_name(key(class, name, descriptor)))
+    pub fn display_field_name(
+        &self,
+        class: &str,
+        name: &str,
+        descriptor: &str,
+    ) -> Option<NamedMember<'_>> {
+        self.member_name(
+            self.tables()
+                .display_field_name(key(class, name, descriptor)),
+        )
     }
 
     /// The display name of a method, by the same three.
-    pub fn display_method_name(&self, class: &str, name: &str, descriptor: &str) -> Option<NamedMember<'_>> {
-        self.member_name(self.tables().display_method_name(key(class, name, descriptor)))
+    pub fn display_method_name(
+        &self,
+        class: &str,
+        name: &str,
+        descriptor: &str,
+    ) -> Option<NamedMember<'_>> {
+        self.member_name(
+            self.tables()
+                .display_method_name(key(class, name, descriptor)),
+        )
     }
 
     /// The display line of a raw line of a method.
-    pub fn display_line(&self, class: &str, name: &str, descriptor: &str, line: u32) -> Option<ShownLine> {
-        let [_, found, row, line] = self.tables().display_line(key(class, name, descriptor), line);
-        (found == 1).then_some(ShownLine { row: row as usize, line })
+    pub fn display_line(
+        &self,
+        class: &str,
+        name: &str,
+        descriptor: &str,
+        line: u32,
+    ) -> Option<ShownLine> {
+        let [_, found, row, line] = self
+            .tables()
+            .display_line(key(class, name, descriptor), line);
+        (found == 1).then_some(ShownLine {
+            row: row as usize,
+            line,
+        })
     }
 
     /// Applies the mapping to a tree file, for a class by its raw descriptor: see [`tree`](crate::tree). Mostly names make a file no longer
@@ -206,7 +255,11 @@ impl Mapping {
             classes: &self.classes,
             members: &self.members,
             pool: &self.pool,
-            used: [self.classes.len() as u32, self.members.len() as u32, self.pool.len() as u32],
+            used: [
+                self.classes.len() as u32,
+                self.members.len() as u32,
+                self.pool.len() as u32,
+            ],
         }
     }
 

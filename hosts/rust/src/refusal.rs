@@ -17,8 +17,6 @@ pub struct Refusal {
     length: u32,
 }
 
-/// The text is too long, or the tree file.
-pub(crate) const TOO_LONG: u32 = 1;
 const NOT_UTF8: u32 = 2;
 /// The pool is too small.
 pub(crate) const SHORT_POOL: u32 = 11;
@@ -27,7 +25,11 @@ pub(crate) const NO_ROOM: u32 = 13;
 
 impl Refusal {
     pub(crate) fn new(number: u32, place: u32, length: u32) -> Self {
-        Refusal { number, place, length }
+        Refusal {
+            number,
+            place,
+            length,
+        }
     }
 
     /// Document 01's number, 1 to 14.

@@ -90,13 +90,18 @@ impl Tree {
 
     /// A tree of its parts; none where they would not be read again.
     pub fn of_parts(nodes: Vec<Node>, names: Vec<[u32; 2]>, bytes: Vec<u8>) -> Option<Self> {
-        let tree = Tree { nodes, names, bytes };
+        let tree = Tree {
+            nodes,
+            names,
+            bytes,
+        };
         tree.is_sound().then_some(tree)
     }
 
     /// A further name.
     pub fn name(&mut self, text: &str) -> Name {
-        self.names.push([self.bytes.len() as u32, text.len() as u32]);
+        self.names
+            .push([self.bytes.len() as u32, text.len() as u32]);
         self.bytes.extend(text.as_bytes());
         Name(self.names.len() as u32 - 1)
     }
@@ -139,7 +144,12 @@ impl Tree {
     /// The file.
     pub fn written(&self) -> Vec<u8> {
         let tokens = || self.nodes.iter().flat_map(|node| &node.tokens);
-        let counts = [self.nodes.len(), tokens().count(), self.names.len(), self.bytes.len()];
+        let counts = [
+            self.nodes.len(),
+            tokens().count(),
+            self.names.len(),
+            self.bytes.len(),
+        ];
         let mut numbers = counts.map(|count| count as u32).to_vec();
         for node in &self.nodes {
             numbers.extend([node.parent.unwrap_or(NO_PARENT), node.tokens.len() as u32]);
@@ -156,7 +166,11 @@ impl Tree {
         let mut numbers = Numbers(file);
         let [nodes, tokens] = numbers.pair()?;
         let [names, bytes] = numbers.pair()?;
-        let length = 16 + 8 * u64::from(nodes) + 12 * u64::from(tokens) + 8 * u64::from(names) + u64::from(bytes);
+        let length = 16
+            + 8 * u64::from(nodes)
+            + 12 * u64::from(tokens)
+            + 8 * u64::from(names)
+            + u64::from(bytes);
         if length != file.len() as u64 {
             return None;
         }
@@ -166,7 +180,9 @@ impl Tree {
         }
         let mut read = Vec::with_capacity(rows.len());
         for [parent, count] in rows {
-            let tokens = (0..count).map(|_| token([numbers.next()?, numbers.next()?, numbers.next()?])).collect::<Option<_>>()?;
+            let tokens = (0..count)
+                .map(|_| token([numbers.next()?, numbers.next()?, numbers.next()?]))
+                .collect::<Option<_>>()?;
             read.push(Node {
                 parent: (parent != NO_PARENT).then_some(parent),
                 tokens,
@@ -179,15 +195,25 @@ impl Tree {
     /// Parents are lower rows, names of tokens are there, lie in the name bytes and are UTF-8.
     fn is_sound(&self) -> bool {
         let names = self.names.len() as u64;
-        let parents = self.nodes.iter().enumerate().all(|(row, node)| match node.parent {
-            None => row == 0,
-            Some(parent) => (parent as usize) < row,
-        });
+        let parents = self
+            .nodes
+            .iter()
+            .enumerate()
+            .all(|(row, node)| match node.parent {
+                None => row == 0,
+                Some(parent) => (parent as usize) < row,
+            });
         let known = |name: Name| u64::from(name.0) < names;
-        let tokens = self.nodes.iter().flat_map(|node| &node.tokens).all(|token| match *token {
-            Token::MemberName { raw, display } | Token::Descriptor { raw, display } => known(raw) && known(display),
-            Token::Other(..) | Token::SourceLine { .. } => true,
-        });
+        let tokens = self
+            .nodes
+            .iter()
+            .flat_map(|node| &node.tokens)
+            .all(|token| match *token {
+                Token::MemberName { raw, display } | Token::Descriptor { raw, display } => {
+                    known(raw) && known(display)
+                }
+                Token::Other(..) | Token::SourceLine { .. } => true,
+            });
         !self.nodes.is_empty() && parents && tokens && self.texts_are_utf8()
     }
 
@@ -196,8 +222,10 @@ impl Tree {
         let reach = reaches(&self.bytes);
         self.names.iter().all(|&[place, length]| {
             let (start, end) = (place as usize, place as usize + length as usize);
-            let starts_character = |at: usize| self.bytes.get(at).is_none_or(|byte| byte & 0xC0 != 0x80);
-            end <= self.bytes.len() && (length == 0 || (reach[start] as usize >= end && starts_character(end)))
+            let starts_character =
+                |at: usize| self.bytes.get(at).is_none_or(|byte| byte & 0xC0 != 0x80);
+            end <= self.bytes.len()
+                && (length == 0 || (reach[start] as usize >= end && starts_character(end)))
         })
     }
 }
@@ -212,7 +240,9 @@ fn reaches(bytes: &[u8]) -> Vec<u32> {
             0xE0..=0xEF => 3,
             _ => 4,
         };
-        let good = bytes.get(at..at + length).is_some_and(|character| str::from_utf8(character).is_ok());
+        let good = bytes
+            .get(at..at + length)
+            .is_some_and(|character| str::from_utf8(character).is_ok());
         reach[at] = if good { reach[at + length] } else { at as u32 };
     }
     reach
@@ -221,8 +251,14 @@ fn reaches(bytes: &[u8]) -> Vec<u32> {
 fn token([kind, a, b]: [u32; 3]) -> Option<Token> {
     match kind {
         0 => Some(Token::Other(a, b)),
-        1 => Some(Token::MemberName { raw: Name(a), display: Name(b) }),
-        2 => Some(Token::Descriptor { raw: Name(a), display: Name(b) }),
+        1 => Some(Token::MemberName {
+            raw: Name(a),
+            display: Name(b),
+        }),
+        2 => Some(Token::Descriptor {
+            raw: Name(a),
+            display: Name(b),
+        }),
         3 => Some(Token::SourceLine { raw: a, display: b }),
         _ => None,
     }

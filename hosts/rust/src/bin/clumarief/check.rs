@@ -9,7 +9,8 @@ use crate::words::{lines, read, refused, visible, Failure, Outcome};
 /// Prints the fates, and with `listed` the lines that a reader would want to see.
 pub fn check(name: &str, listed: bool, out: &mut Vec<u8>) -> Outcome {
     let text = read(name, MOST_TEXT)?;
-    let mapping = Mapping::parse(&text).map_err(|refusal| Failure::Refused(refused(name, &text, &refusal)))?;
+    let mapping = Mapping::parse(&text)
+        .map_err(|refusal| Failure::Refused(refused(name, &text, &refusal)))?;
     let fates = mapping.fates();
     let facts = [
         ("lines", fates.lines),
@@ -35,7 +36,9 @@ pub fn check(name: &str, listed: bool, out: &mut Vec<u8>) -> Outcome {
 fn alone(line: &[u8]) -> Option<Fates> {
     let mut text = b"a -> a:\n int a -> a\n".to_vec();
     text.extend(line);
-    Mapping::parse_str(&text).ok().map(|mapping| mapping.fates())
+    Mapping::parse_str(&text)
+        .ok()
+        .map(|mapping| mapping.fates())
 }
 
 /// Lists methods that are short, and comments that are idle.
@@ -43,7 +46,9 @@ fn list(name: &str, text: &[u8], fates: &Fates, out: &mut Vec<u8>) -> Outcome {
     let (mut short, mut idle, mut has_member) = (0, 0, false);
     for (number, line) in lines(text).enumerate() {
         // A line that is empty ends the small text, and is no line of it.
-        let Some(own) = alone(line).filter(|own| own.lines == 3) else { continue };
+        let Some(own) = alone(line).filter(|own| own.lines == 3) else {
+            continue;
+        };
         let comment = own.applied + own.idle == 1;
         let what = if own.short == 1 {
             short += 1;
@@ -58,12 +63,20 @@ fn list(name: &str, text: &[u8], fates: &Fates, out: &mut Vec<u8>) -> Outcome {
             has_member = own.class == 1;
         }
         if !what.is_empty() {
-            writeln!(out, "{name}:{}: {what}: {}", number + 1, visible(&String::from_utf8_lossy(line)))?;
+            writeln!(
+                out,
+                "{name}:{}: {what}: {}",
+                number + 1,
+                visible(&String::from_utf8_lossy(line))
+            )?;
         }
     }
     // Both are counted by the load itself: a list that says otherwise would hide a line.
     if (short, idle) != (fates.short, fates.idle) {
-        return Err(Failure::Refused(format!("{name}: the list has {short} short and {idle} idle lines, the load {} and {}", fates.short, fates.idle)));
+        return Err(Failure::Refused(format!(
+            "{name}: the list has {short} short and {idle} idle lines, the load {} and {}",
+            fates.short, fates.idle
+        )));
     }
     Ok(())
 }

@@ -43,7 +43,9 @@ fn quoted(text: &str) -> String {
     for c in text.chars() {
         match c {
             '"' | '\\' => out.extend(['\\', c]),
-            c if c.is_control() => write!(out, "\\u{{{:X}}}", c as u32).expect("a string takes all"),
+            c if c.is_control() => {
+                write!(out, "\\u{{{:X}}}", c as u32).expect("a string takes all")
+            }
             c => out.push(c),
         }
     }
@@ -53,7 +55,9 @@ fn quoted(text: &str) -> String {
 /// The names of a token, in the order in which they get numbers.
 fn names_of(token: &Token) -> Option<[Name; 2]> {
     match *token {
-        Token::MemberName { raw, display } | Token::Descriptor { raw, display } => Some([raw, display]),
+        Token::MemberName { raw, display } | Token::Descriptor { raw, display } => {
+            Some([raw, display])
+        }
         Token::Other(..) | Token::SourceLine { .. } => None,
     }
 }
@@ -65,7 +69,10 @@ fn is_long(tree: &Tree, name: Name) -> bool {
 /// The first name with each text, but for long ones.
 fn first_names(tree: &Tree) -> HashMap<&str, Name> {
     let mut first = HashMap::new();
-    for name in (0..tree.names().len() as u32).map(Name).filter(|name| !is_long(tree, *name)) {
+    for name in (0..tree.names().len() as u32)
+        .map(Name)
+        .filter(|name| !is_long(tree, *name))
+    {
         first.entry(tree.text(name)).or_insert(name);
     }
     first
@@ -75,7 +82,12 @@ fn first_names(tree: &Tree) -> HashMap<&str, Name> {
 fn is_plain(tree: &Tree) -> bool {
     let mut plain = Tree::new();
     let mut numbers = HashMap::new();
-    let used = tree.nodes().iter().flat_map(|node| &node.tokens).filter_map(names_of).flatten();
+    let used = tree
+        .nodes()
+        .iter()
+        .flat_map(|node| &node.tokens)
+        .filter_map(names_of)
+        .flatten();
     for name in used {
         if is_long(tree, name) {
             return false;
@@ -133,11 +145,19 @@ pub fn text_of(tree: &Tree) -> String {
             return format!("#{}", name.0);
         }
         let text = tree.text(name);
-        let number = if first[text] == name { String::new() } else { format!("#{}", name.0) };
+        let number = if first[text] == name {
+            String::new()
+        } else {
+            format!("#{}", name.0)
+        };
         quoted(text) + &number
     };
     let shown = |kind: char, raw: Name, display: Name| {
-        let second = if raw == display { String::new() } else { format!("={}", named(display)) };
+        let second = if raw == display {
+            String::new()
+        } else {
+            format!("={}", named(display))
+        };
         format!("{kind}{}{second}", named(raw))
     };
     let mut path = Path::default();
@@ -162,7 +182,11 @@ pub fn text_of(tree: &Tree) -> String {
                 Token::SourceLine { raw, display } => format!("@{raw}={display}"),
             })
             .collect();
-        out += &if tokens.is_empty() { "-".into() } else { tokens.join(" ") };
+        out += &if tokens.is_empty() {
+            "-".into()
+        } else {
+            tokens.join(" ")
+        };
         out.push('\n');
     }
     out
@@ -202,11 +226,18 @@ impl<'a> Rest<'a> {
     }
 
     fn expect(&mut self, word: &str, wanted: &'static str) -> Read<()> {
-        if self.takes(word) { Ok(()) } else { self.fails(wanted) }
+        if self.takes(word) {
+            Ok(())
+        } else {
+            self.fails(wanted)
+        }
     }
 
     fn number(&mut self) -> Read<u32> {
-        let end = self.text.find(|c: char| !c.is_ascii_digit()).unwrap_or(self.text.len());
+        let end = self
+            .text
+            .find(|c: char| !c.is_ascii_digit())
+            .unwrap_or(self.text.len());
         let Ok(number) = self.text[..end].parse() else {
             return self.fails("a number up to 4294967295");
         };
@@ -239,7 +270,10 @@ impl<'a> Rest<'a> {
         }
         self.expect("u{", wanted)?;
         let end = self.text.find('}').unwrap_or(0);
-        let Some(c) = u32::from_str_radix(&self.text[..end], 16).ok().and_then(char::from_u32) else {
+        let Some(c) = u32::from_str_radix(&self.text[..end], 16)
+            .ok()
+            .and_then(char::from_u32)
+        else {
             return self.fails("a code point in hexadecimal digits, and `}`");
         };
         self.skip(end + 1);
@@ -253,7 +287,11 @@ impl<'a> Rest<'a> {
     }
 
     fn ended(&self) -> Read<()> {
-        if self.text.is_empty() { Ok(()) } else { self.fails("the end of the line") }
+        if self.text.is_empty() {
+            Ok(())
+        } else {
+            self.fails("the end of the line")
+        }
     }
 }
 
@@ -272,7 +310,8 @@ struct Reader {
 
 impl Reader {
     fn append(&mut self, text: &str) -> Name {
-        self.names.push([self.bytes.len() as u32, text.len() as u32]);
+        self.names
+            .push([self.bytes.len() as u32, text.len() as u32]);
         self.bytes.extend(text.as_bytes());
         Name(self.names.len() as u32 - 1)
     }
@@ -301,10 +340,19 @@ impl Reader {
 
     /// Which name a text stands for, once all that are said are there: the first one with it.
     fn number_names(&mut self) {
-        for (number, [place, length]) in self.names.iter().enumerate().filter(|(_, [_, length])| *length <= LONG) {
-            let bytes = self.bytes.get(*place as usize..*place as usize + *length as usize);
+        for (number, [place, length]) in self
+            .names
+            .iter()
+            .enumerate()
+            .filter(|(_, [_, length])| *length <= LONG)
+        {
+            let bytes = self
+                .bytes
+                .get(*place as usize..*place as usize + *length as usize);
             if let Some(Ok(text)) = bytes.map(std::str::from_utf8) {
-                self.numbers.entry(text.into()).or_insert(Name(number as u32));
+                self.numbers
+                    .entry(text.into())
+                    .or_insert(Name(number as u32));
             }
         }
     }
@@ -327,8 +375,15 @@ impl Reader {
             return Ok(());
         }
         let digits = rest.text;
-        let pairs = digits.as_bytes().chunks(2).map(|pair| std::str::from_utf8(pair).ok().filter(|pair| pair.len() == 2));
-        let Some(bytes) = pairs.map(|pair| u8::from_str_radix(pair?, 16).ok()).collect::<Option<Vec<_>>>() else {
+        let pairs = digits.as_bytes().chunks(2).map(|pair| {
+            std::str::from_utf8(pair)
+                .ok()
+                .filter(|pair| pair.len() == 2)
+        });
+        let Some(bytes) = pairs
+            .map(|pair| u8::from_str_radix(pair?, 16).ok())
+            .collect::<Option<Vec<_>>>()
+        else {
             return rest.fails("two hexadecimal digits for each byte");
         };
         self.bytes.extend(bytes);
@@ -381,7 +436,11 @@ impl Reader {
 
     fn both(&mut self, rest: &mut Rest<'_>) -> Read<(Name, Name)> {
         let raw = self.named(rest)?;
-        let display = if rest.takes("=") { self.named(rest)? } else { raw };
+        let display = if rest.takes("=") {
+            self.named(rest)?
+        } else {
+            raw
+        };
         Ok((raw, display))
     }
 
@@ -415,8 +474,16 @@ pub fn tree_of(text: &str) -> Result<Tree, Unread> {
         if line.is_empty() || line.trim_start().starts_with("//") {
             continue;
         }
-        reader.line(line).map_err(|(column, wanted)| Unread { line: last, column, wanted })?;
+        reader.line(line).map_err(|(column, wanted)| Unread {
+            line: last,
+            column,
+            wanted,
+        })?;
     }
-    let fault = Unread { line: last, column: 1, wanted: "a node, parents that stand before their children, and names that are there" };
+    let fault = Unread {
+        line: last,
+        column: 1,
+        wanted: "a node, parents that stand before their children, and names that are there",
+    };
     Tree::of_parts(reader.nodes, reader.names, reader.bytes).ok_or(fault)
 }

@@ -32,7 +32,10 @@ impl Failure {
 impl Display for Failure {
     fn fmt(&self, out: &mut Formatter<'_>) -> fmt::Result {
         match self {
-            Failure::Usage(what) => writeln!(out, "clumarief: {what}\nclumarief: `clumarief --help` says what there is"),
+            Failure::Usage(what) => writeln!(
+                out,
+                "clumarief: {what}\nclumarief: `clumarief --help` says what there is"
+            ),
             Failure::Io(name, error) => writeln!(out, "clumarief: {name}: {error}"),
             Failure::Refused(what) => writeln!(out, "{what}"),
         }
@@ -73,7 +76,9 @@ pub fn read_tree(name: &str) -> Result<Vec<u8>, Failure> {
 pub fn refused(name: &str, text: &[u8], refusal: &Refusal) -> String {
     let reason = format!("refused {}: {}", refusal.number(), refusal.words());
     if let Some(line) = refusal.line() {
-        let shown = lines(text).nth(line as usize - 1).map(|bytes| visible(&String::from_utf8_lossy(bytes)));
+        let shown = lines(text)
+            .nth(line as usize - 1)
+            .map(|bytes| visible(&String::from_utf8_lossy(bytes)));
         return format!("{name}:{line}: {reason}\n    {}", shown.unwrap_or_default());
     }
     let Some(byte) = refusal.byte() else {
@@ -81,7 +86,10 @@ pub fn refused(name: &str, text: &[u8], refusal: &Refusal) -> String {
     };
     let good = &text[..byte as usize];
     let line = good.iter().filter(|&&byte| byte == b'\n').count() + 1;
-    let start = good.iter().rposition(|&byte| byte == b'\n').map_or(0, |place| place + 1);
+    let start = good
+        .iter()
+        .rposition(|&byte| byte == b'\n')
+        .map_or(0, |place| place + 1);
     let before = String::from_utf8_lossy(&good[start..]);
     let length = match refusal.length() {
         0 => "the text ends in a sequence".to_string(),
@@ -89,7 +97,11 @@ pub fn refused(name: &str, text: &[u8], refusal: &Refusal) -> String {
         length => format!("{length} bad bytes"),
     };
     let column = before.chars().count() + 1;
-    format!("{name}:{line}:{column}: {reason}, {length}\n    {}<{:02X}>", visible(&before), text[byte as usize])
+    format!(
+        "{name}:{line}:{column}: {reason}, {length}\n    {}<{:02X}>",
+        visible(&before),
+        text[byte as usize]
+    )
 }
 
 /// The lines of a text as a load counts them, without the marks that it begins with.
@@ -100,16 +112,32 @@ pub fn lines(text: &[u8]) -> impl Iterator<Item = &[u8]> {
     }
     let ended = text.strip_suffix(b"\n").unwrap_or(text);
     let none = text.is_empty();
-    ended.split(|&byte| byte == b'\n').filter(move |_| !none).map(|line| {
-        let end = line.iter().rposition(|&byte| byte != b'\r').map_or(0, |place| place + 1);
-        &line[..end]
-    })
+    ended
+        .split(|&byte| byte == b'\n')
+        .filter(move |_| !none)
+        .map(|line| {
+            let end = line
+                .iter()
+                .rposition(|&byte| byte != b'\r')
+                .map_or(0, |place| place + 1);
+            &line[..end]
+        })
 }
 
 /// A text with its control characters made visible, and no more of it than a reader looks at.
 pub fn visible(text: &str) -> String {
     const MOST: usize = 200;
-    let mut shown: String = text.chars().take(MOST).flat_map(|c| if c.is_control() { c.escape_default().collect() } else { vec![c] }).collect();
+    let mut shown: String = text
+        .chars()
+        .take(MOST)
+        .flat_map(|c| {
+            if c.is_control() {
+                c.escape_default().collect()
+            } else {
+                vec![c]
+            }
+        })
+        .collect();
     if text.chars().nth(MOST).is_some() {
         shown.push_str("..");
     }
