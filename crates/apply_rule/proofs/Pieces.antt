@@ -10,11 +10,12 @@ use borrow.Author.Tests.{eqb-true}
 use Rattle.ground.specs.Choice.{pick, either}
 use Rattle.ground.specs.Join.{join}
 use Rattle.ground.specs.Look.{Look, known, unknown, isKnown, lookOr}
-use Rattle.ground.proofs.Cases.{clash}
+use Rattle.ground.proofs.Cases.{either-left, either-right, clash}
 use Rattle.text_places.specs.declared.find.Place.the-variants.{At, Nowhere}
 use Rattle.text_places.specs.Places.{firstFrom, firstWhere, starts}
 use Rattle.text_places.proofs.Holds.{first-past}
 use Rattle.descriptor.specs.Pieces.{byte, piece, partsFrom, turned, turn}
+use Rattle.descriptor.proofs.Turning.{only-bytes}
 use Rattle.apply_rule.specs.Changes.{pieceKnown}
 
 module _ (look : List ℕ → Look) where
@@ -125,26 +126,13 @@ module _ (look : List ℕ → Look) where
   unknown-without-l l e = no-l-unknown 0 l e
 
   -- "A descriptor is replaced if one piece is known": else turning leaves it as it is.
-  either-left : (a b : Bool) → either a b ≡ false → a ≡ false
-  either-left true b e = e
-  either-left false b e = refl
-
-  either-right : (a b : Bool) → either a b ≡ false → b ≡ false
-  either-right true b e = clash refl e
-  either-right false b e = e
-
   unknown-itself : (p : List ℕ) (l : Look) → isKnown l ≡ false → lookOr p l ≡ p
   unknown-itself p (known q) e = clash refl e
   unknown-itself p unknown e = refl
 
-  bytes-stay : (w : List ℕ) → join (map (turned look) (map byte w)) ≡ w
-  unfolding join
-  bytes-stay [] = refl
-  bytes-stay (x ∷ w) = ap (λ l. x ∷ l) (bytes-stay w)
-
   stays-from : (w s : List ℕ) → pieceKnown look (partsFrom w s) ≡ false → join (map (turned look) (partsFrom w s)) ≡ w ++ s
   unfolding partsFrom pieceKnown join
-  stays-from w [] e = bytes-stay w ∙ sym (append-nil w)
+  stays-from w [] e = only-bytes look w ∙ sym (append-nil w)
   stays-from [] (b ∷ s) e = go (eqb b 0x4C) (stays-from (b ∷ []) s) (stays-from [] s) e
     where
       go : (t : Bool) → (pieceKnown look (partsFrom (b ∷ []) s) ≡ false → join (map (turned look) (partsFrom (b ∷ []) s)) ≡ b ∷ s) →

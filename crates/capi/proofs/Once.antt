@@ -10,7 +10,7 @@ use Rattle.load_rule.specs.Loading.{lentOf, linesParse, linesStr, answerOf, cla
 use Rattle.name_lines.specs.LineNames.{rawLine}
 use Rattle.name_rule.specs.MemberNames.{Key}
 use Rattle.name_classes.specs.ClassNames.{displayOfClass, displayNumbers, rawNumbers}
-use Rattle.name_members.specs.MemberAnswers.{fieldNumbers, methodNumbers, lineNumbersOf}
+use Rattle.name_members.specs.MemberAnswers.{fieldNameNumbers, methodNameNumbers, lineNumbersOf}
 use Rattle.apply_rule.specs.Applying.{applyOutput, applyNumbers}
 use Rattle.capi.specs.Answers.{usedBy, answerNumbers, mappedNumbers}
 
@@ -62,11 +62,11 @@ module _ (t : Tables) (n : List ℕ) where
     clumarief-mapped-class-name-once = one-value (mappedNumbers (displayOfClass t (usedBy n) name))
 
   module _ (k : Key) where
-    pub clumarief-display-field-name-once : OneOutcome (λ r. r ≡ fieldNumbers t (usedBy n) k)
-    clumarief-display-field-name-once = one-value (fieldNumbers t (usedBy n) k)
+    pub clumarief-display-field-name-once : OneOutcome (λ r. r ≡ fieldNameNumbers t (usedBy n) k)
+    clumarief-display-field-name-once = one-value (fieldNameNumbers t (usedBy n) k)
 
-    pub clumarief-display-method-name-once : OneOutcome (λ r. r ≡ methodNumbers t (usedBy n) k)
-    clumarief-display-method-name-once = one-value (methodNumbers t (usedBy n) k)
+    pub clumarief-display-method-name-once : OneOutcome (λ r. r ≡ methodNameNumbers t (usedBy n) k)
+    clumarief-display-method-name-once = one-value (methodNameNumbers t (usedBy n) k)
 
     pub clumarief-display-line-once : (l : ℕ) → OneOutcome (λ r. r ≡ lineNumbersOf t (usedBy n) k (rawLine l))
     clumarief-display-line-once l = one-value (lineNumbersOf t (usedBy n) k (rawLine l))

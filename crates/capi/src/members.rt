@@ -12,7 +12,7 @@ ghost use mathlib.Core.Path.{_≡_};
 ghost use Rattle.table_rows.specs.Tables.{tables};
 ghost use Rattle.name_lines.specs.LineNames.{rawLine};
 ghost use Rattle.name_rule.specs.MemberNames.{key};
-ghost use Rattle.name_members.specs.MemberAnswers.{nameNumbers, lineNumbers, fieldNumbers, methodNumbers, lineNumbersOf};
+ghost use Rattle.name_members.specs.MemberAnswers.{nameNumbers, lineNumbers, fieldNameNumbers, methodNameNumbers, lineNumbersOf};
 ghost use Rattle.capi.specs.Answers.{usedBy};
 
 fn name_numbers(name: MemberName) -> [u32; 5]
@@ -50,7 +50,7 @@ pub extern "C" fn clumarief_display_field_name(
     ensures { λ _.
         let lent = tables (now (classes .entry)) (now (members .entry)) (now (pool .entry)) in
         let k = key (now (owner .entry)) (now (name .entry)) (now (descriptor .entry)) in
-        ⌜ now (answer .exit) ≡ fieldNumbers lent (usedBy (now (used .entry))) k ⌝ }
+        ⌜ now (answer .exit) ≡ fieldNameNumbers lent (usedBy (now (used .entry))) k ⌝ }
 {
     let shown = display_field_name(
         classes,
@@ -79,7 +79,7 @@ pub extern "C" fn clumarief_display_method_name(
     ensures { λ _.
         let lent = tables (now (classes .entry)) (now (members .entry)) (now (pool .entry)) in
         let k = key (now (owner .entry)) (now (name .entry)) (now (descriptor .entry)) in
-        ⌜ now (answer .exit) ≡ methodNumbers lent (usedBy (now (used .entry))) k ⌝ }
+        ⌜ now (answer .exit) ≡ methodNameNumbers lent (usedBy (now (used .entry))) k ⌝ }
 {
     let called = display_method_name(
         classes,

@@ -24,7 +24,8 @@ unfolding join
 bytes-stay look [] ps = refl
 bytes-stay look (x ∷ w) ps = ap (λ l. x ∷ l) (bytes-stay look w ps)
 
-only-bytes : (look : List ℕ → Look) (w : List ℕ) → turnedAll look (map byte w) ≡ w
+-- bytes of no piece stay
+pub only-bytes : (look : List ℕ → Look) (w : List ℕ) → join (map (turned look) (map byte w)) ≡ w
 unfolding join
 only-bytes look [] = refl
 only-bytes look (x ∷ w) = ap (λ l. x ∷ l) (only-bytes look w)

@@ -6,7 +6,7 @@ use Prim.Native.Nat.{ℕ, _≤_, _<_}
 use native.Mathlib.Omega.{arith}
 use lib.Dec.{leb, eqb}
 use borrow.Author.Tests.{lt-ltb, le-ltb, le-leb, lt-leb, eq-eqb, ne-eqb, leb-true, leb-false, eqb-true, eqb-false}
-use Rattle.ground.specs.Choice.{both, within, bit}
+use Rattle.ground.specs.Choice.{both, either, within, bit}
 
 -- for code without a loop: each test of the rule is rewritten by the branch that was taken
 pub ruleset cases = (lt-ltb, le-ltb, le-leb, lt-leb, eq-eqb, ne-eqb, arith)
@@ -50,6 +50,14 @@ both-left false b e = e
 pub both-right : (a b : Bool) → both a b ≡ true → b ≡ true
 both-right true b e = e
 both-right false b e = absurd (let z : _≡_ {A = ℕ} 0 1 = cc in omega arith)
+
+pub either-left : (a b : Bool) → either a b ≡ false → a ≡ false
+either-left true b e = e
+either-left false b e = refl
+
+pub either-right : (a b : Bool) → either a b ≡ false → b ≡ false
+either-right true b e = absurd (let z : _≡_ {A = ℕ} 0 1 = cc in omega arith)
+either-right false b e = e
 
 -- a test that holds and does not
 pub clash {ℓ} : {A : Type ℓ} {b : Bool} → b ≡ true → b ≡ false → A

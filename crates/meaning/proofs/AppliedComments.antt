@@ -21,7 +21,7 @@ use Rattle.load_rule.specs.Fates.{fateNumber, fateOf, memberAfter}
 use Rattle.meaning.specs.Success.{
   isBetween,
   isMember,
-  signatureIn,
+  signatureGiven,
   AppliedIn,
   applied-here,
   applied-further,
@@ -44,12 +44,12 @@ gives-applied l brace e = rw e
 -- one line more, between a member and what is applied
 module _ (l : List ℕ) (ls : List (List ℕ)) where
   -- a line that gives nothing
-  none-here : signatureIn l (lineOf l) ≡ unknown → ((v : List ℕ) → AppliedIn true ls v → ⊥) → (v : List ℕ) → AppliedIn true (l ∷ ls) v → ⊥
+  none-here : signatureGiven l (lineOf l) ≡ unknown → ((v : List ℕ) → AppliedIn true ls v → ⊥) → (v : List ℕ) → AppliedIn true (l ∷ ls) v → ⊥
   none-here e none v (applied-here f g) = clash (ap isKnown (sym e ∙ g)) refl
   none-here e none v (applied-further f a) = none v a
 
   -- a line behind which no comment can be applied
-  stops-here : signatureIn l (lineOf l) ≡ unknown → isBetween (lineOf l) ≡ false → (v : List ℕ) → AppliedIn true (l ∷ ls) v → ⊥
+  stops-here : signatureGiven l (lineOf l) ≡ unknown → isBetween (lineOf l) ≡ false → (v : List ℕ) → AppliedIn true (l ∷ ls) v → ⊥
   stops-here e b v (applied-here f g) = clash (ap isKnown (sym e ∙ g)) refl
   stops-here e b v (applied-further f a) = clash f b
 
@@ -92,7 +92,7 @@ unapplied-unknown ls none = go (residualIn ls) (told ls)
     go (known v) t = absurd (none v (last-is t))
     go unknown t = refl
 
-here-given : (l : List ℕ) (ls : List (List ℕ)) (k : Line) {v : List ℕ} → signatureIn l k ≡ known v → residualIn ls ≡ unknown →
+here-given : (l : List ℕ) (ls : List (List ℕ)) (k : Line) {v : List ℕ} → signatureGiven l k ≡ known v → residualIn ls ≡ unknown →
     residualBy l k (residualIn ls) ≡ known v
 here-given l ls Blank e n = clash (ap isKnown e) refl
 here-given l ls (Comment brace) e n = rw (n, e)

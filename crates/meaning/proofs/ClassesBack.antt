@@ -8,7 +8,7 @@ use lib.Dec.{eqb}
 use borrow.Author.Tests.{not-true}
 use Rattle.ground.specs.Choice.{pick, either}
 use Rattle.ground.specs.Look.{Look, known, unknown, isKnown, lookOr, orLook}
-use Rattle.ground.proofs.Cases.{both-left, both-right, clash}
+use Rattle.ground.proofs.Cases.{both-left, both-right, either-left, either-right, clash}
 use Rattle.text_places.specs.Places.{same}
 use Rattle.text_places.specs.Spans.{partOf}
 use Rattle.text_places.proofs.PlaceLaws.{same-equal, same-refl}
@@ -22,36 +22,28 @@ use Rattle.descriptor.specs.Pieces.{piece, partsFrom, turn}
 use Rattle.load_rule.specs.Classes.{classIn, classesOf}
 use Rattle.tree_rule.specs.Theorems.{Every, every-none, every-one}
 use Rattle.apply_rule.proofs.Fitting.{every-append}
-use Rattle.meaning.specs.TurnedBack.{isAmong, eachOnce, displayOf, displaysOnce, displayNameIn, displayNames, noSemicolon, namesClosed, unmistaken}
+use Rattle.meaning.specs.TurnedBack.{isAmong, eachOnce, classDisplay, displaysOnce, displayNameIn, displayNames, noSemicolon, namesClosed, unmistaken}
 use Rattle.meaning.proofs.RoundTrip.{all-head, all-tail, OnePiece, Returns, round-trip}
 
-either-left : (a b : Bool) → either a b ≡ false → a ≡ false
-either-left true b e = e
-either-left false b e = refl
-
-either-right : (a b : Bool) → either a b ≡ false → b ≡ false
-either-right true b e = clash refl e
-either-right false b e = e
-
 -- a display descriptor that no class has is turned back to none
-back-unknown : (q : List ℕ) (cs : List Pair) → isAmong q (map displayOf cs) ≡ false → back cs q ≡ unknown
+back-unknown : (q : List ℕ) (cs : List Pair) → isAmong q (map classDisplay cs) ≡ false → back cs q ≡ unknown
 unfolding isAmong shown
 back-unknown q [] e = refl
 back-unknown q (c ∷ cs) e =
     rw (
-      back-unknown q cs (either-right (same (c .display) q) (isAmong q (map displayOf cs)) e),
-      either-left (same (c .display) q) (isAmong q (map displayOf cs)) e,
+      back-unknown q cs (either-right (same (c .display) q) (isAmong q (map classDisplay cs)) e),
+      either-left (same (c .display) q) (isAmong q (map classDisplay cs)) e,
     )
 
 -- one that a class has is turned back to the raw descriptor that shows it
-back-shown : (cs : List Pair) → eachOnce (map displayOf cs) ≡ true → (p : List ℕ) {q : List ℕ} → shown cs p ≡ known q →
+back-shown : (cs : List Pair) → eachOnce (map classDisplay cs) ≡ true → (p : List ℕ) {q : List ℕ} → shown cs p ≡ known q →
     back cs q ≡ known p
 unfolding eachOnce shown
 back-shown [] h p e = clash (ap isKnown e) refl
 back-shown (c ∷ cs) h p {q} e = go (shown cs p) refl (λ later s. back-shown cs later p s) e
   where
     rest : Bool
-    rest = isAmong (c .display) (map displayOf cs)
+    rest = isAmong (c .display) (map classDisplay cs)
 
     here : (t : Bool) → same (c .raw) p ≡ t → pick t (known (c .display)) unknown ≡ known q →
         orLook (back cs q) (pick (same (c .display) q) (known (c .raw)) unknown) ≡ known p
@@ -60,13 +52,13 @@ back-shown (c ∷ cs) h p {q} e = go (shown cs p) refl (λ later s. back-shown c
         let is : c .display ≡ q = cc in
         let raw : c .raw ≡ p = same-equal (c .raw) p s in
         let others : back cs (c .display) ≡ unknown =
-        back-unknown (c .display) cs (not-true rest (both-left (not rest) (eachOnce (map displayOf cs)) h)) in
+        back-unknown (c .display) cs (not-true rest (both-left (not rest) (eachOnce (map classDisplay cs)) h)) in
         rw (← is, others, same-refl (c .display), raw)
 
-    go : (l : Look) → shown cs p ≡ l → (eachOnce (map displayOf cs) ≡ true → shown cs p ≡ known q → back cs q ≡ known p) →
+    go : (l : Look) → shown cs p ≡ l → (eachOnce (map classDisplay cs) ≡ true → shown cs p ≡ known q → back cs q ≡ known p) →
         orLook l (pick (same (c .raw) p) (known (c .display)) unknown) ≡ known q →
         orLook (back cs q) (pick (same (c .display) q) (known (c .raw)) unknown) ≡ known p
-    go (known x) s later f = rw (later (both-right (not rest) (eachOnce (map displayOf cs)) h) (s ∙ f))
+    go (known x) s later f = rw (later (both-right (not rest) (eachOnce (map classDisplay cs)) h) (s ∙ f))
     go unknown s later f = here (same (c .raw) p) refl f
 
 -- every display descriptor is one piece

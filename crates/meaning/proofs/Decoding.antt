@@ -4,13 +4,13 @@ use mathlib.Core.Bool.{Bool, true, false}
 use mathlib.Core.List.{List, [], _∷_, _++_}
 use Prim.Native.Nat.{ℕ, zero, suc, pred, _+_, _*_, _-_, _/_, _%_, _≤_, _<_}
 use native.Mathlib.Omega.{arith}
-use lib.Dec.{eqb}
+use lib.Dec.{T, eqb}
 use lib.ListN.{length}
 use Rattle.ground.specs.Choice.{pick, within}
-use Rattle.ground.proofs.Table.{range-equal}
+use Rattle.ground.proofs.Table.{all, onRange, range-equal}
 use Rattle.text_utf8.specs.declared.sequence.Sequence.{Sequence}
 use Rattle.text_utf8.specs.declared.sequence.Sequence.the-variants.{Good, Bad}
-use Rattle.text_utf8.specs.Utf8.{leadOf, tails, afterLead, sequenceOf}
+use Rattle.text_utf8.specs.Utf8.{Lead, leadOf, tails, afterLead, sequenceOf}
 use Rattle.text_utf8.proofs.Grammatical.{char-reads}
 use Rattle.text_white.specs.White.{isWhite}
 use Rattle.text_white.specs.Trim.{whiteSequence, startsWhite}
@@ -51,34 +51,32 @@ sequence-read x s {d} {m} e = go (eqb (leadOf x .octets) 0) e
     go false f = tails-read (pred (leadOf x .octets)) (leadOf x .low) (leadOf x .high) (x - leadOf x .mark) 1 s f
 
 -- what first octets settle, by one test over all of them
+abbrev Settles : (Lead → ℕ) → ℕ → ℕ → ℕ → Type 0
+Settles part low high value = T (all (onRange low high (λ y. eqb (part (leadOf y)) value)) 256)
+
+settled : (low high octets mark : ℕ) → high < 256 → Settles (λ l. l .octets) low high octets → Settles (λ l. l .mark) low high mark →
+    (x : ℕ) → low ≤ x → x ≤ high → (leadOf x .octets ≡ octets) × (leadOf x .mark ≡ mark)
+settled low high octets mark h s t x l u = (
+  range-equal low high 256 h (λ y. leadOf y .octets) (λ y. octets) s x l u,
+  range-equal low high 256 h (λ y. leadOf y .mark) (λ y. mark) t x l u,
+)
+
 module _ (x : ℕ) where
   first-one : 0x00 ≤ x → x ≤ 0x7F → (leadOf x .octets ≡ 1) × (leadOf x .mark ≡ 0x00)
   unfolding leadOf
-  first-one l h = (
-    range-equal 0x00 0x7F 256 (omega arith) (λ y. leadOf y .octets) (λ y. 1) tt x l h,
-    range-equal 0x00 0x7F 256 (omega arith) (λ y. leadOf y .mark) (λ y. 0x00) tt x l h,
-  )
+  first-one = settled 0x00 0x7F 1 0x00 (omega arith) tt tt x
 
   first-two : 0xC2 ≤ x → x ≤ 0xDF → (leadOf x .octets ≡ 2) × (leadOf x .mark ≡ 0xC0)
   unfolding leadOf
-  first-two l h = (
-    range-equal 0xC2 0xDF 256 (omega arith) (λ y. leadOf y .octets) (λ y. 2) tt x l h,
-    range-equal 0xC2 0xDF 256 (omega arith) (λ y. leadOf y .mark) (λ y. 0xC0) tt x l h,
-  )
+  first-two = settled 0xC2 0xDF 2 0xC0 (omega arith) tt tt x
 
   first-three : 0xE0 ≤ x → x ≤ 0xEF → (leadOf x .octets ≡ 3) × (leadOf x .mark ≡ 0xE0)
   unfolding leadOf
-  first-three l h = (
-    range-equal 0xE0 0xEF 256 (omega arith) (λ y. leadOf y .octets) (λ y. 3) tt x l h,
-    range-equal 0xE0 0xEF 256 (omega arith) (λ y. leadOf y .mark) (λ y. 0xE0) tt x l h,
-  )
+  first-three = settled 0xE0 0xEF 3 0xE0 (omega arith) tt tt x
 
   first-four : 0xF0 ≤ x → x ≤ 0xF4 → (leadOf x .octets ≡ 4) × (leadOf x .mark ≡ 0xF0)
   unfolding leadOf
-  first-four l h = (
-    range-equal 0xF0 0xF4 256 (omega arith) (λ y. leadOf y .octets) (λ y. 4) tt x l h,
-    range-equal 0xF0 0xF4 256 (omega arith) (λ y. leadOf y .mark) (λ y. 0xF0) tt x l h,
-  )
+  first-four = settled 0xF0 0xF4 4 0xF0 (omega arith) tt tt x
 
 -- Numbers of two, three and four digits in base 64, behind their marks.
 two-digits : (c : ℕ) → (0xC0 + c / 64 - 0xC0) * 64 + (0x80 + c % 64 - 0x80) ≡ c

@@ -23,8 +23,8 @@ use Rattle.name_members.specs.MemberAnswers.{
   lineAnswer,
   nameNumbers,
   lineNumbers,
-  fieldNumbers,
-  methodNumbers,
+  fieldNameNumbers,
+  methodNameNumbers,
   lineNumbersOf,
 }
 use Rattle.tree_rule.specs.Checks.{wellFormedFile}
@@ -52,11 +52,11 @@ module _ (t : Tables) (used : Used) (name : List ℕ) where
 
 -- looking up members
 module _ (t : Tables) (used : Used) (k : Key) where
-  pub display-field-name-once : OneOutcome (λ r. (r ≡ fieldAnswer t used k) × (nameNumbers r ≡ fieldNumbers t used k))
-  display-field-name-once = one-value-more (fieldAnswer t used k) (λ (r : MemberName). nameNumbers r ≡ fieldNumbers t used k)
+  pub display-field-name-once : OneOutcome (λ r. (r ≡ fieldAnswer t used k) × (nameNumbers r ≡ fieldNameNumbers t used k))
+  display-field-name-once = one-value-more (fieldAnswer t used k) (λ (r : MemberName). nameNumbers r ≡ fieldNameNumbers t used k)
 
-  pub display-method-name-once : OneOutcome (λ r. (r ≡ methodAnswer t used k) × (nameNumbers r ≡ methodNumbers t used k))
-  display-method-name-once = one-value-more (methodAnswer t used k) (λ (r : MemberName). nameNumbers r ≡ methodNumbers t used k)
+  pub display-method-name-once : OneOutcome (λ r. (r ≡ methodAnswer t used k) × (nameNumbers r ≡ methodNameNumbers t used k))
+  display-method-name-once = one-value-more (methodAnswer t used k) (λ (r : MemberName). nameNumbers r ≡ methodNameNumbers t used k)
 
   pub display-line-once : (n : RawLine) → OneOutcome (λ r. (r ≡ lineAnswer t used k n) × (lineNumbers r ≡ lineNumbersOf t used k n))
   display-line-once n = one-value-more (lineAnswer t used k n) (λ (r : MemberLine). lineNumbers r ≡ lineNumbersOf t used k n)

@@ -13,6 +13,7 @@ use Rattle.ground.proofs.Cases.{both-left, both-right}
 use Rattle.tables.specs.Check.{allOf}
 use Rattle.tables.proofs.Checking.{all-append}
 use Rattle.descriptor.specs.Pieces.{Part, byte, piece, partsFrom, turned, turn}
+use Rattle.descriptor.proofs.Turning.{only-bytes}
 use Rattle.meaning.specs.TurnedBack.{noSemicolon}
 
 -- Tests that hold of all.
@@ -92,15 +93,10 @@ module _ (look : List ℕ → Look) where
   unfolding partsFrom join
   no-piece b r e = rw e
 
-  bytes-stay : (w : List ℕ) → made (map byte w) ≡ w
-  unfolding join
-  bytes-stay [] = refl
-  bytes-stay (x ∷ w) = ap (λ l. x ∷ l) (bytes-stay w)
-
   begun-stays : {w : List ℕ} → Begun w → turn look w ≡ w
   unfolding partsFrom join
   begun-stays none-begun = refl
-  begun-stays (begun m h) = ap made (unclosed-from [] m h) ∙ bytes-stay (0x4C ∷ m)
+  begun-stays (begun m h) = ap made (unclosed-from [] m h) ∙ only-bytes look (0x4C ∷ m)
 
 -- Two look-ups: what the first shows for a class is one piece, and the second returns the class for it.
 pub record Returns (there again : List ℕ → Look) (p : List ℕ) : Type 0 where
@@ -114,7 +110,7 @@ module _ (there again : List ℕ → Look) (fine : Part → Bool)
 
   trip-from : (w s : List ℕ) → Begun w → Comes (w ++ s) (partsFrom w s)
   unfolding partsFrom join
-  trip-from w [] b e = ap (turn again) (bytes-stay there w) ∙ begun-stays again b ∙ sym (append-nil w)
+  trip-from w [] b e = ap (turn again) (only-bytes there w) ∙ begun-stays again b ∙ sym (append-nil w)
   trip-from [] (x ∷ s) b e = go (eqb x 0x4C) refl (trip-from (x ∷ []) s) (trip-from [] s none-begun) e
     where
       go : (t : Bool) → eqb x 0x4C ≡ t → (Begun (x ∷ []) → Comes (x ∷ s) (partsFrom (x ∷ []) s)) → Comes s (partsFrom [] s) →

@@ -38,25 +38,25 @@ isMember (Method m raw) = true
 isMember (Refused r) = false
 
 -- the signature that a line gives, if it is a comment that gives one
-abbrev pub signatureIn : List ℕ → Line → Look
-signatureIn l Blank = unknown
-signatureIn l (Comment brace) = signatureAt l brace
-signatureIn l (Class display raw) = unknown
-signatureIn l (Field declared name raw) = unknown
-signatureIn l (Method m raw) = unknown
-signatureIn l (Refused r) = unknown
+abbrev pub signatureGiven : List ℕ → Line → Look
+signatureGiven l Blank = unknown
+signatureGiven l (Comment brace) = signatureAt l brace
+signatureGiven l (Class display raw) = unknown
+signatureGiven l (Field declared name raw) = unknown
+signatureGiven l (Method m raw) = unknown
+signatureGiven l (Refused r) = unknown
 
 -- Forward from a member: a comment that is counted as applied and gives `v` stands in these lines, before the next member or class line.
 pub data AppliedIn (member : Bool) : List (List ℕ) → List ℕ → Type 0 where
   applied-here : {l : List ℕ} {ls : List (List ℕ)} {v : List ℕ} → fateOf member l (lineOf l) ≡ fate.Applied →
-      signatureIn l (lineOf l) ≡ known v → AppliedIn member (l ∷ ls) v
+      signatureGiven l (lineOf l) ≡ known v → AppliedIn member (l ∷ ls) v
   applied-further : {l : List ℕ} {ls : List (List ℕ)} {v : List ℕ} → isBetween (lineOf l) ≡ true → AppliedIn member ls v →
       AppliedIn member (l ∷ ls) v
 
 -- and it is the last of them
 pub data LastApplied (member : Bool) : List (List ℕ) → List ℕ → Type 0 where
   last-here : {l : List ℕ} {ls : List (List ℕ)} {v : List ℕ} → fateOf member l (lineOf l) ≡ fate.Applied →
-      signatureIn l (lineOf l) ≡ known v → ((w : List ℕ) → AppliedIn member ls w → ⊥) → LastApplied member (l ∷ ls) v
+      signatureGiven l (lineOf l) ≡ known v → ((w : List ℕ) → AppliedIn member ls w → ⊥) → LastApplied member (l ∷ ls) v
   last-further : {l : List ℕ} {ls : List (List ℕ)} {v : List ℕ} → isBetween (lineOf l) ≡ true → LastApplied member ls v →
       LastApplied member (l ∷ ls) v
 

@@ -32,19 +32,19 @@ unfoldable pub eachOnce : List (List ℕ) → Bool
 eachOnce [] = true
 eachOnce (x ∷ xs) = both (not (isAmong x xs)) (eachOnce xs)
 
-abbrev pub rawOf : Pair → List ℕ
-rawOf c = c .raw
+abbrev pub classRaw : Pair → List ℕ
+classRaw c = c .raw
 
-abbrev pub displayOf : Pair → List ℕ
-displayOf c = c .display
+abbrev pub classDisplay : Pair → List ℕ
+classDisplay c = c .display
 
 -- "no raw .. class descriptor on two class lines"
 abbrev pub rawsOnce : List (List ℕ) → Bool
-rawsOnce ls = eachOnce (map rawOf (classesOf ls))
+rawsOnce ls = eachOnce (map classRaw (classesOf ls))
 
 -- "no display class descriptor on two class lines"
 abbrev pub displaysOnce : List (List ℕ) → Bool
-displaysOnce ls = eachOnce (map displayOf (classesOf ls))
+displaysOnce ls = eachOnce (map classDisplay (classesOf ls))
 
 -- the display name of a class line, as it stands there
 abbrev pub displayNameIn : List ℕ → Line → List (List ℕ)

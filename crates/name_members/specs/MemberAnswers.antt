@@ -98,11 +98,11 @@ lineNumbers (shown.Found i n) = 0 ∷ 1 ∷ i ∷ n .0 ∷ []
 lineNumbers shown.Unknown = 0 ∷ 0 ∷ 0 ∷ 0 ∷ []
 lineNumbers shown.Malformed = 14 ∷ 0 ∷ 0 ∷ 0 ∷ []
 
-abbrev pub fieldNumbers : Tables → Used → Key → List ℕ
-fieldNumbers t used k = nameNumbers (fieldAnswer t used k)
+abbrev pub fieldNameNumbers : Tables → Used → Key → List ℕ
+fieldNameNumbers t used k = nameNumbers (fieldAnswer t used k)
 
-abbrev pub methodNumbers : Tables → Used → Key → List ℕ
-methodNumbers t used k = nameNumbers (methodAnswer t used k)
+abbrev pub methodNameNumbers : Tables → Used → Key → List ℕ
+methodNameNumbers t used k = nameNumbers (methodAnswer t used k)
 
 abbrev pub lineNumbersOf : Tables → Used → Key → RawLine → List ℕ
 lineNumbersOf t used k n = lineNumbers (lineAnswer t used k n)

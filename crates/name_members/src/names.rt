@@ -18,7 +18,7 @@ ghost use mathlib.Core.List.{[]};
 ghost use Rattle.table_rows.specs.Tables.{tables};
 ghost use Rattle.name_rule.specs.MemberNames.{key};
 ghost use Rattle.name_members.specs.MemberAnswers.{answering, nameOfRow, lineOfRow, fieldAnswer, methodAnswer, lineAnswer};
-ghost use Rattle.name_members.specs.MemberAnswers.{nameNumbers, lineNumbers, fieldNumbers, methodNumbers, lineNumbersOf};
+ghost use Rattle.name_members.specs.MemberAnswers.{nameNumbers, lineNumbers, fieldNameNumbers, methodNameNumbers, lineNumbersOf};
 
 pub enum MemberName {
     // The row that answers, and where its display name stands in the pool.
@@ -117,7 +117,7 @@ pub fn display_field_name(
     ensures { λ r.
         let lent = tables (now (classes .entry)) (now (members .entry)) (now (pool .entry)) in
         let k = key (now (owner .entry)) (now (name .entry)) (now (descriptor .entry)) in
-        ⌜ (r ≡ fieldAnswer lent used k) × (nameNumbers r ≡ fieldNumbers lent used k) ⌝ }
+        ⌜ (r ≡ fieldAnswer lent used k) × (nameNumbers r ≡ fieldNameNumbers lent used k) ⌝ }
 {
     match answering_row(
         classes,
@@ -148,7 +148,7 @@ pub fn display_method_name(
     ensures { λ r.
         let lent = tables (now (classes .entry)) (now (members .entry)) (now (pool .entry)) in
         let k = key (now (owner .entry)) (now (name .entry)) (now (descriptor .entry)) in
-        ⌜ (r ≡ methodAnswer lent used k) × (nameNumbers r ≡ methodNumbers lent used k) ⌝ }
+        ⌜ (r ≡ methodAnswer lent used k) × (nameNumbers r ≡ methodNameNumbers lent used k) ⌝ }
 {
     match answering_row(
         classes,
