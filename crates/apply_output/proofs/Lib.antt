@@ -2,6 +2,7 @@ pub mod Planning
 pub mod Rowing
 pub mod Turning
 pub mod Quieting
+pub mod ByKind
 pub mod Changing
 pub mod Listing
 pub mod Placing

@@ -105,7 +105,7 @@ module _ (c : TreeCounts) (f out : List ℕ) (i : ℕ) where
           omega arith
       go false e = omega arith
 
-  note-tells : addedNote kind (wordAt out (notePlace c f at)) ≡ added (planAt c f out i)
+  pub note-tells : addedNote kind (wordAt out (notePlace c f at)) ≡ added (planAt c f out i)
   note-tells = go (eqb kind 1) refl (eqb kind 2) refl (eqb kind 3) refl
     where
       go : (s : Bool) → eqb kind 1 ≡ s → (t : Bool) → eqb kind 2 ≡ t → (u : Bool) → eqb kind 3 ≡ u →

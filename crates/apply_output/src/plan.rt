@@ -6,12 +6,14 @@ use tree_words::token_row;
 use tree_words::tokens_start;
 use tree_words::word_at;
 ghost use mathlib.Core.Path.{_≡_};
-ghost use Prim.Native.Nat.{_+_, _≤_, _<_};
+ghost use Prim.Native.Nat.{_+_, _*_, _≤_, _<_};
+ghost use lib.Dec.{eqb};
 ghost use lib.ListN.{length};
+ghost use Rattle.ground.specs.Choice.{pick};
 ghost use Rattle.tree_rule.specs.Files.{fileLength};
 ghost use Rattle.tree_rule.specs.Theorems.{FormedBy};
 ghost use Rattle.apply_output.specs.inner.Plan.{memberPlan, namePlan, planAt, added, addedIn};
-ghost use Rattle.apply_output.specs.inner.Quiet.{notePlace, addedNote};
+ghost use Rattle.apply_output.specs.inner.Quiet.{notePlace, addedNote, kindOwn, kindNamed, kindAdding};
 
 pub enum Plan {
     Stays,
@@ -113,7 +115,7 @@ fn added_note(kind: u32, number: u32) -> usize
     0
 }
 
-// How many names the token with a number adds. Kinds come in any order, so this is asked without a branch that a processor would guess.
+// How many names the token with a number adds.
 pub fn added_at(out: &[u8], tree: &[u8], counts: TreeCounts, token: usize) -> usize
     requires { ⌜ FormedBy counts (now tree) × (fileLength counts ≤ length (now out)) × (token < counts .tokens) ⌝ }
     ensures { λ r. ⌜ r ≡ added (planAt counts (now (tree .entry)) (now (out .entry)) token) ⌝ }
@@ -124,16 +126,60 @@ pub fn added_at(out: &[u8], tree: &[u8], counts: TreeCounts, token: usize) -> us
     added_note(word_at(tree, at), number)
 }
 
+// 1 where something is noted, without a branch.
+fn one_if_noted(number: u32) -> usize
+    ensures { λ r. ⌜ r ≡ pick (eqb number 0) 0 1 ⌝ }
+{
+    (number as usize + 4294967295) / 4294967296
+}
+
+// One of two places, as two bits say, of which at most one is 1.
+fn place_by_bits(own: usize, by_own: usize, named: usize, by_name: usize) -> usize
+    requires { ⌜ «by_own» + «by_name» ≤ 1 ⌝ }
+    ensures { λ r. ⌜ r ≡ own * «by_own» + named * «by_name» ⌝ }
+{
+    own * by_own + named * by_name
+}
+
+// The same as `added_at`, by tables of what each kind does: kinds come in any order, and no branch on them is guessed wrong.
+fn added_by_kind(
+    out: &[u8],
+    tree: &[u8],
+    counts: TreeCounts,
+    token: usize,
+    own: &[usize; 4],
+    named: &[usize; 4],
+    adding: &[usize; 4],
+) -> usize
+    requires { ⌜ FormedBy counts (now tree)
+        × (fileLength counts ≤ length (now out))
+        × (token < counts .tokens)
+        × (now own ≡ kindOwn)
+        × (now named ≡ kindNamed)
+        × (now adding ≡ kindAdding) ⌝ }
+    ensures { λ r. ⌜ r ≡ added (planAt counts (now (tree .entry)) (now (out .entry)) token) ⌝ }
+{
+    let at = tokens_start(counts) + 12 * token;
+    let kind = word_at(tree, at) as usize;
+    let raw = word_at(tree, at + 4) as usize;
+    let name = names_start(counts) + 8 * raw;
+    let place = place_by_bits(at + 8, own[kind], name, named[kind]);
+    one_if_noted(word_at(out, place)) * adding[kind]
+}
+
 // How many names all tokens add.
 pub fn count_names(out: &[u8], tree: &[u8], counts: TreeCounts) -> usize
     requires { ⌜ FormedBy counts (now tree) × (fileLength counts ≤ length (now out)) ⌝ }
     ensures { λ r. ⌜ r ≡ addedIn counts (now (tree .entry)) (now (out .entry)) ⌝ }
 {
-    let tokens = counts.tokens as usize;
+    // whether what is noted of a kind stands in the token's own row, or in that of its raw name, and whether it adds a name
+    let own = [1, 1, 0, 1];
+    let named = [0, 0, 1, 0];
+    let adding = [0, 1, 1, 0];
     let mut token = 0;
     let mut count = 0;
-    while token < tokens {
-        count += added_at(out, tree, counts, token);
+    while token < counts.tokens as usize {
+        count += added_by_kind(out, tree, counts, token, &own, &named, &adding);
         token += 1;
     }
     count

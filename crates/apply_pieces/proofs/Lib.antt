@@ -1,3 +1,4 @@
+pub mod Placing
 pub mod Knowing
 pub mod Showing
 pub mod Noting

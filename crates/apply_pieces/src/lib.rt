@@ -5,6 +5,7 @@ mod known;
 mod long;
 mod note;
 mod notes;
+mod places;
 mod rows;
 mod show;
 mod within;

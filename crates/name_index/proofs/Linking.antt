@@ -19,7 +19,8 @@ use Rattle.table_rows.specs.Rows.{unpackClass, unpackMember, mostMembers}
 use Rattle.tables.specs.Back.{textIn}
 use Rattle.table_index.specs.inner.Marks.{markCount, markFrom}
 use Rattle.table_index.proofs.Marking.{mark-from-below, marked-below}
-use Rattle.name_index.specs.inner.Chains.{lastBelow, chained, memberIndexSize, memberMark, rowMark, markAt, Chained}
+use Rattle.name_index.specs.declared.chains.ClassMark.{ClassMark}
+use Rattle.name_index.specs.inner.Chains.{lastBelow, chained, memberIndexSize, memberMark, classMark, rowMark, markAt, Chained}
 
 module _ (f : ℕ → ℕ) (h : ℕ) where
   pub last-inside : (n : ℕ) → lastBelow f h n ≤ n
@@ -115,13 +116,31 @@ module _ (rows : List (List ℕ)) (pool : List ℕ) (i : ℕ) where
 
 pub ruleset raw-reading = (raw-read, raw-beyond, needs)
 
-pub row-marked : (classes : List (List ℕ)) (pool : List ℕ) (m : Member) {a b c : List ℕ} → a ≡ textIn pool (unpackClass (getD classes (m .class) []) .raw) →
-    b ≡ textIn pool (m .«raw_name») → c ≡ textIn pool (m .descriptor) → {x : ℕ} → x ≡ memberMark a b c → x ≡ rowMark classes pool m
-row-marked classes pool m {a} {b} {c} e f g h =
-    h ∙ ap (λ y. memberMark y b c) e ∙ ap (λ y. memberMark (textIn pool (unpackClass (getD classes (m .class) []) .raw)) y c) f
-    ∙ ap (λ y. memberMark (textIn pool (unpackClass (getD classes (m .class) []) .raw)) (textIn pool (m .«raw_name»)) y) g
+-- The mark of a class row, made or kept.
+module _ (classes : List (List ℕ)) (pool : List ℕ) (class : ℕ) where
+  pub class-marked : {raw : List ℕ} → raw ≡ textIn pool (unpackClass (getD classes class []) .raw) → {m : ℕ} → m ≡ markFrom 0 raw →
+      m ≡ classMark classes pool class
+  class-marked e f = f ∙ ap (markFrom 0) e
 
-pub ruleset row-marking = (row-marked, needs)
+  pub class-kept : {k : ClassMark} → k .mark ≡ classMark classes pool (k .class) → class ≡ k .class → k .mark ≡ classMark classes pool class
+  class-kept e f = e ∙ ap (classMark classes pool) (sym f)
+
+pub ruleset class-marking = (class-marked, class-kept, needs)
+
+-- The mark of a row, by that of its class.
+pub two-marked : (h : ℕ) (name descriptor : List ℕ) {a b : List ℕ} → a ≡ name → b ≡ descriptor → {x y : ℕ} → x ≡ markFrom h a →
+    y ≡ markFrom x b → y ≡ markFrom (markFrom h name) descriptor
+two-marked h name descriptor e f {x} {y} g i = i ∙ ap (λ l. markFrom x l) f ∙ ap (λ z. markFrom z descriptor) (g ∙ ap (markFrom h) e)
+
+pub ruleset row-marking = (marked-below, two-marked, needs)
+
+pub row-marked : (classes : List (List ℕ)) (pool : List ℕ) (m : Member) {k : ℕ} → k ≡ classMark classes pool (m .class) → {x : ℕ} →
+    x ≡ markFrom (markFrom k (textIn pool (m .«raw_name»))) (textIn pool (m .descriptor)) → x ≡ rowMark classes pool m
+row-marked classes pool m e h =
+    h ∙ ap (λ y. markFrom (markFrom y (textIn pool (m .«raw_name»))) (textIn pool (m .descriptor))) e
+
+pub class-small : (classes : List (List ℕ)) (pool : List ℕ) (class : ℕ) {k : ℕ} → k ≡ classMark classes pool class → k < markCount
+class-small classes pool class e = rw e (mark-from-below 0 (textIn pool (unpackClass (getD classes class []) .raw)))
 
 -- Row after row.
 zero-everywhere : (n i : ℕ) → _≡_ {A = ℕ} (getD (replicate n 0) i 0) 0
@@ -178,7 +197,22 @@ pub chaining-length : (classes : List (List ℕ)) (pool : List ℕ) (rows : List
     length new ≡ length old
 chaining-length classes pool rows e c = c .size ∙ sym (ap length e ∙ length-replicate {A = ℕ} memberIndexSize 0)
 
-pub ruleset chaining = (chaining-length, chaining-starts, chaining-ends, chaining-few, chaining-size, chaining-small, chaining-more, needs)
+-- The mark that is kept is that of its class row.
+pub kept-on : (classes : List (List ℕ)) (pool : List ℕ) (class : ℕ) {k : ClassMark} → k .class ≡ class →
+    k .mark ≡ classMark classes pool class → k .mark ≡ classMark classes pool (k .class)
+kept-on classes pool class e f = f ∙ ap (classMark classes pool) (sym e)
+
+pub record Indexing
+    (classes : List (List ℕ))
+    (pool : List ℕ)
+    (rows : List (List ℕ))
+    (index : List ℕ)
+    (kept : ClassMark)
+    (k : ℕ) : Type 0 where
+  pub chain : Chained classes pool rows index k
+  pub mark : kept .mark ≡ classMark classes pool (kept .class)
+
+pub ruleset chaining = (kept-on, row-marked, class-small, chaining-length, chaining-starts, chaining-ends, chaining-few, chaining-size, chaining-small, chaining-more, needs)
 
 -- One row, as the code stores it.
 pub kept-size : (index : List ℕ) (i v : ℕ) → length index ≡ memberIndexSize → {m : ℕ} → m < markCount → m < length (set index i v)

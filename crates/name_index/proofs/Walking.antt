@@ -141,6 +141,16 @@ module _ (classes : List (List ℕ)) (pool : List ℕ) (rows : List (List ℕ)) 
 
 pub ruleset walking = (mark-in-index, mark-doubled, behind-starts, behind-ends, row-inside, link-inside, link-fits, behind-found, behind-more, behind-falls, needs)
 
+-- the mark of what is looked for, by the raw descriptor of a class or by a text that is the same
+module _ (raw name descriptor : List ℕ) {owner : List ℕ} (e : owner ≡ raw) {mark : ℕ} where
+  pub marked-raw : mark ≡ memberMark owner name descriptor → mark ≡ memberMark raw name descriptor
+  marked-raw f = f ∙ ap (λ x. memberMark x name descriptor) e
+
+  pub marked-owner : mark ≡ memberMark raw name descriptor → mark ≡ memberMark owner name descriptor
+  marked-owner f = f ∙ ap (λ x. memberMark x name descriptor) (sym e)
+
+pub ruleset marked-asking = (marked-raw, needs)
+
 -- What is asked of the class at a row, which is the last with its raw descriptor.
 module _ (classes rows : List (List ℕ)) (pool name descriptor : List ℕ) (i : ℕ) where
   abbrev cs : List Pair
@@ -169,4 +179,4 @@ module _ (classes rows : List (List ℕ)) (pool name descriptor : List ℕ) (i :
               y ≡ rowAsked a cs (key raw name descriptor) rows pool
           chained-any u v = asked-any classes rows pool raw name descriptor (sym last) refl h a q (r ∙ as-raw t) s w u (v ∙ as-raw sought.Method)
 
-pub ruleset chained-asking = (class-inside, chained-row, chained-other, chained-any, needs)
+pub ruleset chained-asking = (marked-owner, class-inside, chained-row, chained-other, chained-any, needs)

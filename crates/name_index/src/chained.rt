@@ -25,7 +25,7 @@ ghost use Rattle.name_rule.specs.MemberNames.{key};
 ghost use Rattle.name_rule.specs.MemberRows.{lastMember};
 ghost use Rattle.name_members.specs.MemberAnswers.{rowAsked};
 ghost use Rattle.name_members.specs.inner.Sought.{answersBy};
-ghost use Rattle.name_index.specs.inner.Chains.{Chained, Behind};
+ghost use Rattle.name_index.specs.inner.Chains.{memberMark, Chained, Behind};
 
 pub fn wide_number(x: u16) -> usize
     ensures { λ r. ⌜ r ≡ x ⌝ }
@@ -34,7 +34,7 @@ pub fn wide_number(x: u16) -> usize
 }
 
 // The last member row that matches and is what is sought, from the chain's row with the number `from` on.
-pub fn last_linked(
+fn walk_links(
     index: &[u16],
     classes: &[ClassRow],
     members: &[MemberRow],
@@ -74,8 +74,8 @@ pub fn last_linked(
     Found::Unknown
 }
 
-// The last member row that matches and is what is sought.
-fn last_chained(
+// The same. Texts are made anew of their numbers: slices that were just made are waited for where they are handed on whole.
+pub fn last_linked(
     index: &[u16],
     classes: &[ClassRow],
     members: &[MemberRow],
@@ -85,14 +85,53 @@ fn last_chained(
     name: &[u8],
     descriptor: &[u8],
     sought: Sought,
+    from: usize,
 ) -> Found
-    requires { ⌜ Chained (now classes) (now pool) (now members) (now index) (length (now members)) ⌝ }
+    requires { ⌜ Chained (now classes) (now pool) (now members) (now index) (length (now members))
+        × Behind (now classes) (now pool) (now members) sought (known (now display)) (now owner) (now name) (now descriptor) «from» ⌝ }
     ensures { λ r.
         let cs = readBack (now (classes .entry)) (now (pool .entry)) in
         let k = key (now (owner .entry)) (now (name .entry)) (now (descriptor .entry)) in
         ⌜ r ≡ lastMember (answersBy sought (known (now (display .entry))) cs k) (now (members .entry)) (now (pool .entry)) ⌝ }
 {
-    let mark = member_mark(owner, name, descriptor);
+    let shown = &display[..];
+    let owned = &owner[..];
+    let named = &name[..];
+    let typed = &descriptor[..];
+    walk_links(
+        index,
+        classes,
+        members,
+        pool,
+        shown,
+        owned,
+        named,
+        typed,
+        sought,
+        from,
+    )
+}
+
+// The last member row that matches and is what is sought, among rows with the mark of what is looked for.
+fn last_marked(
+    index: &[u16],
+    classes: &[ClassRow],
+    members: &[MemberRow],
+    pool: &[u8],
+    display: &[u8],
+    owner: &[u8],
+    name: &[u8],
+    descriptor: &[u8],
+    sought: Sought,
+    mark: usize,
+) -> Found
+    requires { ⌜ Chained (now classes) (now pool) (now members) (now index) (length (now members))
+        × (mark ≡ memberMark (now owner) (now name) (now descriptor)) ⌝ }
+    ensures { λ r.
+        let cs = readBack (now (classes .entry)) (now (pool .entry)) in
+        let k = key (now (owner .entry)) (now (name .entry)) (now (descriptor .entry)) in
+        ⌜ r ≡ lastMember (answersBy sought (known (now (display .entry))) cs k) (now (members .entry)) (now (pool .entry)) ⌝ }
+{
     let last = wide_number(index[mark]);
     last_linked(
         index,
@@ -108,8 +147,64 @@ fn last_chained(
     )
 }
 
-// The member row that answers what is asked, by the row of its class, which is the last with its raw descriptor, its raw name and its raw
-// descriptor.
+// The member row that answers what is asked, by the row of its class, which is the last with its raw descriptor, among rows with the mark
+// of what is looked for.
+fn row_of_mark(
+    index: &[u16],
+    classes: &[ClassRow],
+    members: &[MemberRow],
+    pool: &[u8],
+    class: usize,
+    name: &[u8],
+    descriptor: &[u8],
+    asked: Asked,
+    mark: usize,
+) -> Found
+    requires { ⌜ Chained (now classes) (now pool) (now members) (now index) (length (now members))
+        × (lastRaw (now classes) (now pool) (textIn (now pool) (unpackClass (getD (now classes) class []) .raw)) ≡ Row class)
+        × (mark ≡ memberMark (textIn (now pool) (unpackClass (getD (now classes) class []) .raw)) (now name) (now descriptor)) ⌝ }
+    ensures { λ r.
+        let p = now (pool .entry) in
+        let c = unpackClass (getD (now (classes .entry)) class []) in
+        let k = key (textIn p (c .raw)) (now (name .entry)) (now (descriptor .entry)) in
+        ⌜ r ≡ rowAsked asked (readBack (now (classes .entry)) p) k (now (members .entry)) p ⌝ }
+{
+    let owner = raw_of(classes, pool, class);
+    let display = display_of(classes, pool, class);
+    let first = first_sought(asked);
+    let Found::Row(answer) = last_marked(
+        index,
+        classes,
+        members,
+        pool,
+        display,
+        owner,
+        name,
+        descriptor,
+        first,
+        mark,
+    ) else {
+        // of a method, any other that matches
+        if is_method_asked(asked) {
+            return last_marked(
+                index,
+                classes,
+                members,
+                pool,
+                display,
+                owner,
+                name,
+                descriptor,
+                Sought::Method,
+                mark,
+            );
+        }
+        return Found::Unknown;
+    };
+    Found::Row(answer)
+}
+
+// The same by the class, the raw name and the raw descriptor.
 pub fn chained_row(
     index: &[u16],
     classes: &[ClassRow],
@@ -128,38 +223,19 @@ pub fn chained_row(
         let k = key (textIn p (c .raw)) (now (name .entry)) (now (descriptor .entry)) in
         ⌜ r ≡ rowAsked asked (readBack (now (classes .entry)) p) k (now (members .entry)) p ⌝ }
 {
-    // made anew of their numbers: slices that were just made are waited for where they are handed on whole
+    // made anew, as in `last_linked`
     let named = &name[..];
     let typed = &descriptor[..];
-    let owner = raw_of(classes, pool, class);
-    let display = display_of(classes, pool, class);
-    let first = first_sought(asked);
-    let Found::Row(answer) = last_chained(
+    let mark = member_mark(raw_of(classes, pool, class), named, typed);
+    row_of_mark(
         index,
         classes,
         members,
         pool,
-        display,
-        owner,
+        class,
         named,
         typed,
-        first,
-    ) else {
-        // of a method, any other that matches
-        if is_method_asked(asked) {
-            return last_chained(
-                index,
-                classes,
-                members,
-                pool,
-                display,
-                owner,
-                named,
-                typed,
-                Sought::Method,
-            );
-        }
-        return Found::Unknown;
-    };
-    Found::Row(answer)
+        asked,
+        mark,
+    )
 }

@@ -9,12 +9,12 @@ use table_rows::unpack_member;
 use tables::text_in;
 ghost use mathlib.Core.Path.{_≡_};
 ghost use mathlib.Core.List.{[]};
-ghost use Prim.Native.Nat.{_<_, _≤_};
+ghost use Prim.Native.Nat.{_+_, _<_, _≤_};
 ghost use lib.ListN.{length, getD, replicate};
 ghost use Rattle.table_rows.specs.Rows.{unpackClass, mostMembers};
 ghost use Rattle.tables.specs.Back.{textIn};
-ghost use Rattle.table_index.specs.inner.Marks.{markCount};
-ghost use Rattle.name_index.specs.inner.Chains.{memberIndexSize, chained, memberMark, rowMark, Chained};
+ghost use Rattle.table_index.specs.inner.Marks.{markCount, markFrom};
+ghost use Rattle.name_index.specs.inner.Chains.{memberIndexSize, chained, memberMark, classMark, Chained};
 
 // How many marks there are, and the numbers of the table: one for each mark, one for each row.
 pub const MARKS: usize = 8192;
@@ -40,15 +40,37 @@ pub fn member_mark(raw: &[u8], name: &[u8], descriptor: &[u8]) -> usize
     mark_from(named, descriptor)
 }
 
-fn row_mark(classes: &[ClassRow], pool: &[u8], member: Member) -> usize
-    ensures { λ r. ⌜ r ≡ rowMark (now (classes .entry)) (now (pool .entry)) member ⌝ }
+// The mark of the raw descriptor of a class row, kept while member rows of that class follow each other.
+pub struct ClassMark {
+    pub class: u32,
+    pub mark: usize,
+}
+
+fn class_mark(classes: &[ClassRow], pool: &[u8], class: u32) -> ClassMark
+    ensures { λ r. ⌜ (r .class ≡ class) × (r .mark ≡ classMark (now (classes .entry)) (now (pool .entry)) class) ⌝ }
 {
-    let raw = raw_of(classes, pool, member.class as usize);
-    member_mark(
-        raw,
-        text_in(pool, member.raw_name),
-        text_in(pool, member.descriptor),
-    )
+    let mark = mark_from(0, raw_of(classes, pool, class as usize));
+    ClassMark { class, mark }
+}
+
+fn mark_for(classes: &[ClassRow], pool: &[u8], kept: ClassMark, class: u32) -> ClassMark
+    requires { ⌜ kept .mark ≡ classMark (now classes) (now pool) (kept .class) ⌝ }
+    ensures { λ r. ⌜ (r .class ≡ class) × (r .mark ≡ classMark (now (classes .entry)) (now (pool .entry)) class) ⌝ }
+{
+    if class == kept.class {
+        return kept;
+    }
+    class_mark(classes, pool, class)
+}
+
+// The mark of a member row, by that of its class.
+fn row_mark(pool: &[u8], class: usize, member: Member) -> usize
+    requires { ⌜ class < markCount ⌝ }
+    ensures { λ r. let p = now (pool .entry) in
+        ⌜ r ≡ markFrom (markFrom class (textIn p (member .«raw_name»))) (textIn p (member .descriptor)) ⌝ }
+{
+    let named = mark_from(class, text_in(pool, member.raw_name));
+    mark_from(named, text_in(pool, member.descriptor))
 }
 
 // One row more, of a mark: the last with it, linked to the one that was the last before.
@@ -62,6 +84,29 @@ fn chain_row(index: &mut [u16], mark: usize, row: usize)
     index[mark] = number as u16;
 }
 
+// One row more, by the mark that is kept; answers the one to keep on.
+fn index_row(
+    index: &mut [u16],
+    classes: &[ClassRow],
+    members: &[MemberRow],
+    pool: &[u8],
+    row: usize,
+    kept: ClassMark,
+) -> ClassMark
+    requires { ⌜ Chained (now classes) (now pool) (now members) (now index) row
+        × (row < length (now members))
+        × (kept .mark ≡ classMark (now classes) (now pool) (kept .class)) ⌝ }
+    ensures { λ r.
+        ⌜ Chained (now (classes .entry)) (now (pool .entry)) (now (members .entry)) (now (index .exit)) (row + 1)
+        × (r .mark ≡ classMark (now (classes .entry)) (now (pool .entry)) (r .class)) ⌝ }
+{
+    let member = unpack_member(members[row]);
+    let class = mark_for(classes, pool, kept, member.class);
+    let mark = row_mark(pool, class.mark, member);
+    chain_row(index, mark, row);
+    class
+}
+
 // All rows.
 pub fn index_members(index: &mut [u16], classes: &[ClassRow], members: &[MemberRow], pool: &[u8])
     requires { ⌜ (now index ≡ replicate memberIndexSize 0) × (length (now members) ≤ mostMembers) ⌝ }
@@ -69,10 +114,10 @@ pub fn index_members(index: &mut [u16], classes: &[ClassRow], members: &[MemberR
         let rows = now (members .entry) in
         ⌜ Chained (now (classes .entry)) (now (pool .entry)) rows (now (index .exit)) (length rows) ⌝ }
 {
+    let mut kept = class_mark(classes, pool, 0);
     let mut row = 0;
     while row < members.len() {
-        let mark = row_mark(classes, pool, unpack_member(members[row]));
-        chain_row(index, mark, row);
+        kept = index_row(index, classes, members, pool, row, kept);
         row += 1;
     }
 }

@@ -3,12 +3,12 @@ use mathlib.Core.Path.{_≡_, refl, sym, _∙_, ap}
 use mathlib.Core.Bool.{Bool, true, false, not}
 use mathlib.Core.List.{List}
 use mathlib.Core.Logic.{_⊎_, inl, inr}
-use Prim.Native.Nat.{ℕ, suc, _+_, _*_, _-_, _^_, _≤_, _<_}
+use Prim.Native.Nat.{ℕ, zero, suc, _+_, _*_, _-_, _^_, _≤_, _<_}
 use native.Mathlib.Numerals.{add-one}
 use native.Mathlib.Omega.{arith}
 use lib.Dec.{eqb, leb, ltb}
-use lib.ListN.{length, take, drop, length-replicate}
-use mir.Syntax.{w32}
+use lib.ListN.{length, getD, take, drop, length-replicate}
+use mir.Syntax.{w8, w32}
 use mir.Val.{Fits}
 use borrow.Author.Tests.{eq-eqb, ne-eqb, eqb-true, eqb-false, le-leb, lt-leb, lt-ltb, le-ltb, not-true, not-false}
 use borrow.Author.Needs.{needs}
@@ -17,10 +17,12 @@ use Rattle.ground.specs.Put.{between}
 use Rattle.table_rows.specs.declared.rows.Text.{Text}
 use Rattle.tables.specs.Back.{textIn}
 use Rattle.text_utf8.specs.Utf8.{isUtf8}
+use Rattle.text_utf8.specs.inner.Runs.{AsciiTo}
+use Rattle.text_utf8.proofs.Checking.{ascii-part}
 use Rattle.tree_rule.specs.declared.TreeCounts.{TreeCounts}
 use Rattle.tree_rule.specs.declared.RowCheck.{RowCheck}
 use Rattle.tree_rule.specs.declared.RowCheck.the-variants.{Fine, Faulty}
-use Rattle.tree_rule.specs.Words.{sumFrom}
+use Rattle.tree_rule.specs.Words.{wordAt, sumFrom}
 use Rattle.tree_rule.specs.Files.{fileLength, tokensStart, namesStart, parentAt, tokenCountAt, nameRow, nameAt, bytesIn}
 use Rattle.tree_rule.specs.Checks.{
   firstFaulty,
@@ -32,10 +34,13 @@ use Rattle.tree_rule.specs.Checks.{
   tokenRowFine,
   nameInside,
   nameUtf8,
+  faultyText,
 }
-use Rattle.tree_checks.specs.inner.Bound.{numberBound}
+use Rattle.tree_checks.specs.inner.Bound.{kindBounds, fineBy}
 use Rattle.tree_checks.specs.inner.Lie.{NamesLie}
 use Rattle.tree_rule.proofs.Reading.{bytes-count}
+use Rattle.tree_rule.proofs.RowLaws.{each-fine}
+use Rattle.tree_rule.proofs.WordLaws.{word-small}
 
 -- The length.
 pub length-told : (c : TreeCounts) (f : List ℕ) {n : ℕ} → n ≡ fileLength c → eqb (length f) n ≡ lengthAgrees c f
@@ -55,80 +60,35 @@ lower-told f i e = ap (λ w. ltb w i) e
 
 pub ruleset node-tests = (length-told, no-root, root-told, lower-told, needs)
 
--- A token.
-module _ (names : ℕ) {k : ℕ} where
-  pub bound-member : k ≡ 1 → names ≡ numberBound names k
-  bound-member h = sym (rw (eq-eqb k 1 h))
+-- A token, by the bounds of its kind.
+module _ (l : List ℕ) {k w : ℕ} (e : k ≡ w) where
+  pub kind-unknown : (a b : ℕ) → 3 < k → false ≡ fineBy l w a b
+  kind-unknown a b h = rw (← e) (sym (rw (lt-leb k 3 h)))
 
-  module _ (h : k ≡ 1 → ⊥) where
-    pub bound-descriptor : k ≡ 2 → names ≡ numberBound names k
-    bound-descriptor i = sym (rw (ne-eqb k 1 h, eq-eqb k 2 i))
+  module _ (h : k ≤ 3) {x a : ℕ} (p : x ≡ a) where
+    pub raw-beyond : (b : ℕ) → getD l k 0 ≤ x → false ≡ fineBy l w a b
+    raw-beyond b g = rw (← e, ← p) (sym (rw (le-leb k 3 h, le-ltb x (getD l k 0) g)))
 
-    pub bound-other : (k ≡ 2 → ⊥) → _≡_ {A = ℕ} 4294967296 (numberBound names k)
-    bound-other i = sym (rw (ne-eqb k 1 h, ne-eqb k 2 i))
+    pub both-told : x < getD l k 0 → {y b : ℕ} → y ≡ b → ltb y (getD l k 0) ≡ fineBy l w a b
+    both-told g q = rw (← e, ← p, ← q) (sym (rw (le-leb k 3 h, lt-ltb x (getD l k 0) g)))
 
-pub ruleset bounding = (bound-member, bound-descriptor, bound-other, needs)
+pub ruleset token-tests = (kind-unknown, raw-beyond, both-told, needs)
 
--- a token of a kind with names, and one of another kind
-named-fine : (n k a b : ℕ) → (k ≡ 1) ⊎ (k ≡ 2) → tokenFine n k a b ≡ both (ltb a n) (ltb b n)
-named-fine n k a b (inl h) = rw (ne-eqb k 0 (λ e. omega arith), eq-eqb k 1 h)
-named-fine n k a b (inr h) = rw (ne-eqb k 0 (λ e. omega arith), ne-eqb k 1 (λ e. omega arith), eq-eqb k 2 h)
-
-unnamed-fine : (n k a b : ℕ) → (k ≡ 1 → ⊥) → (k ≡ 2 → ⊥) → tokenFine n k a b ≡ leb k 3
-unnamed-fine n k a b h i = rw (ne-eqb k 1 h, ne-eqb k 2 i) (go (eqb k 0) refl (eqb k 3) refl)
-  where
-    go : (s : Bool) → eqb k 0 ≡ s → (t : Bool) → eqb k 3 ≡ t → pick s true t ≡ leb k 3
-    go true e t f = let z = eqb-true k 0 e in sym (le-leb k 3 (omega arith))
-    go false e true f = let z = eqb-true k 3 f in sym (le-leb k 3 (omega arith))
-    go false e false f =
-        let y = eqb-false k 0 e in
-        let z = eqb-false k 3 f in
-        sym (lt-leb k 3 (omega arith))
-
-which-kind : (k : ℕ) → ((k ≡ 1) ⊎ (k ≡ 2)) ⊎ ((k ≡ 1 → ⊥) × (k ≡ 2 → ⊥))
-which-kind k = go (eqb k 1) refl (eqb k 2) refl
-  where
-    go : (s : Bool) → eqb k 1 ≡ s → (t : Bool) → eqb k 2 ≡ t → ((k ≡ 1) ⊎ (k ≡ 2)) ⊎ ((k ≡ 1 → ⊥) × (k ≡ 2 → ⊥))
-    go true e t f = inl (inl (eqb-true k 1 e))
-    go false e true f = inl (inr (eqb-true k 2 f))
-    go false e false f = inr (eqb-false k 1 e, eqb-false k 2 f)
-
-named-bound : (n k : ℕ) → (k ≡ 1) ⊎ (k ≡ 2) → numberBound n k ≡ n
-named-bound n k (inl h) = sym (bound-member n h)
-named-bound n k (inr h) = sym (bound-descriptor n (λ e. omega arith) h)
-
-module _ (n : ℕ) {k w : ℕ} (e : k ≡ w) {m : ℕ} (g : m ≡ numberBound n k) {x a : ℕ} (p : x ≡ a) (small : x < 4294967296) where
-  pub raw-beyond : (b : ℕ) → m ≤ x → false ≡ tokenFine n w a b
-  raw-beyond b h = rw (← e, ← p) (go (which-kind k))
-    where
-      go : ((k ≡ 1) ⊎ (k ≡ 2)) ⊎ ((k ≡ 1 → ⊥) × (k ≡ 2 → ⊥)) → false ≡ tokenFine n k x b
-      go (inl i) = sym (named-fine n k x b i ∙ rw (le-ltb x n (let z = named-bound n k i in omega arith)))
-      go (inr i) = absurd (let z = bound-other n (i .0) (i .1) in omega arith)
-
-  module _ (h : x < m) {y b : ℕ} (q : y ≡ b) (short : y < 4294967296) where
-    pub shown-beyond : m ≤ y → false ≡ tokenFine n w a b
-    shown-beyond l = rw (← e, ← p, ← q) (go (which-kind k))
-      where
-        go : ((k ≡ 1) ⊎ (k ≡ 2)) ⊎ ((k ≡ 1 → ⊥) × (k ≡ 2 → ⊥)) → false ≡ tokenFine n k x y
-        go (inl i) =
-            let z = named-bound n k i in
-            sym (named-fine n k x y i ∙ rw (lt-ltb x n (omega arith), le-ltb y n (omega arith)))
-        go (inr i) = absurd (let z = bound-other n (i .0) (i .1) in omega arith)
-
-    pub both-there : y < m → leb k 3 ≡ tokenFine n w a b
-    both-there l = rw (← e, ← p, ← q) (go (which-kind k))
-      where
-        small-kind : (k ≡ 1) ⊎ (k ≡ 2) → leb k 3 ≡ true
-        small-kind (inl i) = le-leb k 3 (omega arith)
-        small-kind (inr i) = le-leb k 3 (omega arith)
-
-        go : ((k ≡ 1) ⊎ (k ≡ 2)) ⊎ ((k ≡ 1 → ⊥) × (k ≡ 2 → ⊥)) → leb k 3 ≡ tokenFine n k x y
-        go (inl i) =
-            let z = named-bound n k i in
-            small-kind i ∙ sym (named-fine n k x y i ∙ rw (lt-ltb x n (omega arith), lt-ltb y n (omega arith)))
-        go (inr i) = sym (unnamed-fine n k x y (i .0) (i .1))
-
-pub ruleset token-tests = (raw-beyond, shown-beyond, both-there, needs)
+-- the table holds the law's bounds: each kind is tried
+by-table : (n k a b : ℕ) → a < 4294967296 → b < 4294967296 → fineBy (kindBounds n) k a b ≡ tokenFine n k a b
+by-table n zero a b h i = rw (lt-ltb a 4294967296 h, lt-ltb b 4294967296 i)
+by-table n (suc zero) a b h i = refl
+by-table n (suc (suc zero)) a b h i = refl
+by-table n (suc (suc (suc zero))) a b h i = rw (lt-ltb a 4294967296 h, lt-ltb b 4294967296 i)
+by-table n (suc (suc (suc (suc k)))) a b h i =
+    let m = suc (suc (suc (suc k))) in
+    rw (
+      lt-leb m 3 (omega arith),
+      ne-eqb m 0 (λ e. omega arith),
+      ne-eqb m 1 (λ e. omega arith),
+      ne-eqb m 2 (λ e. omega arith),
+      ne-eqb m 3 (λ e. omega arith),
+    )
 
 -- One row after the other: the first faulty one from here on is the first of all.
 pub record Asked (p : ℕ → Bool) (n : ℕ) (whole : RowCheck) (i : ℕ) : Type 0 where
@@ -158,9 +118,15 @@ module _ {p : ℕ → Bool} {n : ℕ} {whole : RowCheck} {i : ℕ} (k : Asked p 
 
 -- the test of a row at its place
 module _ (c : TreeCounts) (f : List ℕ) (i : ℕ) where
-  pub token-asked : {a : ℕ} → a ≡ tokensStart c → {b : Bool} → b ≡ tokenRowFine c f (a + 12 * i) →
+  pub token-asked : ((j : ℕ) → Fits w8 (getD f j 0)) → {a : ℕ} → a ≡ tokensStart c → {l : List ℕ} → l ≡ kindBounds (c .names) → {b : Bool} →
+      b ≡ fineBy l (wordAt f (a + 12 * i)) (wordAt f (a + 12 * i + 4)) (wordAt f (a + 12 * i + 8)) →
       b ≡ tokenRowFine c f (tokensStart c + 12 * i)
-  token-asked e g = g ∙ ap (λ x. tokenRowFine c f (x + 12 * i)) e
+  token-asked small {a} e {l} d g =
+      let bytes : (j : ℕ) → getD f j 0 < 256 = λ j. let h = small j in omega arith in
+      g ∙ ap (λ x. fineBy x (wordAt f (a + 12 * i)) (wordAt f (a + 12 * i + 4)) (wordAt f (a + 12 * i + 8))) d
+      ∙ by-table (c .names) (wordAt f (a + 12 * i)) (wordAt f (a + 12 * i + 4)) (wordAt f (a + 12 * i + 8))
+      (word-small f bytes (a + 12 * i + 4)) (word-small f bytes (a + 12 * i + 8))
+      ∙ ap (λ x. tokenRowFine c f (x + 12 * i)) e
 
   module _ {a : ℕ} (e : a ≡ namesStart c) {r : Text} (g : r ≡ nameRow f (a + 8 * i)) where
     row-named : r ≡ nameAt c f i
@@ -189,7 +155,18 @@ pub ruleset name-tests = (name-part, needs)
 pub bytes-few : (c : TreeCounts) (f : List ℕ) {l : List ℕ} → l ≡ bytesIn c f → NamesLie c f → Fits w32 (c .bytes) → length l < 2 ^ 32
 bytes-few c f e k h = omega (arith, ap length e, bytes-count c f (k .size))
 
-pub ruleset reached = (bytes-few, length-replicate, needs)
+-- Name bytes that are ASCII: each name is UTF-8.
+pub ascii-names : (c : TreeCounts) (f : List ℕ) {l : List ℕ} → l ≡ bytesIn c f → NamesLie c f → {a : ℕ} → AsciiTo l 0 a → a ≡ length l →
+    Fine ≡ faultyText c f
+ascii-names c f w k {a} r e =
+    let z : length (bytesIn c f) ≡ c .bytes = bytes-count c f (k .size) in
+    let y : a ≡ length (bytesIn c f) = e ∙ ap length w in
+    let x : AsciiTo (bytesIn c f) 0 a = rw w at r in
+    sym (each-fine (nameUtf8 c f) 0 (c .names) (λ i _ h.
+    let g = k .lie i (omega arith) in
+    sym (ascii-part (bytesIn c f) x (nameAt c f i .place) (nameAt c f i .length) (omega arith))))
+
+pub ruleset reached = (bytes-few, ascii-names, length-replicate, needs)
 
 -- The sum of the token counts: what was added, and what is still to come.
 pub record Summing (f : List ℕ) (n sum i : ℕ) : Type 0 where

@@ -1,5 +1,6 @@
 // The name rows: inside the name bytes, and UTF-8.
 use table_rows::Text;
+use tables::ascii_far;
 use text_parts::GROUPS;
 use text_parts::mark_reach;
 use text_parts::part_is_utf8;
@@ -68,12 +69,16 @@ fn faulty_among(tree: &[u8], counts: TreeCounts, bytes: &[u8], reach: &[u32]) ->
     RowCheck::Fine
 }
 
-// "and UTF-8": the first name row whose text is not. Names may overlap, so that their bytes are read once, into a table.
+// "and UTF-8": the first name row whose text is not. Where all name bytes are ASCII no name is read. Names may overlap, so that other bytes
+// are read once, into a table.
 pub fn faulty_text(tree: &[u8], counts: TreeCounts) -> RowCheck
     requires { ⌜ NamesLie counts (now tree) ⌝ }
     ensures { λ r. ⌜ r ≡ faultyText counts (now (tree .entry)) ⌝ }
 {
     let bytes = name_bytes(tree, counts);
+    if ascii_far(bytes) == bytes.len() {
+        return RowCheck::Fine;
+    }
     let mut reach = [0; GROUPS];
     mark_reach(&mut reach, bytes);
     faulty_among(tree, counts, bytes, &reach)

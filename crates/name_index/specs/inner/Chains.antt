@@ -27,6 +27,10 @@ memberIndexSize = 40960
 abbrev pub memberMark : List ℕ → List ℕ → List ℕ → ℕ
 memberMark raw name descriptor = markFrom (markFrom (markFrom 0 raw) name) descriptor
 
+-- the part of it that a class row gives
+abbrev pub classMark : List (List ℕ) → List ℕ → ℕ → ℕ
+classMark classes pool class = markFrom 0 (textIn pool (unpackClass (getD classes class []) .raw))
+
 abbrev pub rowMark : List (List ℕ) → List ℕ → Member → ℕ
 rowMark classes pool m =
     memberMark (textIn pool (unpackClass (getD classes (m .class) []) .raw)) (textIn pool (m .«raw_name»)) (textIn pool (m .descriptor))

@@ -5,19 +5,19 @@ use Rattle.apply_output.proofs.plan.count_names.Statement.{statement}
 use Rattle.apply_output.proofs.plan.count_names.Tie as tie
 
 abbrev Inv-loop : tie.InvT-loop
-Inv-loop out tree counts tokens token₀ count₀ token count = Counting counts tree out token count
+Inv-loop out tree counts own named adding token₀ count₀ token count = Counting counts tree out token count
 
 abbrev μ-loop : tie.MeasureT-loop
-μ-loop out tree counts tokens token₀ count₀ token count = counts .tokens - token
-
-cast-tokens : tie.Need-cast-tokens Inv-loop μ-loop
-cast-tokens c = search counting
+μ-loop out tree counts own named adding token₀ count₀ token count = counts .tokens - token
 
 loop-holds : tie.Need-loop-holds Inv-loop μ-loop
 loop-holds c = search counting
 
-added-at-requires : tie.Need-added-at-requires Inv-loop μ-loop
-added-at-requires c κs = search counting
+cast-if1 : tie.Need-cast-if1 Inv-loop μ-loop
+cast-if1 c = search counting
+
+added-by-kind-requires : tie.Need-added-by-kind-requires Inv-loop μ-loop
+added-by-kind-requires c κs = search counting
 
 add-count : tie.Need-add-count Inv-loop μ-loop
 add-count c = search counting
@@ -40,9 +40,9 @@ count-names-spec =
     (tie.spec
     Inv-loop
     μ-loop
-    cast-tokens
     loop-holds
-    added-at-requires
+    cast-if1
+    added-by-kind-requires
     add-count
     add-token
     loop-less

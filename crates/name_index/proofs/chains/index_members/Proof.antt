@@ -1,34 +1,25 @@
--- `name_index::chains::index_members` meets its contract, by the laws of Linking and an invariant that says what is done and what is left.
-use Rattle.name_index.proofs.Linking.{chaining}
+-- `name_index::chains::index_members` meets its contract, by the laws of Linking and an invariant that says what is done and what is
+-- left.
+use Rattle.name_index.proofs.Linking.{chaining, Indexing}
 use Prim.Native.Nat.{_-_}
 use lib.ListN.{length}
-use Rattle.name_index.specs.inner.Chains.{Chained}
 use Rattle.name_index.proofs.chains.index_members.Statement.{statement}
 use Rattle.name_index.proofs.chains.index_members.Tie as tie
 
 abbrev Inv-loop : tie.InvT-loop
-Inv-loop index₀ classes members pool row₀ index row = Chained classes pool members index row
+Inv-loop index₀ classes members pool kept₀ row₀ index kept row = Indexing classes pool members index kept row
 
 abbrev μ-loop : tie.MeasureT-loop
-μ-loop index₀ classes members pool row₀ index row = length members - row
+μ-loop index₀ classes members pool kept₀ row₀ index kept row = length members - row
+
+class-mark-requires : tie.Need-class-mark-requires Inv-loop μ-loop
+class-mark-requires c κs = search chaining
 
 loop-holds : tie.Need-loop-holds Inv-loop μ-loop
 loop-holds c = search chaining
 
-mul-unpack-member : tie.Need-mul-unpack-member Inv-loop μ-loop
-mul-unpack-member c = search chaining
-
-shared-slice-copy-out-unpack-member : tie.Need-shared-slice-copy-out-unpack-member Inv-loop μ-loop
-shared-slice-copy-out-unpack-member c = search chaining
-
-unpack-member-requires : tie.Need-unpack-member-requires Inv-loop μ-loop
-unpack-member-requires c κs = search chaining
-
-row-mark-requires : tie.Need-row-mark-requires Inv-loop μ-loop
-row-mark-requires c κs = search chaining
-
-chain-row-requires : tie.Need-chain-row-requires Inv-loop μ-loop
-chain-row-requires c κs = search chaining
+index-row-requires : tie.Need-index-row-requires Inv-loop μ-loop
+index-row-requires c κs = search chaining
 
 add-row : tie.Need-add-row Inv-loop μ-loop
 add-row c = search chaining
@@ -51,12 +42,9 @@ index-members-spec =
     (tie.spec
     Inv-loop
     μ-loop
+    class-mark-requires
     loop-holds
-    mul-unpack-member
-    shared-slice-copy-out-unpack-member
-    unpack-member-requires
-    row-mark-requires
-    chain-row-requires
+    index-row-requires
     add-row
     loop-less
     loop-again

@@ -6,6 +6,12 @@ use Rattle.tree_checks.proofs.names.faulty_text.Tie as tie
 name-bytes-requires : tie.Need-name-bytes-requires
 name-bytes-requires c κs = search reached
 
+ascii-far-requires : tie.Need-ascii-far-requires
+ascii-far-requires c κs = search reached
+
+returns : tie.Need-returns
+returns c = search reached
+
 slice-aggregate-mark-reach : tie.Need-slice-aggregate-mark-reach
 slice-aggregate-mark-reach c = search reached
 
@@ -18,16 +24,18 @@ slice-aggregate-faulty-among c = search reached
 faulty-among-requires : tie.Need-faulty-among-requires
 faulty-among-requires c κs = search reached
 
-returns : tie.Need-returns
-returns c = search reached
+returns-2 : tie.Need-returns-2
+returns-2 c = search reached
 
 pub faulty-text-spec : {M : Type 1} → statement M
 faulty-text-spec =
     tie.close
     (tie.spec
     name-bytes-requires
+    ascii-far-requires
+    returns
     slice-aggregate-mark-reach
     mark-reach-requires
     slice-aggregate-faulty-among
     faulty-among-requires
-    returns)
+    returns-2)

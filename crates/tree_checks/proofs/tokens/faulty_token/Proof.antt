@@ -8,20 +8,23 @@ use Rattle.tree_checks.proofs.tokens.faulty_token.Statement.{statement}
 use Rattle.tree_checks.proofs.tokens.faulty_token.Tie as tie
 
 abbrev Inv-loop : tie.InvT-loop
-Inv-loop tree counts start tokens row₀ row =
-    Asked (λ i. tokenRowFine counts tree (tokensStart counts + 12 * i)) tokens (faultyToken counts tree) row
+Inv-loop tree counts start bounds row₀ row =
+    Asked (λ i. tokenRowFine counts tree (tokensStart counts + 12 * i)) (counts .tokens) (faultyToken counts tree) row
 
 abbrev μ-loop : tie.MeasureT-loop
-μ-loop tree counts start tokens row₀ row = tokens - row
+μ-loop tree counts start bounds row₀ row = counts .tokens - row
 
 tokens-start-requires : tie.Need-tokens-start-requires Inv-loop μ-loop
 tokens-start-requires c κs = search asking
 
-cast-tokens : tie.Need-cast-tokens Inv-loop μ-loop
-cast-tokens c = search asking
+kind-bounds-requires : tie.Need-kind-bounds-requires Inv-loop μ-loop
+kind-bounds-requires c κs = search asking
 
 loop-holds : tie.Need-loop-holds Inv-loop μ-loop
 loop-holds c = search asking
+
+cast-if1 : tie.Need-cast-if1 Inv-loop μ-loop
+cast-if1 c = search asking
 
 mul-token-fine : tie.Need-mul-token-fine Inv-loop μ-loop
 mul-token-fine c = search asking
@@ -54,8 +57,9 @@ faulty-token-spec =
     Inv-loop
     μ-loop
     tokens-start-requires
-    cast-tokens
+    kind-bounds-requires
     loop-holds
+    cast-if1
     mul-token-fine
     add-token-fine
     token-fine-requires

@@ -6,8 +6,17 @@ use Rattle.tree_checks.proofs.tokens.token_fine.Tie as tie
 word-at-requires : tie.Need-word-at-requires
 word-at-requires c κs = search token-tests
 
-number-bound-requires : tie.Need-number-bound-requires
-number-bound-requires c κs = search token-tests
+cast-kind : tie.Need-cast-kind
+cast-kind c = search token-tests
+
+returns : tie.Need-returns
+returns c = search token-tests
+
+mul-bound : tie.Need-mul-bound
+mul-bound c = search token-tests
+
+element-copy-out-bound : tie.Need-element-copy-out-bound
+element-copy-out-bound c = search token-tests
 
 add-word-at : tie.Need-add-word-at
 add-word-at c = search token-tests
@@ -15,11 +24,11 @@ add-word-at c = search token-tests
 word-at-requires-2 : tie.Need-word-at-requires-2
 word-at-requires-2 c κs = search token-tests
 
-cast-if1 : tie.Need-cast-if1
-cast-if1 c = search token-tests
+cast-if2 : tie.Need-cast-if2
+cast-if2 c = search token-tests
 
-returns : tie.Need-returns
-returns c = search token-tests
+returns-2 : tie.Need-returns-2
+returns-2 c = search token-tests
 
 add-word-at-2 : tie.Need-add-word-at-2
 add-word-at-2 c = search token-tests
@@ -27,11 +36,8 @@ add-word-at-2 c = search token-tests
 word-at-requires-3 : tie.Need-word-at-requires-3
 word-at-requires-3 c κs = search token-tests
 
-cast-if2 : tie.Need-cast-if2
-cast-if2 c = search token-tests
-
-returns-2 : tie.Need-returns-2
-returns-2 c = search token-tests
+cast-result : tie.Need-cast-result
+cast-result c = search token-tests
 
 returns-3 : tie.Need-returns-3
 returns-3 c = search token-tests
@@ -41,13 +47,15 @@ token-fine-spec =
     tie.close
     (tie.spec
     word-at-requires
-    number-bound-requires
+    cast-kind
+    returns
+    mul-bound
+    element-copy-out-bound
     add-word-at
     word-at-requires-2
-    cast-if1
-    returns
-    add-word-at-2
-    word-at-requires-3
     cast-if2
     returns-2
+    add-word-at-2
+    word-at-requires-3
+    cast-result
     returns-3)

@@ -1,9 +1,9 @@
--- `name_index::chained::last_linked` meets its contract, by the laws of Walking and an invariant that says what is done and what is left.
+-- `name_index::chained::walk_links` meets its contract, by the laws of Walking and an invariant that says what is done and what is left.
 use Rattle.name_index.proofs.Walking.{walking}
 use Rattle.ground.specs.Look.{known}
 use Rattle.name_index.specs.inner.Chains.{Behind}
-use Rattle.name_index.proofs.chained.last_linked.Statement.{statement}
-use Rattle.name_index.proofs.chained.last_linked.Tie as tie
+use Rattle.name_index.proofs.chained.walk_links.Statement.{statement}
+use Rattle.name_index.proofs.chained.walk_links.Tie as tie
 
 abbrev Inv-loop : tie.InvT-loop
 Inv-loop index classes members pool display owner name descriptor sought from count₀ count = Behind classes pool members sought (known display) owner name descriptor count
@@ -53,8 +53,8 @@ loop-again c = search walking
 returns-2 : tie.Need-returns-2 Inv-loop μ-loop
 returns-2 c = search walking
 
-pub last-linked-spec : {M : Type 1} → statement M
-last-linked-spec =
+pub walk-links-spec : {M : Type 1} → statement M
+walk-links-spec =
     tie.close
     (tie.spec
     Inv-loop

@@ -1,10 +1,7 @@
--- `name_index::chained::last_chained` meets its contract, by the laws of Walking.
+-- `name_index::chained::last_marked` meets its contract, by the laws of Walking.
 use Rattle.name_index.proofs.Walking.{walking}
-use Rattle.name_index.proofs.chained.last_chained.Statement.{statement}
-use Rattle.name_index.proofs.chained.last_chained.Tie as tie
-
-member-mark-requires : tie.Need-member-mark-requires
-member-mark-requires c κs = search walking
+use Rattle.name_index.proofs.chained.last_marked.Statement.{statement}
+use Rattle.name_index.proofs.chained.last_marked.Tie as tie
 
 mul-wide-number : tie.Need-mul-wide-number
 mul-wide-number c = search walking
@@ -21,11 +18,10 @@ last-linked-requires c κs = search walking
 returns : tie.Need-returns
 returns c = search walking
 
-pub last-chained-spec : {M : Type 1} → statement M
-last-chained-spec =
+pub last-marked-spec : {M : Type 1} → statement M
+last-marked-spec =
     tie.close
     (tie.spec
-    member-mark-requires
     mul-wide-number
     shared-slice-read-wide-number
     wide-number-requires
