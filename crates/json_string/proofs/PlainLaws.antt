@@ -103,16 +103,19 @@ module _ {s : List ℕ} {start at : ℕ} (k : Running s start at) where
     unfolding plainRun
     run-ends e = sym (add-zero at) ∙ (rw (drop-cons s at 0 h, sym g ∙ e) at (k .decides))
 
-    module _ (e : b ≡ true) where
-      pub run-more : Running s start (at + 1)
-      run-more = plain-next k h (sym g ∙ e)
+    pub run-more : b ≡ true → Running s start (at + 1)
+    run-more e = plain-next k h (sym g ∙ e)
 
-      pub run-blocks : {to : ℕ} → PlainTo s (at + 1) to → Running s start to
-      run-blocks {to} w =
-          let q : at + 1 + (to - (at + 1)) ≡ to = omega (arith, w .goes) in
-          rw q at (run-past s start (to - (at + 1)) (at + 1) run-more (omega (arith, w .goes, w .inside)) (λ i l u. w .each i l (omega (arith, w .goes))))
+pub ruleset running = (run-starts, run-all, run-ends, run-more, needs)
 
-      pub run-falls : {to : ℕ} → PlainTo s (at + 1) to → length s - to < length s - at
-      run-falls w = omega (arith, w .goes)
+-- By whole blocks first.
+pub run-none : (s : List ℕ) (start : ℕ) → length s ≤ start → start ≡ start + plainRun (drop start s)
+run-none s start h = run-all (run-starts s start) h
 
-pub ruleset running = (run-starts, run-all, run-ends, run-more, run-blocks, run-falls, needs)
+pub run-blocks : {s : List ℕ} {start to r : ℕ} → PlainTo s start to → r ≡ to + plainRun (drop to s) → r ≡ start + plainRun (drop start s)
+run-blocks {s} {start} {to} w e =
+    let q : start + (to - start) ≡ to = omega (arith, w .goes) in
+    let k = run-past s start (to - start) start (run-starts s start) (omega (arith, w .goes, w .inside)) (λ i l u. w .each i l (omega (arith, w .goes))) in
+    e ∙ (rw q at k) .decides
+
+pub ruleset runs = (run-none, run-blocks, needs)

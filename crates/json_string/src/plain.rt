@@ -70,21 +70,28 @@ fn plain_blocks(s: &[u8], from: usize) -> usize
     at
 }
 
-// The first place from `start` on at which no plain byte stands.
-pub fn plain_end(s: &[u8], start: usize) -> usize
+// The first place from `start` on at which no plain byte stands, byte by byte.
+fn plain_bytes(s: &[u8], start: usize) -> usize
     ensures { λ r. ⌜ r ≡ start + plainRun (drop start (now (s .entry))) ⌝ }
 {
     let mut at = start;
     while at < s.len() {
         if is_plain(s[at]) {
             at += 1;
-            // most strings are short: blocks are asked only in long ones
-            if at - start == 4 {
-                at = plain_blocks(s, at);
-            }
             continue;
         }
         return at;
     }
     at
+}
+
+// The same, by whole blocks first.
+pub fn plain_end(s: &[u8], start: usize) -> usize
+    ensures { λ r. ⌜ r ≡ start + plainRun (drop start (now (s .entry))) ⌝ }
+{
+    if s.len() <= start {
+        return start;
+    }
+    let blocks = plain_blocks(s, start);
+    plain_bytes(s, blocks)
 }

@@ -12,7 +12,7 @@ use text_places::Place;
 use text_places::Span;
 use text_places::first_byte;
 use text_places::shifted;
-use text_white::trim_both;
+use text_white::trim_ends;
 ghost use mathlib.Core.Path.{_≡_};
 ghost use Prim.Native.Nat.{_+_, _≤_};
 ghost use lib.ListN.{length};
@@ -130,7 +130,7 @@ fn member_line(s: &[u8], by: usize) -> Line
 pub fn read_line(s: &[u8]) -> Line
     ensures { λ r. ⌜ r ≡ lineOf (now (s .entry)) ⌝ }
 {
-    let part = trim_both(s);
+    let part = trim_ends(s);
     let start = part.start;
     let end = part.end;
     if start == end {

@@ -16,7 +16,7 @@ use Rattle.line_parts.proofs.Lying.{lies-more}
 use Rattle.line.proofs.Whole.{LineIn, line-lies}
 use Rattle.load_rule.specs.Classes.{classIn}
 use Rattle.load_classes.specs.inner.Names.{NamedAt}
-use Rattle.load_classes.proofs.Quick.{empty-no-class, space-no-class, hash-no-class, told-no-class}
+use Rattle.load_classes.proofs.Quick.{told-no-class}
 
 module _ (l : List ℕ) {t : Line} (e : t ≡ lineOf l) where
   pub read-blank : t ≡ kinds.Blank → classIn l (lineOf l) ≡ []
@@ -44,4 +44,4 @@ module _ (l : List ℕ) {t : Line} (e : t ≡ lineOf l) where
       }
 
 pub ruleset naming =
-    (empty-no-class, space-no-class, hash-no-class, told-no-class, read-blank, read-comment, read-field, read-method, read-refused, read-class, needs)
+    (told-no-class, read-blank, read-comment, read-field, read-method, read-refused, read-class, needs)

@@ -2,10 +2,11 @@
 use mathlib.Core.Path.{_≡_, refl, sym, _∙_, ap}
 use mathlib.Core.Bool.{Bool, true, false}
 use mathlib.Core.List.{List, [], _∷_}
-use Prim.Native.Nat.{ℕ, _+_}
-use native.Mathlib.Omega.{arith}
-use lib.ListN.{length, getD}
-use borrow.Author.Tests.{eqb-true, eqb-false}
+use Prim.Native.Nat.{ℕ, zero, suc, _+_}
+use lib.Dec.{eqb}
+use lib.ListN.{getD, take}
+use borrow.Author.Tests.{eq-eqb, ne-eqb, eqb-true, eqb-false}
+use borrow.Author.Needs.{needs}
 use Rattle.ground.specs.Choice.{pick}
 use Rattle.text_places.specs.declared.find.Place.{Place}
 use Rattle.text_places.specs.declared.find.Place.the-variants.{At, Nowhere}
@@ -28,6 +29,7 @@ use Rattle.line.specs.declared.line.Line.the-variants.{Blank}
 use Rattle.line.specs.Kinds.{commentAt, classAt, methodBy, fieldBy, bySide, memberBy, memberAt, lineOf}
 use Rattle.line.proofs.Kinding.{line-blank, line-comment}
 use Rattle.load_rule.specs.Classes.{classIn}
+use Rattle.load_classes.specs.inner.Names.{opensNoClass}
 
 -- A member line, a faulty one too, is no class line.
 member-no-class : (l : List ℕ) (by : ℕ) (s : List ℕ) → classIn l (memberAt by s) ≡ []
@@ -64,6 +66,14 @@ space-white : (t : List ℕ) → startsWhite (0x20 ∷ t) ≡ true
 unfolding sequenceOf afterLead leadOf tails isWhite inRanges whiteRanges
 space-white t = refl
 
+lf-white : (t : List ℕ) → startsWhite (0x0A ∷ t) ≡ true
+unfolding sequenceOf afterLead leadOf tails isWhite inRanges whiteRanges
+lf-white t = refl
+
+cr-white : (t : List ℕ) → startsWhite (0x0D ∷ t) ≡ true
+unfolding sequenceOf afterLead leadOf tails isWhite inRanges whiteRanges
+cr-white t = refl
+
 -- `#` is no white space, so that the trimmed line starts with it
 hash-first : (t : List ℕ) → _≡_ {A = ℕ} (trimBoth (0x23 ∷ t) .start) 0
 unfolding runOf piecesFrom sequenceOf afterLead leadOf tails isWhite inRanges whiteRanges
@@ -78,22 +88,43 @@ hash-line t = go (isEmpty (trimBoth (0x23 ∷ t))) refl
         ap (classIn (0x23 ∷ t))
         (sym (line-comment (0x23 ∷ t) refl (eqb-false (trimBoth (0x23 ∷ t) .start) (trimBoth (0x23 ∷ t) .«end») e) (ap (λ k. getD (0x23 ∷ t) k 0) (hash-first t)) refl))
 
--- by the first byte
-opened : (P : List ℕ → Type 0) (b : ℕ) → ((t : List ℕ) → P (b ∷ t)) → (l : List ℕ) → (length l ≡ 0 → ⊥) → getD l 0 0 ≡ b → P l
-opened P b f [] n e = absurd (n refl)
-opened P b f (x ∷ t) n e = let same : x ≡ b = e in rw same (f t)
-
 pub told-no-class : (l : List ℕ) {r : Bool} → r ≡ startsWhite l → r ≡ true → classIn l (lineOf l) ≡ []
 told-no-class l e f = white-no-class l (sym e ∙ f)
 
-pub empty-no-class : (l : List ℕ) → length l ≡ 0 → classIn l (lineOf l) ≡ []
+-- By the first byte.
+module _ (b : ℕ) where
+  pub opens-space : b ≡ 0x20 → true ≡ opensNoClass b
+  opens-space e = rw (eq-eqb b 0x20 e)
+
+  module _ (n : b ≡ 0x20 → ⊥) where
+    pub opens-hash : b ≡ 0x23 → true ≡ opensNoClass b
+    opens-hash e = rw (ne-eqb b 0x20 n, eq-eqb b 0x23 e)
+
+    module _ (m : b ≡ 0x23 → ⊥) where
+      pub opens-lf : b ≡ 0x0A → true ≡ opensNoClass b
+      opens-lf e = rw (ne-eqb b 0x20 n, ne-eqb b 0x23 m, eq-eqb b 0x0A e)
+
+      pub opens-cr : (b ≡ 0x0A → ⊥) → eqb b 0x0D ≡ opensNoClass b
+      opens-cr e = rw (ne-eqb b 0x20 n, ne-eqb b 0x23 m, ne-eqb b 0x0A e)
+
+pub ruleset first-bytes = (opens-space, opens-hash, opens-lf, opens-cr, needs)
+
+byte-no-class : (b : ℕ) (t : List ℕ) → opensNoClass b ≡ true → classIn (b ∷ t) (lineOf (b ∷ t)) ≡ []
+byte-no-class b t o = go (eqb b 0x20) refl (eqb b 0x23) refl (eqb b 0x0A) refl o
+  where
+    same : (x : ℕ) → b ≡ x → classIn (x ∷ t) (lineOf (x ∷ t)) ≡ [] → classIn (b ∷ t) (lineOf (b ∷ t)) ≡ []
+    same x e p = rw e p
+
+    go : (x : Bool) → eqb b 0x20 ≡ x → (y : Bool) → eqb b 0x23 ≡ y → (z : Bool) → eqb b 0x0A ≡ z → pick x true (pick y true (pick z true (eqb b 0x0D))) ≡ true →
+        classIn (b ∷ t) (lineOf (b ∷ t)) ≡ []
+    go true e y f z g p = same 0x20 (eqb-true b 0x20 e) (white-no-class (0x20 ∷ t) (space-white t))
+    go false e true f z g p = same 0x23 (eqb-true b 0x23 f) (hash-line t)
+    go false e false f true g p = same 0x0A (eqb-true b 0x0A g) (white-no-class (0x0A ∷ t) (lf-white t))
+    go false e false f false g p = same 0x0D (eqb-true b 0x0D p) (white-no-class (0x0D ∷ t) (cr-white t))
+
+-- so no start of a text that starts so is a class line
+pub start-no-class : (l : List ℕ) (n : ℕ) → opensNoClass (getD l 0 0) ≡ true → classIn (take n l) (lineOf (take n l)) ≡ []
 unfolding runOf piecesFrom trimEnd
-empty-no-class [] e = refl
-empty-no-class (x ∷ t) e = absurd (omega arith)
-
-module _ (l : List ℕ) (n : length l ≡ 0 → ⊥) where
-  pub space-no-class : getD l 0 0 ≡ 0x20 → classIn l (lineOf l) ≡ []
-  space-no-class = opened (λ x. classIn x (lineOf x) ≡ []) 0x20 (λ t. white-no-class (0x20 ∷ t) (space-white t)) l n
-
-  pub hash-no-class : getD l 0 0 ≡ 0x23 → classIn l (lineOf l) ≡ []
-  hash-no-class = opened (λ x. classIn x (lineOf x) ≡ []) 0x23 hash-line l n
+start-no-class l zero o = refl
+start-no-class [] (suc n) o = refl
+start-no-class (b ∷ t) (suc n) o = byte-no-class b (take n t) o

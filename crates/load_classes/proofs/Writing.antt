@@ -1,9 +1,12 @@
 -- All class lines, one after the other. Assumes nothing.
 use mathlib.Core.Path.{_≡_, refl, sym, _∙_, ap}
+use mathlib.Core.Bool.{Bool, true}
 use mathlib.Core.List.{List, [], _∷_, _++_, append-assoc, append-nil}
-use Prim.Native.Nat.{ℕ, _+_, _≤_, _<_}
+use Prim.Native.Nat.{ℕ, _+_, _-_, _≤_, _<_}
+use native.Mathlib.Nat.{add-zero}
 use native.Mathlib.Omega.{arith}
-use lib.ListN.{length, set, drop, length-append}
+use lib.ListN.{length, getD, set, drop, length-append}
+use lib.Seq.{getD-drop}
 use mir.Val.{Fits}
 use mir.Syntax.{w64}
 use borrow.Author.Needs.{needs}
@@ -12,7 +15,8 @@ use Rattle.ground.proofs.PutLaws.{put-nothing, put-set, length-put}
 use Rattle.text_places.specs.declared.lines.NextLine.{NextLine}
 use Rattle.text_places.specs.declared.lines.NextLine.the-variants.{Line, NoLine}
 use Rattle.text_places.specs.Lines.{lines, Taken}
-use Rattle.text_places.specs.inner.NextLine.{nextLine}
+use Rattle.text_places.specs.inner.NextLine.{nextLine, NextStart}
+use Rattle.text_places.proofs.LineLaws.{line-split}
 use Rattle.text_places.proofs.Taking.{line-taken, none-taken, end-taken, line-order, line-ends, line-falls}
 use Rattle.text_places.specs.Spans.{Lies}
 use Rattle.line.specs.Kinds.{lineOf}
@@ -31,11 +35,12 @@ use Rattle.load_rule.proofs.Appended.{rows-length, rows-more}
 use Rattle.load_classes.specs.declared.names.ClassNames.{ClassNames}
 use Rattle.load_classes.specs.declared.names.ClassLine.{ClassLine}
 use Rattle.load_classes.specs.declared.names.ClassLine.the-variants.{Names, Other}
-use Rattle.load_classes.specs.inner.Names.{classNamed, NamedAt, NamedBy}
+use Rattle.load_classes.specs.inner.Names.{classNamed, NamedAt, NamedBy, opensNoClass}
 use Rattle.load_classes.specs.inner.Entries.{EnteredClass, EnteredClassBy}
 use Rattle.load_classes.specs.inner.Written.{ClassesAt}
 use Rattle.table_rows.specs.Rows.{mostClasses, mostPool}
 use Rattle.load_rule.specs.Laid.{rowsFrom}
+use Rattle.load_classes.proofs.Quick.{start-no-class}
 
 -- the classes `done` are written
 pub record Rows (done : List Pair) (c : List (List ℕ)) (p : List ℕ) (count q : ℕ)
@@ -212,5 +217,29 @@ module _ {s : List ℕ} {c : List (List ℕ)} {p : List ℕ} {at count q : ℕ} 
                   written = more;
                 }
 
+  -- A line that shows by its first byte that it is no class line.
+  module _ {n : ℕ} (x : NextStart s at n) where
+    skipped : Taken s at at (x .«end») n
+    skipped = line-split s at (x .line)
+
+    pub skip-falls : at < length s → length s - n < length s - at
+    skip-falls h = let t = skipped in omega (arith, t .past, t .inside)
+
+    pub writing-skips : {b : Bool} → b ≡ opensNoClass (getD s at 0) → b ≡ true → Writing s c p n count q c₁ p₁
+    unfolding classesOf
+    writing-skips f g = record {
+      most = w .most;
+      same-rows = w .same-rows;
+      same-pool = w .same-pool;
+      done = w .done;
+      split =
+          w .split ∙ ap (λ ls. w .done ++ classesOf ls) (skipped .split)
+          ∙ ap (λ cs. w .done ++ (cs ++ classesOf (lines (drop n s)))) (start-no-class (drop at s) (x .«end» - at) told);
+      written = w .written;
+    }
+      where
+        told : opensNoClass (getD (drop at s) 0 0) ≡ true
+        told = ap opensNoClass (getD-drop at s 0 0 ∙ ap (λ i. getD s i 0) (add-zero at)) ∙ sym f ∙ g
+
 pub ruleset writing =
-    (writing-starts, writing-ends, writing-pool, writing-fits, writing-none, line-order, line-ends, line-falls, writing-other, display-there, raw-there, writing-few, writing-short, writing-more, needs)
+    (skip-falls, writing-skips, writing-starts, writing-ends, writing-pool, writing-fits, writing-none, line-order, line-ends, line-falls, writing-other, display-there, raw-there, writing-few, writing-short, writing-more, needs)

@@ -2,8 +2,9 @@
 use line::Line;
 use line::read_line;
 use text_places::Span;
-use text_white::starts_white;
-ghost use Rattle.load_classes.specs.inner.Names.{NamedBy};
+use text_white::white_at;
+ghost use mathlib.Core.Path.{_≡_};
+ghost use Rattle.load_classes.specs.inner.Names.{opensNoClass, NamedBy};
 
 pub struct ClassNames {
     pub display: Span,
@@ -15,21 +16,27 @@ pub enum ClassLine {
     Other,
 }
 
-// The names of a line, if it is a class line. Most lines are none, and most of those show it by their first byte: a space or `#`. A line that
-// starts with other white space is none either.
+// Whether a byte alone tells that a line which starts with it is no class line: a space, `#`, LF or CR. Most lines show it so.
+pub fn opens_no_class(b: u8) -> bool
+    ensures { λ r. ⌜ r ≡ opensNoClass b ⌝ }
+{
+    if b == b' ' {
+        return true;
+    }
+    if b == b'#' {
+        return true;
+    }
+    if b == b'\n' {
+        return true;
+    }
+    b == b'\r'
+}
+
+// The names of a line, if it is a class line. A line that starts with white space is none.
 pub fn class_line(line: &[u8]) -> ClassLine
     ensures { λ r. ⌜ NamedBy r (now (line .entry)) ⌝ }
 {
-    if line.len() == 0 {
-        return ClassLine::Other;
-    }
-    if line[0] == b' ' {
-        return ClassLine::Other;
-    }
-    if line[0] == b'#' {
-        return ClassLine::Other;
-    }
-    if starts_white(line) {
+    if white_at(line, 0) {
         return ClassLine::Other;
     }
     match read_line(line) {

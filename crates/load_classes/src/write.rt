@@ -2,10 +2,12 @@
 use crate::entry::enter_class;
 use crate::names::ClassLine;
 use crate::names::class_line;
+use crate::names::opens_no_class;
 use table_pool::Wrote;
 use table_rows::ClassRow;
 use text_places::NextLine;
 use text_places::next_line;
+use text_places::next_start;
 ghost use Prim.Native.Nat.{_≤_};
 ghost use lib.ListN.{length};
 ghost use Rattle.text_places.specs.Lines.{lines};
@@ -30,6 +32,10 @@ pub fn write_classes(text: &[u8], classes: &mut [ClassRow], pool: &mut [u8]) -> 
     let mut count = 0;
     let mut end = 0;
     while at < text.len() {
+        if opens_no_class(text[at]) {
+            at = next_start(text, at);
+            continue;
+        }
         let NextLine::Line {
             start,
             end: stop,

@@ -33,8 +33,6 @@ use Rattle.load_rule.proofs.Appended.{rows-length, rows-more}
 use Rattle.load_scan.specs.inner.Bounds.{Within}
 use Rattle.load_scan.proofs.Stepping.{step-bounds, step-told, passed-told}
 use Rattle.load_scan.proofs.Scanning.{Scanning, scanned-more}
-use Rattle.load_residual.specs.declared.residual.Passed.{Passed}
-use Rattle.load_residual.specs.inner.Passes.{passedOf}
 use Rattle.load_texts.specs.declared.texts.MemberLine.{MemberLine}
 use Rattle.load_members.specs.declared.role.Role.{Role}
 use Rattle.load_members.specs.declared.role.Role.the-variants.{Class, Member, Neither}
@@ -50,7 +48,7 @@ use Rattle.load_texts.specs.inner.Texts.{MemberTexts, allTexts}
 use Rattle.load_members.specs.inner.Roles.{roleOf}
 use Rattle.load_texts.specs.inner.Places.{EnteredTexts, memberPlaced}
 use Rattle.load_members.specs.inner.Filled.{Over, members, CutShort}
-use Rattle.load_members.proofs.Entering.{entryOf, entry-member, entry-class, entry-neither, under-class, under-neither, under-member, not-entered, neither-counts, class-counts, member-counts, member-classed, member-lies, class-lies, entry-text, entry-row}
+use Rattle.load_members.proofs.Entering.{entryOf, entry-member, entry-class, entry-neither, under-class, under-neither, under-member, not-entered, neither-counts, class-counts, member-counts, member-classed, member-last, member-lies, class-lies, entry-text, entry-row}
 use Rattle.load_members.proofs.Filling.{Filling, from-nothing}
 
 same-filling : {s : List ℕ} {rows : List (List ℕ)} {index : List ℕ} {used : ℕ} {m₀ : List (List ℕ)} {p₀ : List ℕ} {x y : ℕ} {t : Slot} {a b : Bool} {f : Fates} {m : List (List ℕ)} {p : List ℕ} →
@@ -86,6 +84,7 @@ module _ {s : List ℕ} {rows : List (List ℕ)} {index : List ℕ} {used : ℕ}
       member-ready = record {
         lies = member-lies (bytesOf s y) (role-told h);
         classed = rw (k .classes) (member-classed (f .class) (lineOf (bytesOf s y)) (role-told h) (st .clean));
+        lasts = st .after ∙ member-last member (lineOf (bytesOf s y)) (role-told h);
       }
 
     -- A line is entered by its role.
@@ -226,7 +225,7 @@ module _ {s : List ℕ} {rows : List (List ℕ)} {index : List ℕ} {used : ℕ}
             let v = length-append (entryText entry) (entryPool rest) in
             inr (omega arith)
 
-        module _ {t₁ : Slot} {n : Passed} {m₁ : List (List ℕ)} {p₁ : List ℕ} (w : WrittenMember t₁ n s rows y parts t m p m₁ p₁) where
+        module _ {t₁ : Slot} {m₁ : List (List ℕ)} {p₁ : List ℕ} (w : WrittenMember t₁ s rows y parts t m p m₁ p₁) where
           it : EnteredTexts (w .places) p (t .place) texts p₁
           unfolding texts
           it = rw (k .same) at (w .texts)
@@ -272,8 +271,8 @@ module _ {s : List ℕ} {rows : List (List ℕ)} {index : List ℕ} {used : ℕ}
               })
 
       module _ (o : NextSlot) (m₁ : List (List ℕ)) (p₁ : List ℕ) (w : EnterBy (roleOf (y .kind)) o s rows y t m p m₁ p₁) where
-        line-entered : {t₁ : Slot} {n : Passed} → o ≡ At t₁ n → Filling s rows index used m₀ p₀ (y .next) t₁ (y .«has_member») g m₁ p₁
-        line-entered {t₁} {n} e = go (roleOf (y .kind)) refl w
+        line-entered : {t₁ : Slot} → o ≡ At t₁ → Filling s rows index used m₀ p₀ (y .next) t₁ (y .«has_member») g m₁ p₁
+        line-entered {t₁} e = go (roleOf (y .kind)) refl w
           where
             kept : {u : Slot} → Filling s rows index used m₀ p₀ (y .next) u (y .«has_member») g m p → Kept o u m p m₁ p₁ → Filling s rows index used m₀ p₀ (y .next) t₁ (y .«has_member») g m₁ p₁
             kept {u} v z = let a = z .answer in let is : t₁ ≡ u = cc in rw (is, z .rows, z .pool) v
@@ -286,7 +285,7 @@ module _ {s : List ℕ} {rows : List (List ℕ)} {index : List ℕ} {used : ℕ}
         line-over : o ≡ NoRoom → {sc : Scan} → sc ≡ scanOn g (y .«has_member») (lines (drop (y .next) s)) → CutShort sc (lines s) (readBack rows p₀) used m₀ p₀
         line-over e i = record { scanned = short-scan i; over = go (roleOf (y .kind)) refl w }
           where
-            none : {u : Slot} → o ≡ At u (passedOf 0 0 0 0) → Over (members (lines s) (readBack rows p₀)) used m₀ p₀
+            none : {u : Slot} → o ≡ At u → Over (members (lines s) (readBack rows p₀)) used m₀ p₀
             none f = absurd (let z : _≡_ {A = ℕ} 0 1 = cc in omega arith)
 
             go : (ro : Role) → roleOf (y .kind) ≡ ro → EnterBy ro o s rows y t m p m₁ p₁ → Over (members (lines s) (readBack rows p₀)) used m₀ p₀
@@ -317,7 +316,7 @@ module _ {s : List ℕ} {rows : List (List ℕ)} {index : List ℕ} {used : ℕ}
       filling-room = step-bounds s (k .short) filling-rest filling-within
 
       module _ (o : NextSlot) (m₁ : List (List ℕ)) (p₁ : List ℕ) (w : EnterBy (roleOf (y .kind)) o s rows y t m p m₁ p₁) where
-        pub filling-entered : {t₁ : Slot} {n : Passed} → o ≡ At t₁ n → Filling s rows index used m₀ p₀ (y .next) t₁ (y .«has_member») g m₁ p₁
+        pub filling-entered : {t₁ : Slot} → o ≡ At t₁ → Filling s rows index used m₀ p₀ (y .next) t₁ (y .«has_member») g m₁ p₁
         filling-entered e = line-entered st sum o m₁ p₁ w e
 
         pub filling-over : o ≡ NoRoom → {sc : Scan} → sc ≡ scanOn g (y .«has_member») (lines (drop (y .next) s)) → CutShort sc (lines s) (readBack rows p₀) used m₀ p₀

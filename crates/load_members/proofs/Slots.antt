@@ -4,7 +4,7 @@ use mathlib.Core.List.{List}
 use mathlib.Core.Logic.{inl, inr}
 use Prim.Native.Nat.{ℕ, _+_, _-_, _≤_, _<_}
 use native.Mathlib.Omega.{arith}
-use lib.ListN.{length, drop, set, length-take, length-drop}
+use lib.ListN.{length, drop, set, length-take}
 use mir.Val.{Fits}
 use mir.Syntax.{w32, w64}
 use borrow.Author.Needs.{needs}
@@ -17,11 +17,8 @@ use Rattle.table_rows.specs.Rows.{packMember, mostPool}
 use Rattle.tables.specs.Back.{readBack}
 use Rattle.load_raw_types.specs.inner.Behind.{Indexed}
 use Rattle.load_rule.specs.Comments.{residualIn}
-use Rattle.load_rule.specs.Loading.{mostText}
-use Rattle.load_residual.specs.declared.residual.Looked.{Looked}
+use Rattle.load_residual.specs.declared.residual.Residual.{Residual}
 use Rattle.load_residual.specs.inner.Residuals.{Gives}
-use Rattle.load_residual.specs.declared.residual.Passed.{Passed}
-use Rattle.load_residual.specs.inner.Passes.{passedOf, Looks}
 use Rattle.load_texts.specs.declared.texts.MemberLine.{MemberLine}
 use Rattle.load_texts.specs.declared.texts.Places.{Places}
 use Rattle.load_texts.specs.declared.texts.Entered.{Entered}
@@ -36,22 +33,19 @@ use Rattle.load_members.specs.declared.enter.NextSlot.{NextSlot}
 use Rattle.load_members.specs.declared.enter.NextSlot.the-variants.{At, NoRoom}
 use Rattle.load_scan.specs.inner.Steps.{bytesOf}
 use Rattle.load_members.specs.inner.Roles.{roleOf}
-use Rattle.load_members.specs.inner.Enters.{slotAt, MemberReady, RoleReady, Ready, textsIn, WrittenMember, WrittenMemberBy, underClass, EnterBy}
+use Rattle.load_members.specs.inner.Enters.{slotAt, MemberReady, Behind, RoleReady, Ready, textsIn, WrittenMember, WrittenMemberBy, underClass, EnterBy}
 
 -- A member.
+pub member-given : {s : List ℕ} {x : LineStep} {t : Slot} {parts : MemberLine} {r : Residual} → MemberReady s x t parts → Behind s x r →
+    Gives (between s (x .next) (length s)) r (residualIn (lines (between s (x .next) (length s))))
+member-given {s} {x} k b = rw (take-rest s (x .next)) (rw (k .lasts) at (b .gives))
+
 pub member-parts : {s : List ℕ} {x : LineStep} {t : Slot} {parts : MemberLine} → MemberReady s x t parts → MemberIn parts (length (between s (x .start) (x .«end»)))
 member-parts k = k .lies
 
 module _ {s : List ℕ} {rows : List (List ℕ)} {index : List ℕ} {x : LineStep} {t : Slot} {p : List ℕ} (k : Ready s rows index x t p) where
   pub member-indexed : Indexed rows p index (t .place)
   member-indexed = k .indexed
-
-  pub member-after : length (between s (x .next) (length s)) ≤ mostText
-  member-after = let n = ap length (take-rest s (x .next)) ∙ length-drop (x .next) s in let h = k .short in omega arith
-
-  pub member-looked : {o : Looked} → Looks (between s (x .next) (length s)) o →
-      Gives (between s (x .next) (length s)) (o .residual) (residualIn (lines (between s (x .next) (length s))))
-  member-looked g = g .gives
 
   module _ (parts : MemberLine) (m : List (List ℕ)) where
     pub member-few : (m₁ : List (List ℕ)) (p₁ : List ℕ) → length m ≤ t .row → WrittenMemberBy NoRoom s rows x parts t m p m₁ p₁
@@ -81,11 +75,11 @@ module _ {s : List ℕ} {rows : List (List ℕ)} {index : List ℕ} {x : LineSte
             let end-is = it .written .past in
             record { raw = omega arith; descriptor = omega arith; name = omega arith; owner = omega arith; inside = omega arith }
 
-        pub member-at : {o : Looked} → Looks (between s (x .next) (length s)) o → t .row < length m → {row : List ℕ} → row ≡ packMember (memberPlaced (t .classes - 1) (t .place) places (parts .body)) →
-            WrittenMember (slotAt (t .row + 1) (places .«end») (t .classes) (t .own) (t .«own_end»)) (o .passed) s rows x parts t m p (set m (t .row) row) p₁
-        member-at g h f = record { places = places; texts = it; room = h; row = rw f refl; next = refl; behind = rw (take-rest s (x .next)) at (g .passes) }
+        pub member-at : t .row < length m → {row : List ℕ} → row ≡ packMember (memberPlaced (t .classes - 1) (t .place) places (parts .body)) →
+            WrittenMember (slotAt (t .row + 1) (places .«end») (t .classes) (t .own) (t .«own_end»)) s rows x parts t m p (set m (t .row) row) p₁
+        member-at h f = record { places = places; texts = it; room = h; row = rw f refl; next = refl }
 
-pub ruleset member-slots = (member-parts, member-indexed, member-after, member-looked, member-few, member-short, member-rising, member-at, needs)
+pub ruleset member-slots = (member-parts, member-given, member-indexed, member-few, member-short, member-rising, member-at, needs)
 
 -- A line by its role.
 role-class : (ro : Role) (s : List ℕ) (x : LineStep) (t : Slot) {d : Span} → RoleReady ro s x t → ro ≡ Class d → Lies d (length (bytesOf s x))
@@ -116,11 +110,11 @@ module _ {s : List ℕ} {rows : List (List ℕ)} {index : List ℕ} {x : LineSte
   line-member e = role-member (roleOf (x .kind)) s x t (k .role) (sym g ∙ e)
 
 module _ (s : List ℕ) (rows : List (List ℕ)) (x : LineStep) (t : Slot) (m : List (List ℕ)) (p : List ℕ) {ro : Role} (g : ro ≡ roleOf (x .kind)) where
-  pub line-neither : {o : Passed} → o ≡ passedOf 0 0 0 0 → ro ≡ Neither → EnterBy (roleOf (x .kind)) (At t o) s rows x t m p m p
-  line-neither z e = rw (← g, e) (record { answer = ap (At t) z; rows = refl; pool = refl })
+  pub line-neither : ro ≡ Neither → EnterBy (roleOf (x .kind)) (At t) s rows x t m p m p
+  line-neither e = rw (← g, e) (record { answer = refl; rows = refl; pool = refl })
 
-  pub line-class : {o : Passed} → o ≡ passedOf 0 0 0 0 → {d : Span} → ro ≡ Class d → EnterBy (roleOf (x .kind)) (At (underClass x d t) o) s rows x t m p m p
-  line-class z {d} e = rw (← g, e) (record { answer = ap (At (underClass x d t)) z; rows = refl; pool = refl })
+  pub line-class : {d : Span} → ro ≡ Class d → EnterBy (roleOf (x .kind)) (At (underClass x d t)) s rows x t m p m p
+  line-class {d} e = rw (← g, e) (record { answer = refl; rows = refl; pool = refl })
 
   pub line-entered : {parts : MemberLine} → ro ≡ Member parts → (r : NextSlot) (m₁ : List (List ℕ)) (p₁ : List ℕ) → WrittenMemberBy r s rows x parts t m p m₁ p₁ →
       EnterBy (roleOf (x .kind)) r s rows x t m p m₁ p₁

@@ -1,10 +1,8 @@
 // What a line adds to the rows and the pool.
-use crate::passed::none_passed;
 use crate::role::Role;
 use crate::role::role_of;
 use crate::row::member_row;
-use load_residual::Passed;
-use load_residual::residual_after;
+use load_residual::Residual;
 use load_scan::LineStep;
 use load_texts::Entered;
 use load_texts::MemberLine;
@@ -13,7 +11,7 @@ use table_rows::ClassRow;
 use table_rows::MemberRow;
 ghost use mathlib.Core.Path.{_≡_};
 ghost use Rattle.load_members.specs.inner.Roles.{roleOf};
-ghost use Rattle.load_members.specs.inner.Enters.{slotAt, Ready, MemberReady, WrittenMemberBy, EnterBy};
+ghost use Rattle.load_members.specs.inner.Enters.{slotAt, Ready, Behind, MemberReady, WrittenMemberBy, EnterBy};
 
 // Where the next member goes: its row, and the place of its texts. `classes` class lines stand before it; the display name of the last
 // one stands in the text from `own` to `own_end`.
@@ -26,8 +24,7 @@ pub struct Slot {
 }
 
 pub enum NextSlot {
-    // Where the next one goes, and the blank lines and comments that were read with this line: those behind a member.
-    At(Slot, Passed),
+    At(Slot),
     // Rows or pool do not hold the member.
     NoRoom,
 }
@@ -45,18 +42,21 @@ pub fn first_slot(used: usize) -> Slot
     }
 }
 
-// The texts of a member, and its row.
+// The texts of a member, and its row. `given` is the signature that the lines behind it give.
 fn enter_member(
     members: &mut [MemberRow],
     pool: &mut [u8],
     text: &[u8],
     line: LineStep,
+    given: Residual,
     parts: MemberLine,
     slot: Slot,
     classes: &[ClassRow],
     index: &[u16],
 ) -> NextSlot
-    requires { ⌜ Ready (now text) (now classes) (now index) line slot (now pool) × MemberReady (now text) line slot parts ⌝ }
+    requires { ⌜ Ready (now text) (now classes) (now index) line slot (now pool)
+        × Behind (now text) line given
+        × MemberReady (now text) line slot parts ⌝ }
     ensures { λ r.
         ⌜ WrittenMemberBy r (now (text .entry)) (now (classes .entry)) line parts slot (now (members .entry)) (now (pool .entry))
         (now (members .exit)) (now (pool .exit)) ⌝ }
@@ -74,8 +74,6 @@ fn enter_member(
     let after = &text[next..];
     let bytes = &text[start..end];
     let own = &text[first..last];
-    let looked = residual_after(after);
-    let given = looked.residual;
     let texts = write_texts(pool, place, after, given, bytes, parts, own, classes, index);
     let Entered::At(places) = texts else {
         return NextSlot::NoRoom;
@@ -85,8 +83,7 @@ fn enter_member(
     let mut following = slot;
     following.row += 1;
     following.place = places.end;
-    let passed = looked.passed;
-    NextSlot::At(following, passed)
+    NextSlot::At(following)
 }
 
 // A class line names the class of the members after it, a member line is entered.
@@ -95,25 +92,38 @@ pub fn enter_line(
     pool: &mut [u8],
     text: &[u8],
     line: LineStep,
+    given: Residual,
     slot: Slot,
     classes: &[ClassRow],
     index: &[u16],
 ) -> NextSlot
-    requires { ⌜ Ready (now text) (now classes) (now index) line slot (now pool) ⌝ }
+    requires { ⌜ Ready (now text) (now classes) (now index) line slot (now pool) × Behind (now text) line given ⌝ }
     ensures { λ r.
         ⌜ EnterBy (roleOf (line .kind)) r (now (text .entry)) (now (classes .entry)) line slot (now (members .entry))
         (now (pool .entry)) (now (members .exit)) (now (pool .exit)) ⌝ }
 {
     let kind = line.kind;
     match role_of(kind) {
-        Role::Neither => NextSlot::At(slot, none_passed()),
+        Role::Neither => NextSlot::At(slot),
         Role::Class(display) => {
             let mut named = slot;
             named.classes += 1;
             named.own = line.start + display.start;
             named.own_end = line.start + display.end;
-            NextSlot::At(named, none_passed())
+            NextSlot::At(named)
         }
-        Role::Member(parts) => enter_member(members, pool, text, line, parts, slot, classes, index),
+        Role::Member(parts) => {
+            enter_member(
+                members,
+                pool,
+                text,
+                line,
+                given,
+                parts,
+                slot,
+                classes,
+                index,
+            )
+        }
     }
 }

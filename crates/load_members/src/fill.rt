@@ -3,6 +3,7 @@ use crate::enter::NextSlot;
 use crate::enter::enter_line;
 use crate::enter::first_slot;
 use crate::passed::with_passed;
+use load_residual::residual_after;
 use load_rule::Fates;
 use load_rule::Scan;
 use load_scan::Step;
@@ -67,12 +68,15 @@ pub fn write_members(
                 let fate = line.fate;
                 fates = counted(fates, fate);
                 member = line.has_member;
-                let next = enter_line(members, pool, text, line, slot, classes, index);
-                let NextSlot::At(after, passed) = next else {
+                // Blank lines and comments behind a class line or a member line are read with it.
+                let looked = residual_after(&text[at..], member);
+                let given = looked.residual;
+                let next = enter_line(members, pool, text, line, given, slot, classes, index);
+                let NextSlot::At(after) = next else {
                     return Filled::Short(scan_from(text, at, fates, member));
                 };
                 slot = after;
-                // Blank lines and comments behind a member were read with it.
+                let passed = looked.passed;
                 at += passed.bytes;
                 fates = with_passed(fates, passed);
             }

@@ -1,25 +1,12 @@
-// Blank lines and comments that were read with the member before them.
+// Blank lines and comments that were read with the class line or the member line before them.
 use load_residual::Passed;
 use load_rule::Fates;
 ghost use mathlib.Core.Path.{_≡_};
 ghost use Prim.Native.Nat.{_+_, _≤_};
 ghost use Rattle.load_rule.specs.Fates.{plus};
 ghost use Rattle.load_rule.specs.Loading.{mostText};
-ghost use Rattle.load_residual.specs.inner.Passes.{passedOf};
 ghost use Rattle.load_scan.specs.inner.Bounds.{Within};
 ghost use Rattle.load_members.specs.inner.Passed.{passedFates};
-
-// With a line that is no member none are read.
-pub fn none_passed() -> Passed
-    ensures { λ r. ⌜ r ≡ passedOf 0 0 0 0 ⌝ }
-{
-    Passed {
-        bytes: 0,
-        blank: 0,
-        applied: 0,
-        idle: 0,
-    }
-}
 
 // What became of the lines, with those that are passed.
 pub fn with_passed(fates: Fates, passed: Passed) -> Fates

@@ -12,6 +12,7 @@ use borrow.Author.Needs.{needs}
 use Rattle.ground.specs.Ascii.{ascii}
 use Rattle.ground.specs.Choice.{pick}
 use Rattle.ground.proofs.Cases.{clash, both-left, both-right}
+use Rattle.text_places.specs.declared.find.Place.{Place}
 use Rattle.text_places.specs.declared.find.Place.the-variants.{Nowhere}
 use Rattle.text_places.specs.Places.{firstFrom, firstWhere, starts, same}
 use Rattle.table_pool.specs.declared.write.Wrote.{Wrote}
@@ -21,7 +22,7 @@ use Rattle.descriptor.specs.declared.types.Base.the-variants.{Letter, Kept, Nam
 use Rattle.descriptor.specs.declared.types.TypeShape.{TypeShape}
 use Rattle.ground.specs.Put.{between}
 use Rattle.descriptor.specs.Types.{wordLetter, keptText, baseOf, baseBytes, shapeOf, shapeBytes}
-use Rattle.ground.specs.Look.{Look}
+use Rattle.ground.specs.Look.{Look, lookOr}
 use Rattle.ground.specs.Join.{join}
 use Rattle.table_rows.specs.Classes.{back}
 use Rattle.descriptor.specs.Pieces.{partsFrom, turn}
@@ -34,6 +35,7 @@ use Rattle.table_pool.specs.inner.Named.{nameBytes, classPiece}
 use Rattle.load_raw_types.specs.inner.Behind.{Indexed}
 use Rattle.descriptor.proofs.Turning.{stays-step}
 use Rattle.load_raw_types.proofs.Indexing.{indexed-put, read-back-put}
+use Rattle.load_raw_types.proofs.Pieces.{piece-whole}
 
 -- None of the nine letters is an `L`.
 pick-other : (b : Bool) (x y : ℕ) → eqb x 0x4C ≡ false → eqb y 0x4C ≡ false → eqb (pick b x y) 0x4C ≡ false
@@ -94,6 +96,14 @@ kept-piece s e = go s e (kept-long s e)
         let n : length (x ∷ (y ∷ l)) - 1 - 1 ≡ length l = omega arith in
         let c : y ∷ l ≡ take (length l) (y ∷ l) ++ (0x3B ∷ []) = sym (take-length (y ∷ l)) ∙ take-suc (y ∷ l) (length l) 0 (omega arith) ∙ rw b in
         rw (n, map-same (take (length l) (y ∷ l)), ← c, a)
+
+-- A class name that is one piece.
+module _ (look : List ℕ → Look) (name : List ℕ) (r : Wrote) (d : List ℕ) (at : ℕ) (d₁ : List ℕ) where
+  pub name-whole : {p : Place} → p ≡ firstWhere (starts 0x3B) name → p ≡ Nowhere →
+      WroteBy r d at (lookOr (classPiece true name) (look (classPiece true name))) d₁ → WroteBy r d at (turn look (classPiece true name)) d₁
+  name-whole e f w = wrote-as r d at d₁ (sym (piece-whole look true name (sym e ∙ f))) w
+
+pub ruleset raw-names = (name-whole, needs)
 
 -- The type without its `[]`s.
 module _ (look : List ℕ → Look) (text : List ℕ) {base : Base} (e : base ≡ baseOf text) (r : Wrote) (d : List ℕ) (at : ℕ) (d₁ : List ℕ) where

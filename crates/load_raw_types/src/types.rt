@@ -16,6 +16,7 @@ use tables::Side;
 use text_places::Place;
 use text_places::first_byte;
 ghost use mathlib.Core.Path.{_≡_};
+ghost use mathlib.Core.Bool.{true};
 ghost use Prim.Native.Nat.{_≤_};
 ghost use lib.ListN.{length};
 ghost use Rattle.ground.specs.Look.{lookOr};
@@ -173,6 +174,25 @@ fn put_raw_pieces(
     }
 }
 
+// The raw descriptor of a class name. Most have no `;`, and are one piece.
+fn put_raw_name(
+    pool: &mut [u8],
+    at: usize,
+    name: &[u8],
+    classes: &[ClassRow],
+    index: &[u16],
+) -> Wrote
+    requires { ⌜ Indexed (now classes) (now pool) (now index) at ⌝ }
+    ensures { λ r.
+        let cs = readBack (now (classes .entry)) (now (pool .entry)) in
+        ⌜ WroteBy r (now (pool .entry)) at (turn (back cs) (classPiece true (now (name .entry)))) (now (pool .exit)) ⌝ }
+{
+    let Place::At(_) = first_place(name, b';') else {
+        return put_raw_piece(pool, at, name, true, classes, index);
+    };
+    put_raw_pieces(pool, at, name, true, classes, index)
+}
+
 // The raw descriptor of a type without its `[]`s.
 fn put_raw_base(
     pool: &mut [u8],
@@ -193,7 +213,7 @@ fn put_raw_base(
             let end = text.len() - 1;
             put_raw_pieces(pool, at, &text[1..end], false, classes, index)
         }
-        Base::Named => put_raw_pieces(pool, at, text, true, classes, index),
+        Base::Named => put_raw_name(pool, at, text, classes, index),
     }
 }
 

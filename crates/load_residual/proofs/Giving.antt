@@ -1,5 +1,5 @@
 -- The signatures that comments give. Assumes nothing.
-use mathlib.Core.Path.{_≡_, sym, _∙_, ap}
+use mathlib.Core.Path.{_≡_, refl, sym, _∙_, ap}
 use mathlib.Core.Bool.{Bool, true, false}
 use mathlib.Core.List.{List}
 use Prim.Native.Nat.{ℕ, _+_, _-_, _≤_, _<_}
@@ -29,7 +29,7 @@ use Rattle.ground.specs.Look.{unknown, isKnown}
 use Rattle.load_rule.specs.Comments.{saysResidual, stringAt, signatureBy, signatureOf, signatureAt}
 use Rattle.load_residual.specs.declared.residual.Residual.{Residual}
 use Rattle.load_residual.specs.declared.residual.Residual.the-variants.{Text, Nothing}
-use Rattle.load_residual.specs.inner.Residuals.{placeLook, jsonPart, residualLook, Gives, laterOf}
+use Rattle.load_residual.specs.inner.Residuals.{placeLook, residualLook, isGiven, Gives}
 
 -- The string of a JSON text.
 module _ (s : List ℕ) {c : comment.Comment} (e : c ≡ commentOf s) where
@@ -99,32 +99,20 @@ module _ (l : List ℕ) {brace : Place} where
 pub ruleset giving = (gives-no-brace, json-order, json-inside, gives-nothing, gives-text, needs)
 
 -- Whether there is one.
-module _ (l : List ℕ) (brace : Place) (r : Residual) (g : Gives l r (signatureAt l brace)) where
-  pub gives-one : {a e p : ℕ} → r ≡ Text a e p → true ≡ isKnown (signatureAt l brace)
-  gives-one f = ap isKnown (sym (ap (residualLook l) f) ∙ g .look)
+module _ {r : Residual} where
+  pub given-text : {a e p : ℕ} → r ≡ Text a e p → true ≡ isGiven r
+  given-text f = sym (ap isGiven f)
 
-  pub gives-none : r ≡ Nothing → false ≡ isKnown (signatureAt l brace)
-  gives-none f = ap isKnown (sym (ap (residualLook l) f) ∙ g .look)
+  pub given-nothing : r ≡ Nothing → false ≡ isGiven r
+  given-nothing f = sym (ap isGiven f)
 
-pub ruleset given-ones = (gives-one, gives-none, needs)
+pub ruleset given = (given-text, given-nothing, needs)
 
--- The later of two.
-module _ (before : Residual) (by : ℕ) {line : Residual} where
-  module _ {a e p : ℕ} (f : line ≡ Text a e p) where
-    module _ (h : Lies (shift by (jsonPart line)) largest) where
-      moved : Lies (shift by (span a e)) largest
-      moved = rw f at h
+pub given-looks : (s : List ℕ) (r : Residual) → isGiven r ≡ isKnown (residualLook s r)
+given-looks s (Text a e p) = refl
+given-looks s Nothing = refl
 
-      pub later-start : Fits w64 (by + a)
-      later-start = let o = moved .order in let w = moved .within in omega arith
+pub gives-known : (l : List ℕ) (brace : Place) (r : Residual) → Gives l r (signatureAt l brace) → {b : Bool} → b ≡ isGiven r → b ≡ isKnown (signatureAt l brace)
+gives-known l brace r g e = e ∙ given-looks l r ∙ ap isKnown (g .look)
 
-      pub later-end : Fits w64 (by + e)
-      later-end = let w = moved .within in omega arith
-
-    pub later-text : Text (by + a) (by + e) p ≡ laterOf before by line
-    later-text = sym (ap (laterOf before by) f)
-
-  pub later-before : line ≡ Nothing → before ≡ laterOf before by line
-  later-before f = sym (ap (laterOf before by) f)
-
-pub ruleset later-ones = (later-start, later-end, later-text, later-before, needs)
+pub ruleset given-ones = (gives-known, needs)

@@ -1,41 +1,29 @@
 -- The blank lines and comments that are passed: how many there can be, and where they stand in the text that goes on before them.
 -- Assumes nothing.
 use mathlib.Core.Path.{_≡_, sym, _∙_, ap}
+use mathlib.Core.Bool.{Bool}
 use mathlib.Core.List.{List, _∷_}
 use Prim.Native.Nat.{ℕ, _+_, _-_, _≤_}
 use native.Mathlib.Omega.{arith}
 use lib.ListN.{length, drop, length-drop}
 use lib.Seq.{drop-drop}
-use borrow.Author.Needs.{needs}
 use Rattle.ground.specs.Put.{between}
 use Rattle.text_places.specs.Lines.{lines, Taken}
 use Rattle.load_residual.specs.declared.residual.Passed.{Passed}
-use Rattle.load_residual.specs.declared.residual.Residual.{Residual}
-use Rattle.load_residual.specs.declared.residual.Residual.the-variants.{Text, Nothing}
-use Rattle.load_residual.specs.inner.Passes.{passedOf, withComment, Passes, none, blank, applied, idle}
+use Rattle.load_residual.specs.inner.Passes.{Passes, none, blank, applied, idle}
 
--- One comment more, by what it gives.
-module _ (k : Passed) (next : ℕ) {own : Residual} where
-  pub with-text : {a e p : ℕ} → own ≡ Text a e p → passedOf next (k .blank) (k .applied + 1) (k .idle) ≡ withComment k next own
-  with-text f = sym (ap (withComment k next) f)
-
-  pub with-nothing : own ≡ Nothing → passedOf next (k .blank) (k .applied) (k .idle + 1) ≡ withComment k next own
-  with-nothing f = sym (ap (withComment k next) f)
-
-pub ruleset with-comments = (with-text, with-nothing, needs)
-
-pub passes-inside : (s : List ℕ) (k : Passed) → Passes s k → k .bytes ≤ length s
-passes-inside s k none = omega arith
-passes-inside s k (blank j a e n p t l) = t .inside
-passes-inside s k (applied j a e n brace p t l g) = t .inside
-passes-inside s k (idle j a e n brace p t l g) = t .inside
+pub passes-inside : (member : Bool) (s : List ℕ) (k : Passed) → Passes member s k → k .bytes ≤ length s
+passes-inside member s k none = omega arith
+passes-inside member s k (blank j a e n p t l) = t .inside
+passes-inside member s k (applied j a e n brace p t l g) = t .inside
+passes-inside member s k (idle j a e n brace p t l g) = t .inside
 
 -- each line has a byte at least
-pub passes-few : (s : List ℕ) (k : Passed) → Passes s k → k .blank + k .applied + k .idle ≤ k .bytes
-passes-few s k none = omega arith
-passes-few s k (blank j a e n p t l) = let f = passes-few s j p in let o = t .past in omega arith
-passes-few s k (applied j a e n brace p t l g) = let f = passes-few s j p in let o = t .past in omega arith
-passes-few s k (idle j a e n brace p t l g) = let f = passes-few s j p in let o = t .past in omega arith
+pub passes-few : (member : Bool) (s : List ℕ) (k : Passed) → Passes member s k → k .blank + k .applied + k .idle ≤ k .bytes
+passes-few member s k none = omega arith
+passes-few member s k (blank j a e n p t l) = let f = passes-few member s j p in let o = t .past in omega arith
+passes-few member s k (applied j a e n brace p t l g) = let f = passes-few member s j p in let o = t .past in omega arith
+passes-few member s k (idle j a e n brace p t l g) = let f = passes-few member s j p in let o = t .past in omega arith
 
 -- a line of what is left from the place `n` on is a line there
 module _ (s : List ℕ) (n : ℕ) where

@@ -7,18 +7,22 @@ use text_places::NextLine;
 use text_places::Place;
 use text_places::first_byte;
 use text_places::next_line;
+use text_white::is_wide;
 use text_white::trim_both;
+use text_white::trim_end;
+use text_white::white_length;
 ghost use mathlib.Core.Path.{_≡_};
 ghost use Prim.Native.Nat.{_≤_, _<_};
-ghost use lib.ListN.{length, drop};
+ghost use lib.ListN.{length};
+ghost use Rattle.ground.specs.Put.{between};
 ghost use Rattle.line.specs.declared.line.Line.the-variants as kinds;
 ghost use Rattle.line.specs.Kinds.{lineOf};
 ghost use Rattle.load_rule.specs.Comments.{signatureOf, signatureAt};
 ghost use Rattle.load_rule.specs.Loading.{mostText};
-ghost use Rattle.text_places.specs.Spans.{shift, Lies, largest};
 ghost use Rattle.ground.specs.Look.{isKnown};
-ghost use Rattle.load_residual.specs.inner.Residuals.{placeLook, jsonPart, openingOf, otherAhead, laterOf, Gives};
-ghost use Rattle.load_residual.specs.inner.Passes.{withComment, Looks};
+ghost use Rattle.load_residual.specs.inner.Residuals.{placeLook, isGiven, Gives, heeded, hashGives};
+ghost use Rattle.load_residual.specs.inner.Openings.{OpensBy};
+ghost use Rattle.load_residual.specs.inner.Passes.{passedOf, Looks};
 
 // A string in a text: its JSON runs from `start` to `end`, and its first char stands at the place `string` of the JSON.
 pub enum Residual {
@@ -30,8 +34,8 @@ pub enum Residual {
     Nothing,
 }
 
-// Blank lines and comments that stand behind a member: how many bytes they are in all, how many of them are blank, how many give a
-// signature, and how many don't.
+// Blank lines and comments that stand behind a class line or a member line: how many bytes they are in all, how many of them are blank,
+// how many give a signature that counts, and how many don't.
 pub struct Passed {
     pub bytes: usize,
     pub blank: u32,
@@ -39,16 +43,18 @@ pub struct Passed {
     pub idle: u32,
 }
 
-// What the lines behind a member give, and those that were read for it: who goes over the lines need not read these again.
+// What the lines behind a line give, and those that were read for it: who goes over the lines need not read these again.
 pub struct Looked {
     pub residual: Residual,
     pub passed: Passed,
 }
 
-// A line that may stand between a member and its signature, or any other line.
+// What a line opens with.
 pub enum Opening {
-    Blank,
-    Comment(Place),
+    // Nothing: it is blank. The place where the next line starts.
+    Blank(usize),
+    // A comment: the place of its `#`.
+    Comment(usize),
     Other,
 }
 
@@ -91,12 +97,11 @@ pub fn signature_at(line: &[u8], brace: Place) -> Residual
     Residual::Text { start, end, string }
 }
 
-// Whether a comment gives a signature.
-pub fn gives_signature(line: &[u8], brace: Place) -> bool
-    requires { ⌜ lineOf (now line) ≡ kinds.Comment brace ⌝ }
-    ensures { λ r. ⌜ r ≡ isKnown (signatureAt (now (line .entry)) brace) ⌝ }
+// Whether there is a signature.
+fn is_given(residual: Residual) -> bool
+    ensures { λ r. ⌜ r ≡ isGiven residual ⌝ }
 {
-    match signature_at(line, brace) {
+    match residual {
         Residual::Text {
             start: _,
             end: _,
@@ -106,111 +111,124 @@ pub fn gives_signature(line: &[u8], brace: Place) -> bool
     }
 }
 
-// What a line opens with. Only a line that opens with `#` is read further.
-fn opening_of(line: &[u8]) -> Opening
-    ensures { λ r. ⌜ r ≡ openingOf (lineOf (now (line .entry))) ⌝ }
+// Whether a comment gives a signature.
+pub fn gives_signature(line: &[u8], brace: Place) -> bool
+    requires { ⌜ lineOf (now line) ≡ kinds.Comment brace ⌝ }
+    ensures { λ r. ⌜ r ≡ isKnown (signatureAt (now (line .entry)) brace) ⌝ }
 {
-    let part = trim_both(line);
-    let start = part.start;
-    let end = part.end;
-    if start == end {
-        return Opening::Blank;
-    }
-    if line[start] != b'#' {
-        return Opening::Other;
-    }
-    let Place::At(gap) = first_byte(&line[start..end], b'{') else {
-        return Opening::Comment(Place::Nowhere);
-    };
-    Opening::Comment(Place::At(start + gap))
+    is_given(signature_at(line, brace))
 }
 
-// The later of two signatures: that of a comment in the line from `by` on, else the one before.
-fn later(before: Residual, by: usize, line: Residual) -> Residual
-    requires { ⌜ Lies (shift by (jsonPart line)) largest ⌝ }
-    ensures { λ r. ⌜ r ≡ laterOf before by line ⌝ }
-{
-    match line {
-        Residual::Text { start, end, string } => Residual::Text {
-            start: by + start,
-            end: by + end,
-            string,
-        },
-        Residual::Nothing => before,
-    }
-}
-
-// Whether its first bytes alone tell that the line at a place is neither blank nor a comment: after spaces an ASCII character above `#`.
-// Where they don't, the line has to be read.
-fn opens_other(text: &[u8], at: usize) -> bool
-    ensures { λ r. ⌜ r ≡ otherAhead (drop at (now (text .entry))) ⌝ }
+// What the line at a place opens with: its first character that is no white space tells, so that its end need not be found first. Spaces,
+// CR and U+3000 are told by their bytes.
+fn opening_at(text: &[u8], at: usize) -> Opening
+    requires { ⌜ at < length (now text) ⌝ }
+    ensures { λ r. ⌜ OpensBy r (now (text .entry)) at ⌝ }
 {
     let mut i = at;
     while i < text.len() {
         let b = text[i];
-        if b != b' ' {
-            if b <= b'#' {
-                return false;
+        if b == b' ' {
+            i += 1;
+            continue;
+        }
+        if b == b'\n' {
+            return Opening::Blank(i + 1);
+        }
+        if b == b'#' {
+            return Opening::Comment(i);
+        }
+        if b' ' < b {
+            if b < 0x80 {
+                return Opening::Other;
             }
-            return b < 0x80;
         }
-        i += 1;
+        if b == b'\r' {
+            i += 1;
+            continue;
+        }
+        if is_wide(text, i) {
+            i += 3;
+            continue;
+        }
+        let length = white_length(text, i);
+        if length == 0 {
+            return Opening::Other;
+        }
+        i += length;
     }
-    false
+    Opening::Blank(i)
 }
 
-// One comment more, which gives `own`; the line behind it starts at `next`.
-fn with_comment(passed: Passed, next: usize, own: Residual) -> Passed
-    requires { ⌜ (passed .applied < mostText) × (passed .idle < mostText) ⌝ }
-    ensures { λ r. ⌜ r ≡ withComment passed next own ⌝ }
+// The signature that a comment gives, by places in the text: its `#` stands at `hash`, and its line ends at `end`. It counts only where
+// there is a member before it.
+fn signature_in(text: &[u8], hash: usize, end: usize, member: bool) -> Residual
+    requires { ⌜ (hash ≤ «end») × («end» ≤ length (now text)) ⌝ }
+    ensures { λ r. ⌜ Gives (now (text .entry)) r (heeded member (hashGives (between (now (text .entry)) hash «end»))) ⌝ }
 {
-    let mut more = passed;
-    more.bytes = next;
-    match own {
-        Residual::Text {
-            start: _,
-            end: _,
-            string: _,
-        } => {
-            more.applied += 1;
-            more
-        }
-        Residual::Nothing => {
-            more.idle += 1;
-            more
-        }
+    if !member {
+        return Residual::Nothing;
+    }
+    let size = trim_end(&text[hash..end]);
+    let stop = hash + size;
+    let Place::At(gap) = first_byte(&text[hash..stop], b'{') else {
+        return Residual::Nothing;
+    };
+    let start = hash + gap;
+    let Place::At(string) = string_of(&text[start..stop]) else {
+        return Residual::Nothing;
+    };
+    Residual::Text {
+        start,
+        end: stop,
+        string,
     }
 }
 
-// The signature of the last comment that gives one, before another class line or member line. `text` is what stands behind a member.
-pub fn residual_after(text: &[u8]) -> Looked
-    requires { ⌜ length (now text) ≤ mostText ⌝ }
-    ensures { λ r. ⌜ Looks (now (text .entry)) r ⌝ }
+// No line is passed yet.
+fn none_passed() -> Passed
+    ensures { λ r. ⌜ r ≡ passedOf 0 0 0 0 ⌝ }
 {
-    let mut residual = Residual::Nothing;
-    let mut passed = Passed {
+    Passed {
         bytes: 0,
         blank: 0,
         applied: 0,
         idle: 0,
-    };
+    }
+}
+
+// The blank lines and comments at the start of a text, which stands behind a class line or a member line, up to another one; and the
+// signature of the last comment that gives one. `member`: whether the line before is a member line.
+pub fn residual_after(text: &[u8], member: bool) -> Looked
+    requires { ⌜ length (now text) ≤ mostText ⌝ }
+    ensures { λ r. ⌜ Looks member (now (text .entry)) r ⌝ }
+{
+    let mut residual = Residual::Nothing;
+    let mut passed = none_passed();
     while passed.bytes < text.len() {
         let at = passed.bytes;
-        if opens_other(text, at) {
-            return Looked { residual, passed };
-        }
-        let NextLine::Line { start, end, next } = next_line(text, at) else {
-            return Looked { residual, passed };
-        };
-        match opening_of(&text[start..end]) {
-            Opening::Blank => {
+        match opening_at(text, at) {
+            Opening::Blank(next) => {
                 passed.bytes = next;
                 passed.blank += 1;
             }
-            Opening::Comment(brace) => {
-                let own = signature_at(&text[start..end], brace);
-                residual = later(residual, start, own);
-                passed = with_comment(passed, next, own);
+            Opening::Comment(hash) => {
+                let NextLine::Line {
+                    start: _,
+                    end,
+                    next,
+                } = next_line(text, hash)
+                else {
+                    return Looked { residual, passed };
+                };
+                passed.bytes = next;
+                let own = signature_in(text, hash, end, member);
+                if is_given(own) {
+                    passed.applied += 1;
+                    residual = own;
+                    continue;
+                }
+                passed.idle += 1;
             }
             Opening::Other => {
                 return Looked { residual, passed };

@@ -7,10 +7,10 @@ use Prim.Native.Nat.{ℕ, zero, suc, _+_, _-_, _*_, _/_, _%_, _^_, _≤_, _<_}
 use native.Mathlib.Nat.{add-zero, pow-suc}
 use native.Mathlib.Omega.{arith}
 use mir.Val.{Fits}
-use mir.Syntax.{w64}
+use mir.Syntax.{w16, w64}
 use lib.Dec.{eqb, lit<}
 use lib.Count.{trailingZeros, trailing-le, under}
-use lib.Pow.{pow-mono, high, low}
+use lib.Pow.{high, low}
 use lib.ListN.{length, getD, drop, length-drop}
 use borrow.Author.Tests.{eqb-false, eq-eqb, ne-eqb}
 use borrow.Author.Needs.{needs}
@@ -18,7 +18,7 @@ use Rattle.ground.specs.Choice.{pick, bit}
 use Rattle.ground.proofs.Cases.{le-or-lt, clash}
 use Rattle.ground.proofs.Stretch.{along-none, along-more, along-block, block-inside}
 use Rattle.text_places.specs.Places.{starts, startsPair}
-use Rattle.text_places.specs.inner.Blocks.{Without}
+use Rattle.text_places.specs.inner.Blocks.{maskOf, Without}
 use Rattle.text_places.proofs.PlaceLaws.{Seeking, seeking-starts, seeking-more, seeking, pairing, byte-other, pair-first-other, no-pair}
 use Rattle.text_places.proofs.LineLaws.{ToLf, lf-starts, lf-more, to-lf}
 
@@ -44,21 +44,13 @@ module _ {b : ℕ} {s : List ℕ} {at i : ℕ} {holds : Bool} (p : Passed b s at
 
 pub ruleset passing = (passed-none, passed-more, passed-all, needs)
 
--- what the mask of the bytes from the place `i` of a block on tells: as many of them as it has zeros at its end are not `b`
-pub record Masked (b : ℕ) (s : List ℕ) (at mask i : ℕ) : Type 0 where
-  pub few : i ≤ 16
-  pub small : mask < 2 ^ (16 - i)
-  pub none : (d k : ℕ) → k < trailingZeros d mask → i + k < 16 → getD s (at + (i + k)) 0 ≡ b → ⊥
-
-module _ (mask : ℕ) {x b : ℕ} where
-  pub digit-same : x ≡ b → mask * 2 + 1 ≡ mask * 2 + bit (eqb x b)
+-- The mask of a block.
+module _ {x b : ℕ} where
+  pub digit-same : x ≡ b → 1 ≡ bit (eqb x b)
   digit-same e = rw (eq-eqb x b e) refl
 
-  pub digit-other : (x ≡ b → ⊥) → mask * 2 ≡ mask * 2 + bit (eqb x b)
-  digit-other n = rw (ne-eqb x b n) (omega arith)
-
-pub masked-none : (b : ℕ) (s : List ℕ) (at : ℕ) → Masked b s at 0 16
-masked-none b s at = record { few = omega arith; small = lit< tt; none = λ d k h l. absurd (omega arith) }
+  pub digit-other : (x ≡ b → ⊥) → 0 ≡ bit (eqb x b)
+  digit-other n = rw (ne-eqb x b n) refl
 
 -- a number with one more digit below it
 bit-below : (m : ℕ) (t : Bool) → ((m * 2 + bit t) % 2 ≡ bit t) × ((m * 2 + bit t) / 2 ≡ m)
@@ -69,37 +61,91 @@ zeros-below : (d m : ℕ) (t : Bool) → trailingZeros (suc d) (m * 2 + bit t) �
 unfolding trailingZeros
 zeros-below d m t = ap₂ (λ (x y : ℕ). under x (trailingZeros d y)) (bit-below m t .0) (bit-below m t .1)
 
-module _ {b : ℕ} {s : List ℕ} {at mask i : ℕ} (m : Masked b s at mask i) where
-  pub masked-half : 0 < i → mask < 32768
-  masked-half h = let e : 2 ^ (16 - i) ≤ 2 ^ 15 = pow-mono {j = 15} (omega arith) in let z = m .small in omega arith
+module _ (b : ℕ) (s : List ℕ) where
+  -- it is made of halves
+  join-two : (at n : ℕ) → maskOf b s at (suc (suc n)) ≡ maskOf b s at 2 + 4 * maskOf b s (at + 2) n
+  unfolding maskOf
+  join-two at n = let e : at + 2 ≡ at + 1 + 1 = omega arith in rw e (omega arith)
 
-  pub masked-more : 0 < i → {r : ℕ} → r ≡ mask * 2 + bit (eqb (getD s (at + (i - 1)) 0) b) → Masked b s at r (i - 1)
-  masked-more h {r} e = record { few = omega (arith, m .few); small = rw e (wider (eqb (getD s (at + (i - 1)) 0) b)); none = λ d k l. past d k (eqb (getD s (at + (i - 1)) 0) b) refl (rw e at l) }
+  join-four : (at n : ℕ) → maskOf b s at (suc (suc (suc (suc n)))) ≡ maskOf b s at 4 + 16 * maskOf b s (at + 4) n
+  join-four at n =
+      let e : at + 4 ≡ at + 2 + 2 = omega arith in
+      rw e (omega (arith, join-two at (suc (suc n)), join-two (at + 2) n, join-two at 2))
+
+  join-eight : (at n : ℕ) → maskOf b s at (suc (suc (suc (suc (suc (suc (suc (suc n)))))))) ≡ maskOf b s at 8 + 256 * maskOf b s (at + 8) n
+  join-eight at n =
+      let e : at + 8 ≡ at + 4 + 4 = omega arith in
+      rw e (omega (arith, join-four at (suc (suc (suc (suc n)))), join-four (at + 4) n, join-four at 4))
+
+  mask-small : (at n : ℕ) → maskOf b s at n < 2 ^ n
+  unfolding maskOf
+  mask-small at zero = lit< tt
+  mask-small at (suc n) = rw (pow-suc 2 n) (go (eqb (getD s at 0) b) (mask-small (at + 1) n))
     where
-      wider : (t : Bool) → mask * 2 + bit t < 2 ^ (16 - (i - 1))
-      wider t =
-          let q : 16 - (i - 1) ≡ suc (16 - i) = omega (arith, m .few) in
-          let z = m .small in
-          rw q (rw (pow-suc 2 (16 - i)) (go t z))
-        where
-          go : (t : Bool) → mask < 2 ^ (16 - i) → mask * 2 + bit t < 2 ^ (16 - i) * 2
-          go true z = omega arith
-          go false z = omega arith
+      go : (t : Bool) → maskOf b s (at + 1) n < 2 ^ n → maskOf b s (at + 1) n * 2 + bit t < 2 ^ n * 2
+      go true z = omega arith
+      go false z = omega arith
 
-      past : (d k : ℕ) (t : Bool) → eqb (getD s (at + (i - 1)) 0) b ≡ t → k < trailingZeros d (mask * 2 + bit t) → i - 1 + k < 16 → getD s (at + (i - 1 + k)) 0 ≡ b → ⊥
-      past zero k t q l u v = absurd (let z = trailing-le 0 (mask * 2 + bit t) in omega arith)
-      past (suc d) k true q l u v = absurd (let z : k < 0 = rw (zeros-below d mask true) at l in omega arith)
-      past (suc d) zero false q l u v = eqb-false (getD s (at + (i - 1)) 0) b q (let w : at + (i - 1 + 0) ≡ at + (i - 1) = omega arith in rw w at v)
-      past (suc d) (suc k) false q l u v =
-          let z : suc k < suc (trailingZeros d mask) = rw (zeros-below d mask false) at l in
-          let w : at + (i - 1 + suc k) ≡ at + (i + k) = omega arith in
-          m .none d k (omega arith) (omega arith) (rw w at v)
+  -- as many bytes as it has zeros at its end are not `b`
+  mask-zeros : (n d at k : ℕ) → k < trailingZeros d (maskOf b s at n) → k < n → getD s (at + k) 0 ≡ b → ⊥
+  unfolding maskOf
+  mask-zeros zero d at k l u = absurd (omega arith)
+  mask-zeros (suc n) zero at k l u = absurd (let z = trailing-le 0 (maskOf b s (at + 1) n * 2 + bit (eqb (getD s at 0) b)) in omega arith)
+  mask-zeros (suc n) (suc d) at k l u =
+      past k (eqb (getD s at 0) b) refl (rw (zeros-below d (maskOf b s (at + 1) n) (eqb (getD s at 0) b)) at l) u (λ j. mask-zeros n d (at + 1) j)
+    where
+      past : (k : ℕ) (t : Bool) → eqb (getD s at 0) b ≡ t → k < under (bit t) (trailingZeros d (maskOf b s (at + 1) n)) → k < suc n →
+          ((j : ℕ) → j < trailingZeros d (maskOf b s (at + 1) n) → j < n → getD s (at + 1 + j) 0 ≡ b → ⊥) → getD s (at + k) 0 ≡ b → ⊥
+      past k true q l u m v = absurd (omega arith)
+      past zero false q l u m v = eqb-false (getD s at 0) b q (rw (add-zero at) at v)
+      past (suc k) false q l u m v =
+          let w : at + suc k ≡ at + 1 + k = omega arith in
+          m k (omega arith) (omega arith) (rw w at v)
 
-  pub masked-all : i ≤ 0 → (k : ℕ) → k < trailingZeros 16 mask → getD s (at + k) 0 ≡ b → ⊥
-  masked-all h k l v =
-      let z : i ≡ 0 = omega arith in
-      let w : at + (i + k) ≡ at + k = omega arith in
-      m .none 16 k l (omega (arith, trailing-le 16 mask)) (rw w v)
+  module _ (at : ℕ) {l h : ℕ} where
+    module _ (e : l ≡ bit (eqb (getD s at 0) b)) (f : h ≡ bit (eqb (getD s (at + 1) 0) b)) where
+      pub two-joined : l + 2 * h ≡ maskOf b s at 2
+      unfolding maskOf
+      two-joined = rw (e, f) (omega arith)
+
+      pub two-high : Fits w16 (2 * h)
+      two-high = let z = mask-small at 2 in let j = two-joined in omega arith
+
+      pub two-fits : Fits w16 (l + 2 * h)
+      two-fits = let z = mask-small at 2 in let j = two-joined in omega arith
+
+    module _ (e : l ≡ maskOf b s at 2) (f : h ≡ maskOf b s (at + 2) 2) where
+      pub four-joined : l + 4 * h ≡ maskOf b s at 4
+      four-joined = let j = join-two at 2 in omega arith
+
+      pub four-high : Fits w16 (4 * h)
+      four-high = let z = mask-small at 4 in let j = four-joined in omega arith
+
+      pub four-fits : Fits w16 (l + 4 * h)
+      four-fits = let z = mask-small at 4 in let j = four-joined in omega arith
+
+    module _ (e : l ≡ maskOf b s at 4) (f : h ≡ maskOf b s (at + 4) 4) where
+      pub eight-joined : l + 16 * h ≡ maskOf b s at 8
+      eight-joined = let j = join-four at 4 in omega arith
+
+      pub eight-high : Fits w16 (16 * h)
+      eight-high = let z = mask-small at 8 in let j = eight-joined in omega arith
+
+      pub eight-fits : Fits w16 (l + 16 * h)
+      eight-fits = let z = mask-small at 8 in let j = eight-joined in omega arith
+
+    module _ (e : l ≡ maskOf b s at 8) (f : h ≡ maskOf b s (at + 8) 8) where
+      whole : l + 256 * h ≡ maskOf b s at 16
+      whole = let j = join-eight at 8 in omega arith
+
+      pub whole-high : Fits w16 (256 * h)
+      whole-high = let z = mask-small at 16 in let j = whole in omega arith
+
+      pub whole-fits : Fits w16 (l + 256 * h)
+      whole-fits = let z = mask-small at 16 in let j = whole in omega arith
+
+      pub whole-zeros : (k : ℕ) → k < trailingZeros 16 (l + 256 * h) → getD s (at + k) 0 ≡ b → ⊥
+      whole-zeros k u = mask-zeros 16 16 at k (rw whole at u) (omega (arith, trailing-le 16 (l + 256 * h)))
 
 pub without-none : (b : ℕ) (s : List ℕ) («from» : ℕ) → «from» ≤ length s → Without b s «from» «from»
 without-none b s f h = along-none (λ x. x ≡ b → ⊥) s f h
@@ -114,17 +160,33 @@ module _ {b : ℕ} {s : List ℕ} {«from» to : ℕ} (w : Without b s «from» 
   pub without-in-block : (r : ℕ) → r ≤ 16 → ((k : ℕ) → k < r → getD s (to + k) 0 ≡ b → ⊥) → Without b s «from» (to + r)
   without-in-block r l n = along-more w r (omega (arith, w .inside)) n
 
+-- the last block, where fewer bytes than a block are left
+module _ {b : ℕ} {s : List ℕ} {«from» to : ℕ} (w : Without b s «from» to) (h : length s - to < 16) (l : 16 ≤ length s - «from») where
+  pub last-room : length s - 16 + 16 ≤ length s
+  last-room = omega arith
+
+  pub last-in-block : (r : ℕ) → r ≤ 16 → ((k : ℕ) → k < r → getD s (length s - 16 + k) 0 ≡ b → ⊥) → Without b s «from» (length s - 16 + r)
+  last-in-block r u n = record { goes = omega arith; inside = omega arith; each = λ i f g. go i f g (le-or-lt (length s - 16) i) }
+    where
+      go : (i : ℕ) → «from» ≤ i → i < length s - 16 + r → (length s - 16 ≤ i) ⊎ (i < length s - 16) → getD s i 0 ≡ b → ⊥
+      go i f g (inl o) = let e : length s - 16 + (i - (length s - 16)) ≡ i = omega arith in rw e at (n (i - (length s - 16)) (omega arith))
+      go i f g (inr o) = w .each i f (omega arith)
+
+  pub last-none : {r : Bool} → (r ≡ false → (k : ℕ) → k < 16 → getD s (length s - 16 + k) 0 ≡ b → ⊥) → r ≡ false → Without b s «from» (length s)
+  last-none n f = let e : length s - 16 + 16 ≡ length s = omega arith in rw e at (last-in-block 16 (omega arith) (n f))
+
 pub zeros-fit : (mask : ℕ) → Fits w64 (trailingZeros 16 mask)
 zeros-fit mask = record { fits = omega (arith, trailing-le 16 mask) }
 
 pub ruleset digits = (digit-same, digit-other, needs)
 
-pub ruleset masking = (masked-none, masked-half, masked-more, masked-all, zeros-fit, trailing-le, needs)
+pub ruleset masking =
+    (two-joined, two-high, two-fits, four-joined, four-high, four-fits, eight-joined, eight-high, eight-fits, whole-high, whole-fits, whole-zeros, zeros-fit, trailing-le, needs)
 
-pub ruleset blocks = (without-none, without-room, without-block, without-in-block, needs)
+pub ruleset blocks = (without-none, without-room, without-block, without-in-block, last-room, last-in-block, last-none, needs)
 
 -- A search that passes a stretch in which nothing is found.
-seek-past : (p : List ℕ → Bool) (s : List ℕ) (n at : ℕ) → Seeking p s at → at + n ≤ length s →
+pub seek-past : (p : List ℕ → Bool) (s : List ℕ) (n at : ℕ) → Seeking p s at → at + n ≤ length s →
     ((i : ℕ) → i < at + n → p (drop i s) ≡ false) → Seeking p s (at + n)
 seek-past p s zero at k h f = rw add-zero k
 seek-past p s (suc n) at k h f =
@@ -152,7 +214,7 @@ module _ {b : ℕ} {s : List ℕ} {to : ℕ} (w : Without b s 0 to) where
       rw q at (seek-past (startsPair b c) s to 0 (seeking-starts (startsPair b c) s) (omega (arith, w .inside))
       (λ i l. pair-not b c s i (omega (arith, w .inside)) (w .each i (omega arith) (omega arith))))
 
-lf-past : (s : List ℕ) («from» n at : ℕ) → ToLf s «from» at → at + n ≤ length s → ((i : ℕ) → at ≤ i → i < at + n → getD s i 0 ≡ 0x0A → ⊥) → ToLf s «from» (at + n)
+pub lf-past : (s : List ℕ) («from» n at : ℕ) → ToLf s «from» at → at + n ≤ length s → ((i : ℕ) → at ≤ i → i < at + n → getD s i 0 ≡ 0x0A → ⊥) → ToLf s «from» (at + n)
 lf-past s f zero at k h e = rw add-zero k
 lf-past s f (suc n) at k h e =
     let q : at + 1 + n ≡ at + suc n = omega arith in

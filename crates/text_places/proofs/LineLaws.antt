@@ -19,7 +19,7 @@ use Rattle.ground.specs.Put.{between}
 use Rattle.ground.proofs.Cases.{le-or-lt}
 use Rattle.text_places.specs.declared.lines.NextLine.the-variants.{Line, NoLine}
 use Rattle.text_places.specs.Lines.{onto, rawLines, crEnd, lines, Taken}
-use Rattle.text_places.specs.inner.NextLine.{toLf, lineFrom, nextLine}
+use Rattle.text_places.specs.inner.NextLine.{NextStart, toLf, lineFrom, nextLine}
 
 pub to-lf-le : (l : List ℕ) → toLf l ≤ length l
 unfolding toLf
@@ -66,7 +66,15 @@ module _ {s : List ℕ} {«from» at : ℕ} (k : ToLf s «from» at) where
       decides = rw add-one (rw (suc-add, ← add-suc) (rw (drop-cons s at 0 h, ne-eqb (getD s at 0) 0x0A e) at (k .decides)));
     }
 
-pub ruleset to-lf = (lf-starts, lf-none, lf-found, lf-more, needs)
+-- where it stands first or second
+module _ (s : List ℕ) («from» : ℕ) (h : 1 < length s - «from») where
+  pub lf-first : getD s «from» 0 ≡ 0x0A → «from» ≡ «from» + toLf (drop «from» s)
+  lf-first e = lf-found (lf-starts s «from» (omega arith)) (omega arith) e
+
+  pub lf-second : (getD s «from» 0 ≡ 0x0A → ⊥) → getD s («from» + 1) 0 ≡ 0x0A → «from» + 1 ≡ «from» + toLf (drop «from» s)
+  lf-second n e = lf-found (lf-more (lf-starts s «from» (omega arith)) (omega arith) n) (omega arith) e
+
+pub ruleset to-lf = (lf-starts, lf-none, lf-found, lf-more, lf-first, lf-second, needs)
 
 -- The CR at a line's end, from its last byte backwards.
 cr-last : (l : List ℕ) (b : ℕ) → crEnd (l ++ (b ∷ [])) ≡ pick (eqb b 0x0D) (crEnd l) (suc (length l))
@@ -151,6 +159,15 @@ module _ (s : List ℕ) (at : ℕ) {lf : ℕ} (e : lf ≡ at + toLf (drop at s))
     line-fits b =
         let short : n ≤ toLf (drop at s) = rw (f, size) (omega (arith, cr-end-le (take (toLf (drop at s)) (drop at s)), length-take (toLf (drop at s)) (drop at s))) in
         omega (arith, to-lf-le (drop at s), length-drop at s)
+
+  module _ (h : at < length s) where
+    pub start-in-lf : lf < length s → NextStart s at (lf + 1)
+    start-in-lf i = record { «end» = at + crEnd (between s at lf); line = sym (line-ends-in-lf h refl i) }
+
+    pub start-text : length s ≤ lf → NextStart s at lf
+    start-text i = record { «end» = at + crEnd (between s at lf); line = sym (line-ends-text h refl i) }
+
+pub ruleset next-starts = (lf-inside, start-in-lf, start-text, needs)
 
 pub ruleset next-line = (line-none, lf-after, lf-inside, line-ends-in-lf, line-ends-text, line-fits, needs)
 

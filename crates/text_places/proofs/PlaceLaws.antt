@@ -122,7 +122,25 @@ backing-inside k h = let i = k .inside in omega arith
 
 pub ruleset seeking = (seeking-starts, seeking-ends, seeking-found, seeking-more, byte-here, byte-other, needs)
 
-pub ruleset backing = (backing-starts, backing-ends, backing-found, backing-more, byte-here, byte-other, backing-inside, needs)
+-- Two bytes a turn.
+module _ {b : ℕ} {s : List ℕ} {«end» : ℕ} (k : Backing (starts b) s «end») (h : 0 < «end») (n : getD s («end» - 1) 0 ≡ b → ⊥) where
+  one-less : Backing (starts b) s («end» - 1)
+  one-less = backing-more k h (byte-other b s («end» - 1) (omega (arith, k .inside)) n)
+
+  pub second-ends : «end» - 1 ≡ 0 → Nowhere ≡ lastWhere (starts b) s
+  second-ends z = backing-ends one-less (omega arith)
+
+  module _ (z : «end» - 1 ≡ 0 → ⊥) where
+    some-left : 0 < «end» - 1
+    some-left = omega arith
+
+    pub second-found : getD s («end» - 1 - 1) 0 ≡ b → At («end» - 1 - 1) ≡ lastWhere (starts b) s
+    second-found e = backing-found one-less some-left (byte-here b s («end» - 1 - 1) (omega (arith, k .inside)) e)
+
+    pub second-more : (getD s («end» - 1 - 1) 0 ≡ b → ⊥) → Backing (starts b) s («end» - 1 - 1)
+    second-more e = backing-more one-less some-left (byte-other b s («end» - 1 - 1) (omega (arith, k .inside)) e)
+
+pub ruleset backing = (backing-starts, backing-ends, backing-found, backing-more, byte-here, byte-other, backing-inside, second-ends, second-found, second-more, needs)
 
 -- Two bytes.
 module _ (a b : ℕ) (s : List ℕ) (at : ℕ) (h : at + 1 < length s) where

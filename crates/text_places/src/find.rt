@@ -33,7 +33,15 @@ pub fn last_byte(s: &[u8], b: u8) -> Place
         if s[at] == b {
             return Place::At(at);
         }
-        end = at;
+        if at == 0 {
+            return Place::Nowhere;
+        }
+        // two bytes a turn: of a loop that can end at one place only the compiler counts what follows along with it
+        let before = at - 1;
+        if s[before] == b {
+            return Place::At(before);
+        }
+        end = before;
     }
     Place::Nowhere
 }

@@ -17,6 +17,7 @@ pub use find::last_byte;
 pub use find::same_bytes;
 pub use lines::NextLine;
 pub use lines::next_line;
+pub use lines::next_start;
 pub use numbers::bit_number;
 pub use spans::Span;
 pub use spans::shifted;

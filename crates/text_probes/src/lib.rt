@@ -75,7 +75,7 @@ pub extern "C" fn clumarief_probe_trim(text: &[u8], answer: &mut [u64; 8])
         start as u64,
         end as u64,
         text_white::after_marks(text) as u64,
-        text_places::bit_number(text_white::starts_white(text)) as u64,
+        text_places::bit_number(text_white::white_at(text, 0)) as u64,
         place_number(text_white::first_white(text)),
         place_number(text_white::last_white(text)),
     ];

@@ -65,6 +65,6 @@ ascii-on {s} {at} {mid} {to} a b = record { goes = omega (arith, a .goes, b .goe
 pub ascii-inside : {s : List ℕ} {at to : ℕ} → AsciiTo s at to → to ≤ length s
 ascii-inside a = a .inside
 
-pub ruleset ascii-starts = (ascii-on, ascii-inside, needs)
+pub ruleset ascii-starts = (ascii-none, ascii-on, ascii-inside, needs)
 
 pub ruleset ascii-runs = (ascii-none, ascii-byte, ascii-room, ascii-block, needs)

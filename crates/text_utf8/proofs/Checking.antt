@@ -67,13 +67,13 @@ checked-run {s} {at} {to} c a = checked-steps (to - at) (omega arith) c a
 pub checked-first : {s : List ℕ} {to : ℕ} → AsciiTo s 0 to → Checked s to
 checked-first {s} a = checked-run (checked-none s) a
 
--- an ASCII byte, a run of blocks after it, and a run of bytes after that
-module _ {s : List ℕ} {at blocks to : ℕ} (c : Checked s at) (h : at < length s) (b : getD s at 0 < 0x80) (a : AsciiTo s (at + 1) blocks) (e : AsciiTo s blocks to) where
+-- an ASCII byte, and a run of such after it
+module _ {s : List ℕ} {at to : ℕ} (c : Checked s at) (h : at < length s) (b : getD s at 0 < 0x80) (a : AsciiTo s (at + 1) to) where
   pub checked-runs : Checked s to
-  checked-runs = checked-run (checked-run (checked-ascii c h b) a) e
+  checked-runs = checked-run (checked-ascii c h b) a
 
   pub runs-fall : length s - to < length s - at
-  runs-fall = omega (arith, a .goes, e .goes)
+  runs-fall = omega (arith, a .goes)
 
 pub run-inside : {s : List ℕ} {at to : ℕ} → AsciiTo s at to → to ≤ length s
 run-inside a = a .inside

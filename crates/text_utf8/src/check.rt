@@ -69,6 +69,20 @@ fn ascii_bytes(s: &[u8], start: usize) -> usize
     at
 }
 
+// The same: no block is asked where the first byte is not ASCII, as in lines of other scripts.
+fn ascii_end(s: &[u8], start: usize) -> usize
+    requires { ⌜ start ≤ length (now s) ⌝ }
+    ensures { λ r. ⌜ AsciiTo (now (s .entry)) start r ⌝ }
+{
+    if start < s.len() {
+        if 0x7F < s[start] {
+            return start;
+        }
+    }
+    let blocks = ascii_blocks(s, start);
+    ascii_bytes(s, blocks)
+}
+
 // The place up to which a text is ASCII.
 pub fn ascii_start(s: &[u8]) -> usize
     ensures { λ r. ⌜ AsciiTo (now (s .entry)) 0 r ⌝ }
@@ -142,8 +156,7 @@ pub fn check_text(s: &[u8]) -> Check
     let mut at = ascii_blocks(s, 0);
     while at < s.len() {
         if s[at] < 0x80 {
-            let blocks = ascii_blocks(s, at + 1);
-            at = ascii_bytes(s, blocks);
+            at = ascii_end(s, at + 1);
             continue;
         }
         let length = good_length(s, at);

@@ -20,7 +20,7 @@ use Rattle.text_white.specs.White.{isWhite}
 use Rattle.text_white.specs.Trim.{allWhite, trimStart, trimEnd, trimBoth}
 use Rattle.text_white.specs.inner.Before.{whiteLength, Before}
 use Rattle.text_white.proofs.Ink.{ink, ink-reads, ink-dark, run-ink, space-white, space-reads}
-use Rattle.text_white.proofs.TrimLaws.{run-starts}
+use Rattle.text_white.proofs.TrimLaws.{run-starts, both-part, both-fits, both-trimmed}
 use Rattle.text_utf8.proofs.Leads.{lead-low-none}
 use Rattle.text_utf8.proofs.Sequences.{good-fits, end-empty, tails-fit, first-good, second-good, went-on}
 use Rattle.text_utf8.proofs.Pieces.{pieces-none, pieces-good, pieces-bad}
@@ -65,7 +65,7 @@ tails-inner (suc n) low high code taken (x ∷ l) f c e zero h =
 tails-inner (suc n) low high code taken (x ∷ l) f c e (suc k) h =
     tails-inner n 0x80 0xBF (code * 64 + (x - 0x80)) (taken + 1) l (lit≤ tt) (lit≤ tt) (first-good (within low high x) taken e) k (omega arith)
 
-good-inner : (l : List ℕ) {d m : ℕ} → sequenceOf l ≡ Good d m → (k : ℕ) → 0 < k → k < m → (0x80 ≤ getD l k 0) × (getD l k 0 ≤ 0xBF)
+pub good-inner : (l : List ℕ) {d m : ℕ} → sequenceOf l ≡ Good d m → (k : ℕ) → 0 < k → k < m → (0x80 ≤ getD l k 0) × (getD l k 0 ≤ 0xBF)
 unfolding sequenceOf afterLead
 good-inner [] e k p h = absurd (let z : _≡_ {A = ℕ} 0 1 = cc in omega arith)
 good-inner (x ∷ l) e zero p h = absurd (omega arith)
@@ -315,4 +315,4 @@ inked-end s {n} e h {b} f q = go (trimStart s) e
         let v : length s ≡ m + trimEnd (drop m s) = omega arith in
         ap₂ (λ x y. record { start = x; «end» = y }) z v
 
-pub ruleset trimmed = (inked-ends, inked-end, needs)
+pub ruleset trimmed = (inked-ends, inked-end, both-part, both-fits, both-trimmed, needs)

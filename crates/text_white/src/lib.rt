@@ -6,9 +6,12 @@ mod white;
 
 pub use trim::after_marks;
 pub use trim::first_white;
+pub use trim::is_wide;
 pub use trim::last_white;
-pub use trim::starts_white;
 pub use trim::trim_both;
 pub use trim::trim_end;
+pub use trim::trim_ends;
 pub use trim::trim_start;
+pub use trim::white_at;
+pub use trim::white_length;
 pub use white::is_white;

@@ -27,7 +27,7 @@ fn is_ink(b: u8) -> bool
 }
 
 // Whether a white space character stands at a place.
-fn white_at(s: &[u8], at: usize) -> bool
+pub fn white_at(s: &[u8], at: usize) -> bool
     ensures { λ r. ⌜ r ≡ startsWhite (drop at (now (s .entry))) ⌝ }
 {
     if s.len() <= at {
@@ -40,13 +40,6 @@ fn white_at(s: &[u8], at: usize) -> bool
         return false;
     }
     true
-}
-
-// Whether the first character of a text is white space.
-pub fn starts_white(s: &[u8]) -> bool
-    ensures { λ r. ⌜ r ≡ startsWhite (now (s .entry)) ⌝ }
-{
-    white_at(s, 0)
 }
 
 // Where a text starts without the white space at its start.
@@ -98,7 +91,7 @@ pub fn after_marks(s: &[u8]) -> usize
 
 // Whether U+3000 stands at a place: of the white space that is not ASCII the one that texts have, and the last that the table has. Promised
 // is only what passing it needs.
-fn is_wide(s: &[u8], at: usize) -> bool
+pub fn is_wide(s: &[u8], at: usize) -> bool
     ensures { λ r. ⌜ (r ≡ true → sequenceOf (drop at (now (s .entry))) ≡ Good 0x3000 3) ⌝ }
 {
     if s.len() < 3 {
@@ -117,7 +110,7 @@ fn is_wide(s: &[u8], at: usize) -> bool
 }
 
 // The length of the white space character at a place, 0 where there is none.
-fn white_length(s: &[u8], at: usize) -> usize
+pub fn white_length(s: &[u8], at: usize) -> usize
     ensures { λ r. ⌜ r ≡ whiteLength (drop at (now (s .entry))) ⌝ }
 {
     if is_wide(s, at) {
@@ -186,7 +179,7 @@ pub fn trim_end(s: &[u8]) -> usize
 pub fn trim_both(s: &[u8]) -> Span
     ensures { λ r. ⌜ r ≡ trimBoth (now (s .entry)) ⌝ }
 {
-    // most texts have nothing to trim at their end, and many none at their start: two bytes tell
+    // many texts have nothing to trim: two bytes tell. What is asked here is so little that the compiler puts it where it is called.
     let length = s.len();
     if 0 < length {
         if is_ink(s[length - 1]) {
@@ -196,20 +189,24 @@ pub fn trim_both(s: &[u8]) -> Span
                     end: length,
                 };
             }
-            let start = trim_start(&s[..]);
-            if start < length {
-                return Span { start, end: length };
-            }
         }
     }
     // made anew of its two numbers: a slice that was just made is waited for where it is handed on whole
     trim_ends(&s[..])
 }
 
-fn trim_ends(s: &[u8]) -> Span
+// The same, for texts that mostly have something to trim, as lines have at their start.
+pub fn trim_ends(s: &[u8]) -> Span
     ensures { λ r. ⌜ r ≡ trimBoth (now (s .entry)) ⌝ }
 {
     let start = trim_start(s);
+    if start < s.len() {
+        let last = s.len() - 1;
+        if is_ink(s[last]) {
+            let end = s.len();
+            return Span { start, end };
+        }
+    }
     let length = trim_end(&s[start..]);
     Span {
         start,
@@ -224,7 +221,15 @@ pub fn first_white(s: &[u8]) -> Place
     let mut at = 0;
     while at < s.len() {
         if is_ink(s[at]) {
-            at += 1;
+            // up to two bytes a turn: what follows a loop of one the compiler counts along with it
+            let next = at + 1;
+            if next < s.len() {
+                if is_ink(s[next]) {
+                    at = next + 1;
+                    continue;
+                }
+            }
+            at = next;
             continue;
         }
         if white_at(s, at) {

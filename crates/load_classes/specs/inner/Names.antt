@@ -1,8 +1,11 @@
 -- The names of a class line.
 use mathlib.Core.Path.{_≡_}
+use mathlib.Core.Bool.{Bool, true}
 use mathlib.Core.List.{List, [], _∷_}
 use Prim.Native.Nat.{ℕ}
+use lib.Dec.{eqb}
 use lib.ListN.{length}
+use Rattle.ground.specs.Choice.{pick}
 use Rattle.text_places.specs.Spans.{partOf, Lies}
 use Rattle.line.specs.Kinds.{lineOf}
 use Rattle.table_pool.specs.Names.{classDescriptor}
@@ -25,3 +28,7 @@ pub record NamedAt (l : List ℕ) (ns : ClassNames) : Type 0 where
 abbrev pub NamedBy : ClassLine → List ℕ → Type 0
 NamedBy (Names ns) l = NamedAt l ns
 NamedBy Other l = classIn l (lineOf l) ≡ []
+
+-- a byte with which no class line starts, nor a text whose first line is one
+abbrev pub opensNoClass : ℕ → Bool
+opensNoClass b = pick (eqb b 0x20) true (pick (eqb b 0x23) true (pick (eqb b 0x0A) true (eqb b 0x0D)))

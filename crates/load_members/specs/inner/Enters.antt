@@ -1,5 +1,6 @@
 -- What entering a line says.
 use mathlib.Core.Path.{_≡_}
+use mathlib.Core.Bool.{true}
 use mathlib.Core.Logic.{_⊎_}
 use mathlib.Core.List.{List}
 use Prim.Native.Nat.{ℕ, _+_, _-_, _≤_, _<_}
@@ -13,8 +14,8 @@ use Rattle.tables.specs.Back.{readBack}
 use Rattle.load_raw_types.specs.inner.Behind.{Indexed}
 use Rattle.load_rule.specs.Comments.{residualIn}
 use Rattle.load_rule.specs.Loading.{mostText}
-use Rattle.load_residual.specs.declared.residual.Passed.{Passed}
-use Rattle.load_residual.specs.inner.Passes.{passedOf, Passes}
+use Rattle.load_residual.specs.declared.residual.Residual.{Residual}
+use Rattle.load_residual.specs.inner.Residuals.{Gives, heeded}
 use Rattle.load_texts.specs.declared.texts.MemberLine.{MemberLine}
 use Rattle.load_texts.specs.declared.texts.Places.{Places}
 use Rattle.load_texts.specs.inner.Texts.{MemberIn, MemberTexts, textsOf, allTexts}
@@ -31,10 +32,15 @@ use Rattle.load_members.specs.inner.Roles.{roleOf}
 abbrev pub slotAt : ℕ → ℕ → ℕ → ℕ → ℕ → Slot
 slotAt row place classes own own-end = record { row = row; place = place; classes = classes; own = own; «own_end» = own-end }
 
--- a member line has its parts in it, and stands under a class line
+-- a member line has its parts in it, stands under a class line, and is the last member of its class
 pub record MemberReady (s : List ℕ) (x : LineStep) (t : Slot) (parts : MemberLine) : Type 0 where
   pub lies : MemberIn parts (length (bytesOf s x))
   pub classed : 1 ≤ t .classes
+  pub lasts : x .«has_member» ≡ true
+
+-- what the lines behind the line `x` give to it
+pub record Behind (s : List ℕ) (x : LineStep) (r : Residual) : Type 0 where
+  pub gives : Gives (drop (x .next) s) r (heeded (x .«has_member») (residualIn (lines (drop (x .next) s))))
 
 abbrev pub RoleReady : Role → List ℕ → LineStep → Slot → Type 0
 RoleReady Neither s x t = Unit {0}
@@ -58,26 +64,24 @@ pub record Ready (s : List ℕ) (rows : List (List ℕ)) (index : List ℕ) (x :
 abbrev pub textsIn : List ℕ → List Pair → LineStep → Slot → MemberLine → MemberTexts
 textsIn s cs x t parts = textsOf cs (residualIn (lines (drop (x .next) s))) (partOf s (span (t .own) (t .«own_end»))) (bytesOf s x) parts
 
--- the member is written: its texts into the pool `p`, its row into the rows `m`; the next one goes to `t₁`. What is passed stands
--- behind its line.
-pub record WrittenMember (t₁ : Slot) (passed : Passed) (s : List ℕ) (rows : List (List ℕ)) (x : LineStep) (parts : MemberLine) (t : Slot)
+-- the member is written: its texts into the pool `p`, its row into the rows `m`; the next one goes to `t₁`
+pub record WrittenMember (t₁ : Slot) (s : List ℕ) (rows : List (List ℕ)) (x : LineStep) (parts : MemberLine) (t : Slot)
     (m : List (List ℕ)) (p : List ℕ) (m₁ : List (List ℕ)) (p₁ : List ℕ) : Type 0 where
   pub places : Places
   pub texts : EnteredTexts places p (t .place) (textsIn s (readBack rows p) x t parts) p₁
   pub room : t .row < length m
   pub row : m₁ ≡ set m (t .row) (packMember (memberPlaced (t .classes - 1) (t .place) places (parts .body)))
   pub next : t₁ ≡ slotAt (t .row + 1) (places .«end») (t .classes) (t .own) (t .«own_end»)
-  pub behind : Passes (drop (x .next) s) passed
 
 abbrev pub WrittenMemberBy : NextSlot → List ℕ → List (List ℕ) → LineStep → MemberLine → Slot →
     List (List ℕ) → List ℕ → List (List ℕ) → List ℕ → Type 0
-WrittenMemberBy (At t₁ passed) s rows x parts t m p m₁ p₁ = WrittenMember t₁ passed s rows x parts t m p m₁ p₁
+WrittenMemberBy (At t₁) s rows x parts t m p m₁ p₁ = WrittenMember t₁ s rows x parts t m p m₁ p₁
 WrittenMemberBy NoRoom s rows x parts t m p m₁ p₁ =
     (length m ≤ t .row) ⊎ (length p < t .place + length (allTexts (textsIn s (readBack rows p) x t parts)))
 
--- nothing is written, and nothing passed
+-- nothing is written
 pub record Kept (r : NextSlot) (t : Slot) (m : List (List ℕ)) (p : List ℕ) (m₁ : List (List ℕ)) (p₁ : List ℕ) : Type 0 where
-  pub answer : r ≡ At t (passedOf 0 0 0 0)
+  pub answer : r ≡ At t
   pub rows : m₁ ≡ m
   pub pool : p₁ ≡ p
 

@@ -1,4 +1,4 @@
--- What became of the lines that were read with the member before them.
+-- What became of the lines that were read with the class line or the member line before them.
 use Prim.Native.Nat.{_+_}
 use Rattle.load_rule.specs.declared.Fates.{Fates}
 use Rattle.load_residual.specs.declared.residual.Passed.{Passed}

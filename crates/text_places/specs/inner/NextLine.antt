@@ -1,4 +1,5 @@
 -- What `next_line` answers, step by step as the code goes. That it is a line of the rule is the law `line-split`.
+use mathlib.Core.Path.{_≡_}
 use mathlib.Core.List.{List, [], _∷_}
 use Prim.Native.Nat.{ℕ, suc, _+_}
 use lib.Dec.{eqb, ltb}
@@ -25,3 +26,8 @@ lineFrom at (b ∷ s) =
 -- the line that starts at the place `at` of a text
 abbrev pub nextLine : List ℕ → ℕ → NextLine
 nextLine s at = lineFrom at (drop at s)
+
+-- the line at the place `at` ends somewhere, and the following one starts at `next`
+pub record NextStart (s : List ℕ) (at next : ℕ) : Type 0 where
+  pub «end» : ℕ
+  pub line : nextLine s at ≡ Line at «end» next

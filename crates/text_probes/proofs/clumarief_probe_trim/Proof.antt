@@ -15,8 +15,8 @@ trim-end-requires c κs = search counted
 after-marks-requires : tie.Need-after-marks-requires
 after-marks-requires c κs = search counted
 
-starts-white-requires : tie.Need-starts-white-requires
-starts-white-requires c κs = search counted
+white-at-requires : tie.Need-white-at-requires
+white-at-requires c κs = search counted
 
 bit-number-requires : tie.Need-bit-number-requires
 bit-number-requires c κs = search counted
@@ -47,7 +47,7 @@ clumarief-probe-trim-spec =
     trim-start-requires
     trim-end-requires
     after-marks-requires
-    starts-white-requires
+    white-at-requires
     bit-number-requires
     cast-t16
     first-white-requires

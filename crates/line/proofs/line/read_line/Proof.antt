@@ -3,8 +3,8 @@ use Rattle.line.proofs.Kinding.{kinding}
 use Rattle.line.proofs.line.read_line.Statement.{statement}
 use Rattle.line.proofs.line.read_line.Tie as tie
 
-trim-both-requires : tie.Need-trim-both-requires
-trim-both-requires c κs = search kinding
+trim-ends-requires : tie.Need-trim-ends-requires
+trim-ends-requires c κs = search kinding
 
 returns : tie.Need-returns
 returns c = search kinding
@@ -43,7 +43,7 @@ pub read-line-spec : {M : Type 1} → statement M
 read-line-spec =
     tie.close
     (tie.spec
-    trim-both-requires
+    trim-ends-requires
     returns
     sub-trimmed
     part-trimmed-start

@@ -6,14 +6,28 @@ use Rattle.load_classes.proofs.write.write_classes.Statement.{statement
 use Rattle.load_classes.proofs.write.write_classes.Tie as tie
 
 abbrev Inv-loop : tie.InvT-loop
-Inv-loop text classes₀ pool₀ at₀ count₀ end₀ classes pool at count end =
-    Writing text classes₀ pool₀ at count «end» classes pool
+Inv-loop text classes₀ pool₀ at₀ count₀ end₀ classes pool at count end = Writing text classes₀ pool₀ at count «end» classes pool
 
 abbrev μ-loop : tie.MeasureT-loop
 μ-loop text classes₀ pool₀ at₀ count₀ end₀ classes pool at count end = length text - at
 
 loop-holds : tie.Need-loop-holds Inv-loop μ-loop
 loop-holds c = search writing
+
+shared-slice-read-opens-no-class : tie.Need-shared-slice-read-opens-no-class Inv-loop μ-loop
+shared-slice-read-opens-no-class c = search writing
+
+opens-no-class-requires : tie.Need-opens-no-class-requires Inv-loop μ-loop
+opens-no-class-requires c κs = search writing
+
+next-start-requires : tie.Need-next-start-requires Inv-loop μ-loop
+next-start-requires c κs = search writing
+
+loop-less : tie.Need-loop-less Inv-loop μ-loop
+loop-less c = search writing
+
+loop-again : tie.Need-loop-again Inv-loop μ-loop
+loop-again c = search writing
 
 next-line-requires : tie.Need-next-line-requires Inv-loop μ-loop
 next-line-requires c κs = search writing
@@ -51,11 +65,11 @@ enum-known-names c = search writing
 enum-told-2 : tie.Need-enum-told-2 Inv-loop μ-loop
 enum-told-2 c = search writing
 
-loop-less : tie.Need-loop-less Inv-loop μ-loop
-loop-less c = search writing
+loop-less-2 : tie.Need-loop-less-2 Inv-loop μ-loop
+loop-less-2 c = search writing
 
-loop-again : tie.Need-loop-again Inv-loop μ-loop
-loop-again c = search writing
+loop-again-2 : tie.Need-loop-again-2 Inv-loop μ-loop
+loop-again-2 c = search writing
 
 same-length-3 : tie.Need-same-length-3 Inv-loop μ-loop
 same-length-3 c = search writing
@@ -87,11 +101,11 @@ returns-3 c = search writing
 add-count : tie.Need-add-count Inv-loop μ-loop
 add-count c = search writing
 
-loop-less-2 : tie.Need-loop-less-2 Inv-loop μ-loop
-loop-less-2 c = search writing
+loop-less-3 : tie.Need-loop-less-3 Inv-loop μ-loop
+loop-less-3 c = search writing
 
-loop-again-2 : tie.Need-loop-again-2 Inv-loop μ-loop
-loop-again-2 c = search writing
+loop-again-3 : tie.Need-loop-again-3 Inv-loop μ-loop
+loop-again-3 c = search writing
 
 same-length-7 : tie.Need-same-length-7 Inv-loop μ-loop
 same-length-7 c = search writing
@@ -109,6 +123,11 @@ write-classes-spec =
     Inv-loop
     μ-loop
     loop-holds
+    shared-slice-read-opens-no-class
+    opens-no-class-requires
+    next-start-requires
+    loop-less
+    loop-again
     next-line-requires
     enum-known-start
     enum-told
@@ -121,8 +140,8 @@ write-classes-spec =
     class-line-requires
     enum-known-names
     enum-told-2
-    loop-less
-    loop-again
+    loop-less-2
+    loop-again-2
     same-length-3
     same-length-4
     returns-2
@@ -133,8 +152,8 @@ write-classes-spec =
     same-length-6
     returns-3
     add-count
-    loop-less-2
-    loop-again-2
+    loop-less-3
+    loop-again-3
     same-length-7
     same-length-8
     returns-4)

@@ -9,9 +9,6 @@ role-of-requires c κs = search line-slots
 enum-told : tie.Need-enum-told
 enum-told c = search line-slots
 
-none-passed-requires : tie.Need-none-passed-requires
-none-passed-requires c κs = search line-slots
-
 enum-known-display : tie.Need-enum-known-display
 enum-known-display c = search line-slots
 
@@ -23,9 +20,6 @@ add-named-2 c = search line-slots
 
 add-named-3 : tie.Need-add-named-3
 add-named-3 c = search line-slots
-
-none-passed-requires-2 : tie.Need-none-passed-requires-2
-none-passed-requires-2 c κs = search line-slots
 
 enum-known-parts : tie.Need-enum-known-parts
 enum-known-parts c = search line-slots
@@ -54,12 +48,10 @@ enter-line-spec =
     (tie.spec
     role-of-requires
     enum-told
-    none-passed-requires
     enum-known-display
     add-named
     add-named-2
     add-named-3
-    none-passed-requires-2
     enum-known-parts
     enter-member-requires
     returns

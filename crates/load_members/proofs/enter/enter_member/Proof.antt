@@ -1,6 +1,5 @@
 -- `load_members::enter::enter_member` meets its contract, by the laws of Slots.
-use native.Mathlib.Omega.{arith}
-use Rattle.load_members.proofs.Slots.{member-slots, member-at}
+use Rattle.load_members.proofs.Slots.{member-slots}
 use Rattle.load_members.proofs.enter.enter_member.Statement.{statement}
 use Rattle.load_members.proofs.enter.enter_member.Tie as tie
 
@@ -34,9 +33,6 @@ part-own-start c = search member-slots
 part-own-end : tie.Need-part-own-end
 part-own-end c = search member-slots
 
-residual-after-requires : tie.Need-residual-after-requires
-residual-after-requires c κs = search member-slots
-
 write-texts-requires : tie.Need-write-texts-requires
 write-texts-requires c κs = search member-slots
 
@@ -53,19 +49,19 @@ returns-2 : tie.Need-returns-2
 returns-2 c = search member-slots
 
 sub-member-row : tie.Need-sub-member-row
-sub-member-row c = let m = c .before .before .before .before .before .before .before .before .before .before .before .before .before .before .before .before .pre .1 .classed in omega arith
+sub-member-row c = search member-slots
 
 member-row-requires : tie.Need-member-row-requires
 member-row-requires c κs = search member-slots
 
-mul-t26 : tie.Need-mul-t26
-mul-t26 c = let a = c .before .before .before .before .before .before .before .before .before .before .before .before .before .if1 .left in let g = c .before .before .before .before .before .before .before .before .before .before .before .before .before .before .before .before .before .good .0 in omega arith
+mul-t24 : tie.Need-mul-t24
+mul-t24 c = search member-slots
 
 slice-set-from-members : tie.Need-slice-set-from-members
 slice-set-from-members c = search member-slots
 
 add-following : tie.Need-add-following
-add-following c = let a = c .before .before .before .before .before .before .before .before .before .before .before .before .before .before .if1 .left in let g = c .before .before .before .before .before .before .before .before .before .before .before .before .before .before .before .before .before .before .good .0 in omega arith
+add-following c = search member-slots
 
 same-length-2 : tie.Need-same-length-2
 same-length-2 c = search member-slots
@@ -74,7 +70,7 @@ same-length-3 : tie.Need-same-length-3
 same-length-3 c = search member-slots
 
 returns-3 : tie.Need-returns-3
-returns-3 c = member-at (c .before .before .before .before .before .before .before .before .before .before .before .before .before .before .before .before .before .before .before .pre .0) _ _ _ _ (c .before .before .before .before .before .before .before .before .before .write-texts .ensures) (c .before .before .before .before .before .texts .given .1) (c .before .before .before .before .before .before .before .before .before .before .before .residual-after .ensures) (c .before .before .before .before .before .before .before .before .before .before .before .before .before .before .before .if1 .left) (c .before .before .member-row .ensures)
+returns-3 c = search member-slots
 
 pub enter-member-spec : {M : Type 1} → statement M
 enter-member-spec =
@@ -90,7 +86,6 @@ enter-member-spec =
     sub-own
     part-own-start
     part-own-end
-    residual-after-requires
     write-texts-requires
     enum-known-texts
     enum-told
@@ -98,7 +93,7 @@ enter-member-spec =
     returns-2
     sub-member-row
     member-row-requires
-    mul-t26
+    mul-t24
     slice-set-from-members
     add-following
     same-length-2

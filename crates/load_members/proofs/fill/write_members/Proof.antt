@@ -1,5 +1,6 @@
 -- `load_members::fill::write_members` meets its contract, by the laws of Filling, Adding and Behind and an invariant of what is done.
-use Rattle.load_members.proofs.Behind.{filling, filling-skips, filling-read}
+use Rattle.load_members.proofs.Adding.{filling-room}
+use Rattle.load_members.proofs.Behind.{filling, filling-behind, filling-few, filling-skips, filling-read}
 use Rattle.load_members.proofs.Filling.{Filling}
 use Prim.Native.Nat.{_-_}
 use lib.ListN.{length}
@@ -71,6 +72,18 @@ enum-known-line c = search filling
 counted-requires-2 : tie.Need-counted-requires-2 Inv-loop μ-loop
 counted-requires-2 c κs = search filling
 
+sub-residual-after : tie.Need-sub-residual-after Inv-loop μ-loop
+sub-residual-after c = search filling
+
+part-residual-after-start : tie.Need-part-residual-after-start Inv-loop μ-loop
+part-residual-after-start c = search filling
+
+part-residual-after-end : tie.Need-part-residual-after-end Inv-loop μ-loop
+part-residual-after-end c = search filling
+
+residual-after-requires : tie.Need-residual-after-requires Inv-loop μ-loop
+residual-after-requires c κs = search filling
+
 enter-line-requires : tie.Need-enter-line-requires Inv-loop μ-loop
 enter-line-requires c κs = search filling
 
@@ -84,25 +97,25 @@ scan-from-requires : tie.Need-scan-from-requires Inv-loop μ-loop
 scan-from-requires c κs = search filling
 
 same-length-5 : tie.Need-same-length-5 Inv-loop μ-loop
-same-length-5 c = search filling
+same-length-5 c = let a = c .before .before .before .before .before .members .given in let b = c .before .before .before .before .before .before .before .before .before .before .before .before .before .before .before .before .before .loop .inv .rows-size in search filling
 
 same-length-6 : tie.Need-same-length-6 Inv-loop μ-loop
-same-length-6 c = search filling
+same-length-6 c = let a = c .before .before .before .before .pool .given in let b = c .before .before .before .before .before .before .before .before .before .before .before .before .before .before .before .before .before .loop .inv .pool-size in search filling
 
 returns-3 : tie.Need-returns-3 Inv-loop μ-loop
 returns-3 c = search filling
 
 add-at : tie.Need-add-at Inv-loop μ-loop
-add-at c = let i = c .before .before .before .before .before .before .before .before .before .before .before .before .before .before .before .before .loop .inv in let n = c .before .before .before .before .before .before .before .before .before .before .before .before .before .before .next-step .ensures in search filling
+add-at c = filling-behind (c .before .before .before .before .before .before .before .before .before .before .before .before .before .before .before .before .before .before .before .loop .inv) _ (c .before .before .before .before .before .before .before .before .before .before .before .before .before .before .before .before .before .next-step .ensures) (c .before .before .before .before .before .before .before .before .before .before .before .before .before .before .before .line .given .1) (c .before .before .before .before .before .before .before .before .before .before .before .residual-after .ensures)
 
 with-passed-requires : tie.Need-with-passed-requires Inv-loop μ-loop
-with-passed-requires c κs = let i = c .before .before .before .before .before .before .before .before .before .before .before .before .before .before .before .before .loop .inv in let n = c .before .before .before .before .before .before .before .before .before .before .before .before .before .before .next-step .ensures in (search filling, search filling)
+with-passed-requires c κs = (filling-room (c .before .before .before .before .before .before .before .before .before .before .before .before .before .before .before .before .before .before .before .loop .inv) _ (c .before .before .before .before .before .before .before .before .before .before .before .before .before .before .before .before .before .next-step .ensures) (c .before .before .before .before .before .before .before .before .before .before .before .before .before .before .before .line .given .1) (c .before .before .before .before .before .before .before .before .before .before .before .before .before .counted2 .ensures), filling-few (c .before .before .before .before .before .before .before .before .before .before .before .before .before .before .before .before .before .before .before .loop .inv) _ (c .before .before .before .before .before .before .before .before .before .before .before .before .before .before .before .before .before .next-step .ensures) (c .before .before .before .before .before .before .before .before .before .before .before .before .before .before .before .line .given .1) (c .before .before .before .before .before .before .before .before .before .before .before .residual-after .ensures))
 
 loop-less-2 : tie.Need-loop-less-2 Inv-loop μ-loop
-loop-less-2 c = filling-skips (c .before .before .before .before .before .before .before .before .before .before .before .before .before .before .before .before .before .loop .inv) _ (c .before .before .before .before .before .before .before .before .before .before .before .before .before .before .before .next-step .ensures) (c .before .before .before .before .before .before .before .before .before .before .before .before .before .line .given .1) _ _ _ (c .before .before .before .before .before .before .before .before .enter-line .ensures) (c .before .before .before .next2 .given .1) (c .before .before .before .before .before .before .before .before .before .before .before .before .before .before .before .before .loop-test .taken)
+loop-less-2 c = filling-skips (c .before .before .before .before .before .before .before .before .before .before .before .before .before .before .before .before .before .before .before .before .loop .inv) _ (c .before .before .before .before .before .before .before .before .before .before .before .before .before .before .before .before .before .before .next-step .ensures) (c .before .before .before .before .before .before .before .before .before .before .before .before .before .before .before .before .line .given .1) (c .before .before .before .before .before .before .before .before .before .before .before .before .residual-after .ensures) (c .before .before .before .before .before .before .before .before .before .before .before .before .before .before .before .before .before .before .before .loop-test .taken)
 
 loop-again-2 : tie.Need-loop-again-2 Inv-loop μ-loop
-loop-again-2 c = filling-read (c .before .before .before .before .before .before .before .before .before .before .before .before .before .before .before .before .before .loop .inv) _ (c .before .before .before .before .before .before .before .before .before .before .before .before .before .before .before .next-step .ensures) (c .before .before .before .before .before .before .before .before .before .before .before .before .before .line .given .1) _ _ _ (c .before .before .before .before .before .before .before .before .enter-line .ensures) (c .before .before .before .next2 .given .1) (c .before .before .before .before .before .before .before .before .before .before .before .counted2 .ensures) (c .with-passed .ensures)
+loop-again-2 c = filling-read (c .before .before .before .before .before .before .before .before .before .before .before .before .before .before .before .before .before .before .before .before .loop .inv) _ (c .before .before .before .before .before .before .before .before .before .before .before .before .before .before .before .before .before .before .next-step .ensures) (c .before .before .before .before .before .before .before .before .before .before .before .before .before .before .before .before .line .given .1) (c .before .before .before .before .before .before .before .before .before .before .before .before .residual-after .ensures) (c .before .before .before .before .before .before .before .before .before .before .before .before .before .before .counted2 .ensures) _ _ _ (c .before .before .before .before .before .before .before .before .before .enter-line .ensures) (c .before .before .before .before .next2 .given .1) (c .with-passed .ensures)
 
 same-length-7 : tie.Need-same-length-7 Inv-loop μ-loop
 same-length-7 c = search filling
@@ -138,6 +151,10 @@ write-members-spec =
     loop-again
     enum-known-line
     counted-requires-2
+    sub-residual-after
+    part-residual-after-start
+    part-residual-after-end
+    residual-after-requires
     enter-line-requires
     enum-known-next-2
     enum-told-2

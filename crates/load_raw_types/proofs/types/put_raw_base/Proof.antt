@@ -30,8 +30,8 @@ put-raw-pieces-requires c κs = search base-turns
 enum-told-2 : tie.Need-enum-told-2
 enum-told-2 c = search base-turns
 
-put-raw-pieces-requires-2 : tie.Need-put-raw-pieces-requires-2
-put-raw-pieces-requires-2 c κs = search base-turns
+put-raw-name-requires : tie.Need-put-raw-name-requires
+put-raw-name-requires c κs = search base-turns
 
 same-length : tie.Need-same-length
 same-length c = search base-turns
@@ -64,7 +64,7 @@ put-raw-base-spec =
     part-put-raw-pieces-end
     put-raw-pieces-requires
     enum-told-2
-    put-raw-pieces-requires-2
+    put-raw-name-requires
     same-length
     returns
     same-length-2

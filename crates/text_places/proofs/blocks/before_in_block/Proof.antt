@@ -1,53 +1,37 @@
--- `text_places::blocks::before_in_block` meets its contract, by the laws of BlockLaws and an invariant that says what is done and what is left.
-use Rattle.text_places.proofs.BlockLaws.{masking, Masked}
+-- `text_places::blocks::before_in_block` meets its contract, by the laws of BlockLaws.
+use Rattle.text_places.proofs.BlockLaws.{masking}
 use Rattle.text_places.proofs.blocks.before_in_block.Statement.{statement}
 use Rattle.text_places.proofs.blocks.before_in_block.Tie as tie
 
-abbrev Inv-loop : tie.InvT-loop
-Inv-loop s at b mask₀ i₀ mask i = Masked b s at mask i
+mask-of-eight-requires : tie.Need-mask-of-eight-requires
+mask-of-eight-requires c κs = search masking
 
-abbrev μ-loop : tie.MeasureT-loop
-μ-loop s at b mask₀ i₀ mask i = i
+add-mask-of-eight : tie.Need-add-mask-of-eight
+add-mask-of-eight c = search masking
 
-loop-holds : tie.Need-loop-holds Inv-loop μ-loop
-loop-holds c = search masking
+mask-of-eight-requires-2 : tie.Need-mask-of-eight-requires-2
+mask-of-eight-requires-2 c κs = search masking
 
-sub-place : tie.Need-sub-place Inv-loop μ-loop
-sub-place c = search masking
+mul-result : tie.Need-mul-result
+mul-result c = search masking
 
-add-mask-with : tie.Need-add-mask-with Inv-loop μ-loop
-add-mask-with c = search masking
+add-result : tie.Need-add-result
+add-result c = search masking
 
-shared-slice-read-mask-with : tie.Need-shared-slice-read-mask-with Inv-loop μ-loop
-shared-slice-read-mask-with c = search masking
-
-mask-with-requires : tie.Need-mask-with-requires Inv-loop μ-loop
-mask-with-requires c κs = search masking
-
-loop-less : tie.Need-loop-less Inv-loop μ-loop
-loop-less c = search masking
-
-loop-again : tie.Need-loop-again Inv-loop μ-loop
-loop-again c = search masking
-
-cast-result : tie.Need-cast-result Inv-loop μ-loop
+cast-result : tie.Need-cast-result
 cast-result c = search masking
 
-returns : tie.Need-returns Inv-loop μ-loop
+returns : tie.Need-returns
 returns c = search masking
 
 pub before-in-block-spec : {M : Type 1} → statement M
 before-in-block-spec =
     tie.close
     (tie.spec
-    Inv-loop
-    μ-loop
-    loop-holds
-    sub-place
-    add-mask-with
-    shared-slice-read-mask-with
-    mask-with-requires
-    loop-less
-    loop-again
+    mask-of-eight-requires
+    add-mask-of-eight
+    mask-of-eight-requires-2
+    mul-result
+    add-result
     cast-result
     returns)

@@ -21,14 +21,11 @@ loop-holds c = search checking
 shared-slice-read-if1 : tie.Need-shared-slice-read-if1 Inv-loop μ-loop
 shared-slice-read-if1 c = search checking
 
-add-ascii-blocks : tie.Need-add-ascii-blocks Inv-loop μ-loop
-add-ascii-blocks c = search checking
+add-ascii-end : tie.Need-add-ascii-end Inv-loop μ-loop
+add-ascii-end c = search checking
 
-ascii-blocks-requires-2 : tie.Need-ascii-blocks-requires-2 Inv-loop μ-loop
-ascii-blocks-requires-2 c κs = search checking
-
-ascii-bytes-requires : tie.Need-ascii-bytes-requires Inv-loop μ-loop
-ascii-bytes-requires c κs = search checking
+ascii-end-requires : tie.Need-ascii-end-requires Inv-loop μ-loop
+ascii-end-requires c κs = search checking
 
 loop-less : tie.Need-loop-less Inv-loop μ-loop
 loop-less c = search checking
@@ -66,9 +63,8 @@ check-text-spec =
     ascii-blocks-requires
     loop-holds
     shared-slice-read-if1
-    add-ascii-blocks
-    ascii-blocks-requires-2
-    ascii-bytes-requires
+    add-ascii-end
+    ascii-end-requires
     loop-less
     loop-again
     good-length-requires

@@ -22,6 +22,15 @@ shared-slice-read-is-ink c = search first-past-ink
 is-ink-requires : tie.Need-is-ink-requires Inv-loop μ-loop
 is-ink-requires c κs = search first-past-ink
 
+add-next : tie.Need-add-next Inv-loop μ-loop
+add-next c = search first-past-ink
+
+shared-slice-read-is-ink-2 : tie.Need-shared-slice-read-is-ink-2 Inv-loop μ-loop
+shared-slice-read-is-ink-2 c = search first-past-ink
+
+is-ink-requires-2 : tie.Need-is-ink-requires-2 Inv-loop μ-loop
+is-ink-requires-2 c κs = search first-past-ink
+
 add-at : tie.Need-add-at Inv-loop μ-loop
 add-at c = search first-past-ink
 
@@ -30,6 +39,18 @@ loop-less c = search first-past-ink
 
 loop-again : tie.Need-loop-again Inv-loop μ-loop
 loop-again c = search first-past-ink
+
+loop-less-2 : tie.Need-loop-less-2 Inv-loop μ-loop
+loop-less-2 c = search first-past-ink
+
+loop-again-2 : tie.Need-loop-again-2 Inv-loop μ-loop
+loop-again-2 c = search first-past-ink
+
+loop-less-3 : tie.Need-loop-less-3 Inv-loop μ-loop
+loop-less-3 c = search first-past-ink
+
+loop-again-3 : tie.Need-loop-again-3 Inv-loop μ-loop
+loop-again-3 c = search first-past-ink
 
 white-at-requires : tie.Need-white-at-requires Inv-loop μ-loop
 white-at-requires c κs = search first-past-ink
@@ -40,11 +61,11 @@ returns c = search first-past-ink
 add-at-2 : tie.Need-add-at-2 Inv-loop μ-loop
 add-at-2 c = search first-past-ink
 
-loop-less-2 : tie.Need-loop-less-2 Inv-loop μ-loop
-loop-less-2 c = search first-past-ink
+loop-less-4 : tie.Need-loop-less-4 Inv-loop μ-loop
+loop-less-4 c = search first-past-ink
 
-loop-again-2 : tie.Need-loop-again-2 Inv-loop μ-loop
-loop-again-2 c = search first-past-ink
+loop-again-4 : tie.Need-loop-again-4 Inv-loop μ-loop
+loop-again-4 c = search first-past-ink
 
 returns-2 : tie.Need-returns-2 Inv-loop μ-loop
 returns-2 c = search first-past-ink
@@ -58,12 +79,19 @@ first-white-spec =
     loop-holds
     shared-slice-read-is-ink
     is-ink-requires
+    add-next
+    shared-slice-read-is-ink-2
+    is-ink-requires-2
     add-at
     loop-less
     loop-again
+    loop-less-2
+    loop-again-2
+    loop-less-3
+    loop-again-3
     white-at-requires
     returns
     add-at-2
-    loop-less-2
-    loop-again-2
+    loop-less-4
+    loop-again-4
     returns-2)

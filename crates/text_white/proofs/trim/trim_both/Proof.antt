@@ -21,17 +21,11 @@ is-ink-requires-2 c κs = search trimmed
 returns : tie.Need-returns
 returns c = search trimmed
 
-trim-start-requires : tie.Need-trim-start-requires
-trim-start-requires c κs = search trimmed
-
-returns-2 : tie.Need-returns-2
-returns-2 c = search trimmed
-
 trim-ends-requires : tie.Need-trim-ends-requires
 trim-ends-requires c κs = search trimmed
 
-returns-3 : tie.Need-returns-3
-returns-3 c = search trimmed
+returns-2 : tie.Need-returns-2
+returns-2 c = search trimmed
 
 pub trim-both-spec : {M : Type 1} → statement M
 trim-both-spec =
@@ -43,7 +37,5 @@ trim-both-spec =
     shared-slice-read-is-ink-2
     is-ink-requires-2
     returns
-    trim-start-requires
-    returns-2
     trim-ends-requires
-    returns-3)
+    returns-2)

@@ -1,37 +1,53 @@
--- `text_white::trim::trim_ends` meets its contract, by the laws of TrimLaws.
-use Rattle.text_white.proofs.TrimLaws.{both-trims}
+-- `text_white::trim::trim_ends` meets its contract, by the laws of Sync.
+use Rattle.text_white.proofs.Sync.{trimmed}
 use Rattle.text_white.proofs.trim.trim_ends.Statement.{statement}
 use Rattle.text_white.proofs.trim.trim_ends.Tie as tie
 
 trim-start-requires : tie.Need-trim-start-requires
-trim-start-requires c κs = search both-trims
+trim-start-requires c κs = search trimmed
 
-sub-trim-end : tie.Need-sub-trim-end
-sub-trim-end c = search both-trims
+sub-last : tie.Need-sub-last
+sub-last c = search trimmed
 
-part-trim-end-start : tie.Need-part-trim-end-start
-part-trim-end-start c = search both-trims
+shared-slice-read-is-ink : tie.Need-shared-slice-read-is-ink
+shared-slice-read-is-ink c = search trimmed
 
-part-trim-end-end : tie.Need-part-trim-end-end
-part-trim-end-end c = search both-trims
-
-trim-end-requires : tie.Need-trim-end-requires
-trim-end-requires c κs = search both-trims
-
-add-t5 : tie.Need-add-t5
-add-t5 c = search both-trims
+is-ink-requires : tie.Need-is-ink-requires
+is-ink-requires c κs = search trimmed
 
 returns : tie.Need-returns
-returns c = search both-trims
+returns c = search trimmed
+
+sub-trim-end : tie.Need-sub-trim-end
+sub-trim-end c = search trimmed
+
+part-trim-end-start : tie.Need-part-trim-end-start
+part-trim-end-start c = search trimmed
+
+part-trim-end-end : tie.Need-part-trim-end-end
+part-trim-end-end c = search trimmed
+
+trim-end-requires : tie.Need-trim-end-requires
+trim-end-requires c κs = search trimmed
+
+add-t6 : tie.Need-add-t6
+add-t6 c = search trimmed
+
+returns-2 : tie.Need-returns-2
+returns-2 c = search trimmed
 
 pub trim-ends-spec : {M : Type 1} → statement M
 trim-ends-spec =
     tie.close
     (tie.spec
     trim-start-requires
+    sub-last
+    shared-slice-read-is-ink
+    is-ink-requires
+    returns
     sub-trim-end
     part-trim-end-start
     part-trim-end-end
     trim-end-requires
-    add-t5
-    returns)
+    add-t6
+    returns-2)

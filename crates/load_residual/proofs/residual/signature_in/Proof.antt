@@ -1,0 +1,97 @@
+-- `load_residual::residual::signature_in` meets its contract, by the laws of Hashed.
+use Rattle.load_residual.proofs.Hashed.{hashed}
+use Rattle.load_residual.proofs.residual.signature_in.Statement.{statement}
+use Rattle.load_residual.proofs.residual.signature_in.Tie as tie
+
+returns : tie.Need-returns
+returns c = search hashed
+
+sub-trim-end : tie.Need-sub-trim-end
+sub-trim-end c = search hashed
+
+part-trim-end-start : tie.Need-part-trim-end-start
+part-trim-end-start c = search hashed
+
+part-trim-end-end : tie.Need-part-trim-end-end
+part-trim-end-end c = search hashed
+
+trim-end-requires : tie.Need-trim-end-requires
+trim-end-requires c κs = search hashed
+
+add-stop : tie.Need-add-stop
+add-stop c = search hashed
+
+sub-first-byte : tie.Need-sub-first-byte
+sub-first-byte c = search hashed
+
+part-first-byte-start : tie.Need-part-first-byte-start
+part-first-byte-start c = search hashed
+
+part-first-byte-end : tie.Need-part-first-byte-end
+part-first-byte-end c = search hashed
+
+first-byte-requires : tie.Need-first-byte-requires
+first-byte-requires c κs = search hashed
+
+enum-known-gap : tie.Need-enum-known-gap
+enum-known-gap c = search hashed
+
+enum-told : tie.Need-enum-told
+enum-told c = search hashed
+
+returns-2 : tie.Need-returns-2
+returns-2 c = search hashed
+
+add-start : tie.Need-add-start
+add-start c = search hashed
+
+sub-string-of : tie.Need-sub-string-of
+sub-string-of c = search hashed
+
+part-string-of-start : tie.Need-part-string-of-start
+part-string-of-start c = search hashed
+
+part-string-of-end : tie.Need-part-string-of-end
+part-string-of-end c = search hashed
+
+string-of-requires : tie.Need-string-of-requires
+string-of-requires c κs = search hashed
+
+enum-known-string : tie.Need-enum-known-string
+enum-known-string c = search hashed
+
+enum-told-2 : tie.Need-enum-told-2
+enum-told-2 c = search hashed
+
+returns-3 : tie.Need-returns-3
+returns-3 c = search hashed
+
+returns-4 : tie.Need-returns-4
+returns-4 c = search hashed
+
+pub signature-in-spec : {M : Type 1} → statement M
+signature-in-spec =
+    tie.close
+    (tie.spec
+    returns
+    sub-trim-end
+    part-trim-end-start
+    part-trim-end-end
+    trim-end-requires
+    add-stop
+    sub-first-byte
+    part-first-byte-start
+    part-first-byte-end
+    first-byte-requires
+    enum-known-gap
+    enum-told
+    returns-2
+    add-start
+    sub-string-of
+    part-string-of-start
+    part-string-of-end
+    string-of-requires
+    enum-known-string
+    enum-told-2
+    returns-3
+    returns-4)
