@@ -1,5 +1,5 @@
 -- The first place of a byte, by blocks of up to 16 bytes. Assumes nothing.
-use mathlib.Core.Path.{_≡_, refl, sym, ap₂, _∙_}
+use mathlib.Core.Path.{_≡_, refl, ap₂}
 use mathlib.Core.Bool.{Bool, true, false}
 use mathlib.Core.List.{List}
 use mathlib.Core.Logic.{_⊎_, inl, inr}
@@ -11,16 +11,15 @@ use mir.Syntax.{w64}
 use lib.Dec.{eqb, lit<}
 use lib.Count.{trailingZeros, trailing-le, under}
 use lib.Pow.{pow-mono, high, low}
-use lib.ListN.{length, getD, drop}
+use lib.ListN.{length, getD}
 use borrow.Author.Tests.{eqb-true, eqb-false}
 use borrow.Author.Needs.{needs}
 use Rattle.ground.specs.Choice.{bit}
 use Rattle.ground.proofs.Cases.{le-or-lt}
-use Rattle.text_places.specs.declared.find.Place.{Place}
 use Rattle.text_places.specs.declared.find.Place.the-variants.{At, Nowhere}
 use Rattle.text_places.specs.Places.{firstWhere, starts}
 use Rattle.text_places.specs.inner.Blocks.{Without}
-use Rattle.text_places.proofs.PlaceLaws.{Seeking, seeking-starts, seeking-ends, seeking-found, seeking-more, byte-here, byte-other}
+use Rattle.text_places.proofs.PlaceLaws.{seeking-starts, seeking-ends, seeking-found, seeking-more, byte-here, byte-other}
 use Rattle.text_places.proofs.BlockLaws.{without-none, seek-blocks, digit-same, digit-other}
 use Rattle.apply_pieces.specs.inner.Places.{Before}
 

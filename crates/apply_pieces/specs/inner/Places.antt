@@ -1,7 +1,7 @@
 -- Where a byte stands in a block.
 use mathlib.Core.Path.{_≡_}
 use mathlib.Core.List.{List}
-use Prim.Native.Nat.{ℕ, _+_, _≤_, _<_}
+use Prim.Native.Nat.{ℕ, _+_, _<_}
 use lib.ListN.{getD}
 
 -- the first `b` of the `size` bytes from `at` on stands `r` bytes behind their start; none does where `r` is not below 16
