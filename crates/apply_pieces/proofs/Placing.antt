@@ -12,7 +12,7 @@ use lib.Dec.{eqb, lit<}
 use lib.Count.{trailingZeros, trailing-le, under}
 use lib.Pow.{pow-mono, high, low}
 use lib.ListN.{length, getD}
-use borrow.Author.Tests.{eqb-true, eqb-false}
+use borrow.Author.Tests.{eq-eqb, ne-eqb, eqb-true, eqb-false}
 use borrow.Author.Needs.{needs}
 use Rattle.ground.specs.Choice.{bit}
 use Rattle.ground.proofs.Cases.{le-or-lt}
@@ -20,7 +20,7 @@ use Rattle.text_places.specs.declared.find.Place.the-variants.{At, Nowhere}
 use Rattle.text_places.specs.Places.{firstWhere, starts}
 use Rattle.text_places.specs.inner.Blocks.{Without}
 use Rattle.text_places.proofs.PlaceLaws.{seeking-starts, seeking-ends, seeking-found, seeking-more, byte-here, byte-other}
-use Rattle.text_places.proofs.BlockLaws.{without-none, seek-blocks, digit-same, digit-other}
+use Rattle.text_places.proofs.BlockLaws.{without-none, seek-blocks}
 use Rattle.apply_pieces.specs.inner.Places.{Before}
 
 -- what the mask of the bytes from the place `i` of a block on tells: how many of them stand before the first `b`
@@ -189,6 +189,14 @@ module _ {b : ℕ} {s : List ℕ} {at : ℕ} (w : Without b s 0 at) (l : 16 ≤ 
 
 pub ruleset in-blocks = (stretch-none, stretch-found, stretch-more, last-found, last-none, needs)
 
-pub ruleset digits = (digit-same, digit-other, needs)
+-- one byte more in front of those of a mask
+module _ (mask : ℕ) {x b : ℕ} where
+  pub more-same : x ≡ b → mask * 2 + 1 ≡ mask * 2 + bit (eqb x b)
+  more-same e = rw (eq-eqb x b e) refl
+
+  pub more-other : (x ≡ b → ⊥) → mask * 2 ≡ mask * 2 + bit (eqb x b)
+  more-other n = rw (ne-eqb x b n) (omega arith)
+
+pub ruleset digits = (more-same, more-other, needs)
 
 pub ruleset near = (seeking-starts, seeking-ends, seeking-found, seeking-more, byte-here, byte-other, needs)
