@@ -9,7 +9,7 @@ use table_rows::ClassRow;
 use table_rows::MemberRow;
 use table_rows::unpack_member;
 use tables::Found;
-use text_places::same_bytes;
+use text_places::same_text;
 use tree_signature::starts_as;
 ghost use mathlib.Core.Path.{_≡_};
 ghost use mathlib.Core.List.{[]};
@@ -51,7 +51,7 @@ fn is_home(class: &[u8], owner: &[u8], descriptor: &[u8]) -> bool
     ensures { λ r. ⌜ r ≡ isHome (now (class .entry)) (now (owner .entry)) (now (descriptor .entry)) ⌝ }
 {
     if starts_as(descriptor, true) {
-        return same_bytes(owner, class);
+        return same_text(owner, class);
     }
     false
 }

@@ -1,4 +1,3 @@
-pub mod Placing
 pub mod Knowing
 pub mod Showing
 pub mod Noting

@@ -2,7 +2,6 @@
 pub mod Known
 pub mod Notes
 pub mod Within
-pub mod Places
 pub mod Sought
 pub mod Ahead
 pub mod Groups

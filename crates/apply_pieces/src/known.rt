@@ -1,10 +1,9 @@
 // The first class piece of a descriptor that is known.
-use crate::places::near_place;
-use crate::places::place_of;
 use table_index::last_raw;
 use table_rows::ClassRow;
 use tables::Found;
 use text_places::Place;
+use text_places::first_byte;
 ghost use Prim.Native.Nat.{_≤_};
 ghost use lib.ListN.{length};
 ghost use Rattle.tables.specs.declared.search.Side.the-variants.{Raw};
@@ -28,11 +27,11 @@ fn next_piece(text: &[u8], from: usize) -> NextPiece
     requires { ⌜ «from» ≤ length (now text) ⌝ }
     ensures { λ r. ⌜ PieceBy r (now (text .entry)) «from» ⌝ }
 {
-    let Place::At(plain) = near_place(&text[from..], b'L') else {
+    let Place::At(plain) = first_byte(&text[from..], b'L') else {
         return NextPiece::Nowhere;
     };
     let start = from + plain;
-    let Place::At(gap) = place_of(&text[start..], b';') else {
+    let Place::At(gap) = first_byte(&text[start..], b';') else {
         return NextPiece::Nowhere;
     };
     let end = start + gap + 1;

@@ -5,7 +5,6 @@ mod known;
 mod long;
 mod note;
 mod notes;
-mod places;
 mod rows;
 mod show;
 mod within;

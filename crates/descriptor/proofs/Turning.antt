@@ -1,7 +1,7 @@
 -- Turning a descriptor goes from part to part. Assumes nothing.
 use mathlib.Core.Path.{_≡_, refl, sym, _∙_, ap}
 use mathlib.Core.Bool.{Bool, true, false}
-use mathlib.Core.List.{List, [], _∷_, _++_, map, append-assoc, append-nil}
+use mathlib.Core.List.{List, [], _∷_, _++_, map, append-assoc}
 use Prim.Native.Nat.{ℕ, suc, _+_, _-_}
 use native.Mathlib.Omega.{arith}
 use lib.Dec.{eqb}
@@ -50,17 +50,6 @@ closed-from a w at (x ∷ l) {i} e = go (eqb x 0x3B) refl (λ f. closed-from a (
         let z : i - at ≡ suc (i - suc at) = omega arith in
         rw (q, z) (again f ∙ ap (λ k. piece (a ∷ k) ∷ partsFrom [] (drop (suc (i - suc at)) l)) (append-assoc w (x ∷ []) (take (suc (i - suc at)) l)))
 
--- an `L` that is not
-unclosed-from : (a : ℕ) (w : List ℕ) (at : ℕ) (l : List ℕ) → firstFrom (starts 0x3B) at l ≡ Nowhere → partsFrom (a ∷ w) l ≡ map byte (a ∷ (w ++ l))
-unfolding firstFrom partsFrom
-unclosed-from a w at [] e = ap (λ k. map byte (a ∷ k)) (sym (append-nil w))
-unclosed-from a w at (x ∷ l) e = go (eqb x 0x3B) refl (λ f. unclosed-from a (w ++ (x ∷ [])) (suc at) l f) e
-  where
-    go : (t : Bool) → eqb x 0x3B ≡ t → (firstFrom (starts 0x3B) (suc at) l ≡ Nowhere → partsFrom (a ∷ (w ++ (x ∷ []))) l ≡ map byte (a ∷ ((w ++ (x ∷ [])) ++ l))) →
-        pick t (At at) (firstFrom (starts 0x3B) (suc at) l) ≡ Nowhere → partsFrom (a ∷ w) (x ∷ l) ≡ map byte (a ∷ (w ++ (x ∷ l)))
-    go true q again f = absurd (let z : _≡_ {A = ℕ} 0 1 = cc in omega arith)
-    go false q again f = rw q (again f ∙ ap (λ k. map byte (a ∷ k)) (append-assoc w (x ∷ []) l))
-
 -- bytes up to an `L`
 plain-from : (at : ℕ) (l : List ℕ) {i : ℕ} → firstFrom (starts 0x4C) at l ≡ At i → partsFrom [] l ≡ map byte (take (i - at) l) ++ partsFrom [] (drop (i - at) l)
 unfolding firstFrom partsFrom
@@ -106,15 +95,6 @@ module _ (look : List ℕ → Look) where
       let later = first-past 0x3B 1 l f in
       let z : i + 1 ≡ suc (suc (i - 1)) = omega arith in
       rw (q, z) (ap (turnedAll look) (closed-from x [] 1 l f))
-
-  -- with none: the rest stays
-  pub rest-step : (x : ℕ) (l : List ℕ) → eqb x 0x4C ≡ true → firstWhere (starts 0x3B) (x ∷ l) ≡ Nowhere → turn look (x ∷ l) ≡ x ∷ l
-  unfolding partsFrom firstFrom
-  rest-step x l q e =
-      let is = eqb-true x 0x4C q in
-      let no-semicolon : eqb x 0x3B ≡ false = ap (λ y. eqb y 0x3B) is in
-      let f : firstFrom (starts 0x3B) 1 l ≡ Nowhere = rw no-semicolon at e in
-      rw q (ap (turnedAll look) (unclosed-from x [] 1 l f) ∙ only-bytes look (x ∷ l))
 
   -- bytes up to the next `L` stay
   pub plain-step : (l : List ℕ) {i : ℕ} → firstWhere (starts 0x4C) l ≡ At i → turn look l ≡ take i l ++ turn look (drop i l)

@@ -91,9 +91,3 @@ module _ (s : List ℕ) {start : ℕ} (e : start ≡ afterMarks s) where
   marks-dropped nc nm np k = rw e at k
 
 pub ruleset marking = (marks-inside, marks-dropped, needs)
-
--- the promise of an entry point as one statement
-pub loads-told : {r : Load} {s : List ℕ} {ls : List (List ℕ)} (before after : Tables) →
-    (r ≡ answerOf s ls (lentOf before)) × (after .classes ≡ classesLeft s ls (lentOf before)) × (after .members ≡ membersLeft s ls (lentOf before))
-    × (after .pool ≡ poolLeft s ls (lentOf before)) × (loadNumbers r ≡ numbersGiven s ls (lentOf before)) → Loads r s ls before after
-loads-told before after (a, c, m, p, n) = record { answer = a; classes = c; members = m; pool = p; numbers = n }

@@ -65,38 +65,39 @@ module _ (s : List ℕ) {c : comment.Comment} (e : c ≡ commentOf s) where
 
 pub ruleset stringing = (string-unread, string-no-id, string-other-id, string-idle, string-missing, string-other, string-there, needs)
 
--- The signature of a comment.
-nothing-lies : (n : ℕ) → Lies (span 0 0) n
+-- Nothing lies in every text.
+pub nothing-lies : (n : ℕ) → Lies (span 0 0) n
 nothing-lies n = record { order = omega arith; within = omega arith }
 
+-- The signature of a comment's JSON.
+module _ (s : List ℕ) (start e : ℕ) (q : Place) (g : placeLook (between s start e) q ≡ signatureOf (between s start e)) where
+  pub between-nothing : q ≡ Nowhere → Gives s Nothing (signatureOf (between s start e))
+  between-nothing z = record { look = sym (sym g ∙ ap (placeLook (between s start e)) z); lies = nothing-lies (length s) }
+
+  pub between-text : start ≤ e → e ≤ length s → {string : ℕ} → q ≡ At string → Gives s (Text start e string) (signatureOf (between s start e))
+  between-text o w z = record { look = sym (sym g ∙ ap (placeLook (between s start e)) z); lies = record { order = o; within = w } }
+
+pub ruleset between-places = (between-nothing, between-text, needs)
+
+-- The signature of a comment.
 module _ (l : List ℕ) {brace : Place} where
   pub gives-no-brace : brace ≡ Nowhere → Gives l Nothing (signatureAt l brace)
   gives-no-brace e = record { look = sym (ap (signatureAt l) e); lies = nothing-lies (length l) }
 
   module _ (k : lineOf l ≡ kinds.Comment brace) {start : ℕ} (e : brace ≡ At start) {p : Span} (t : p ≡ trimBoth l) where
-    inside : start < p .«end»
-    inside = rw t (brace-inside l (k ∙ ap kinds.Comment e))
-
     pub json-order : start ≤ p .«end»
-    json-order = let h = inside in omega arith
+    json-order = let h : start < p .«end» = rw t (brace-inside l (k ∙ ap kinds.Comment e)) in omega arith
 
     pub json-inside : p .«end» ≤ length l
     json-inside = rw t (trim-lies l .within)
 
-    module _ (q : Place) (g : placeLook (between l start (p .«end»)) q ≡ signatureOf (between l start (p .«end»))) where
-      read : signatureAt l brace ≡ placeLook (between l start (p .«end»)) q
-      read = ap (signatureAt l) e ∙ ap (λ x. signatureOf (partOf l (span start (x .«end»)))) (sym t) ∙ sym g
+    pub gives-json : {r : Residual} → Gives l r (signatureOf (between l start (p .«end»))) → Gives l r (signatureAt l brace)
+    gives-json g = record {
+      look = g .look ∙ sym (ap (signatureAt l) e ∙ ap (λ x. signatureOf (partOf l (span start (x .«end»)))) (sym t));
+      lies = g .lies;
+    }
 
-      pub gives-nothing : q ≡ Nowhere → Gives l Nothing (signatureAt l brace)
-      gives-nothing z = record { look = sym (read ∙ ap (placeLook (between l start (p .«end»))) z); lies = nothing-lies (length l) }
-
-      pub gives-text : {string : ℕ} → q ≡ At string → Gives l (Text start (p .«end») string) (signatureAt l brace)
-      gives-text z = record {
-        look = sym (read ∙ ap (placeLook (between l start (p .«end»))) z);
-        lies = record { order = json-order; within = json-inside };
-      }
-
-pub ruleset giving = (gives-no-brace, json-order, json-inside, gives-nothing, gives-text, needs)
+pub ruleset giving = (gives-no-brace, json-order, json-inside, gives-json, needs)
 
 -- Whether there is one.
 module _ {r : Residual} where

@@ -10,29 +10,26 @@ use mir.Val.{Fits}
 use mir.Syntax.{w64}
 use borrow.Author.Needs.{needs}
 use Rattle.ground.specs.Put.{between}
-use Rattle.ground.specs.Look.{Look, unknown}
 use Rattle.ground.proofs.Cases.{clash}
 use Rattle.ground.proofs.Parts.{drop-take}
 use Rattle.text_places.specs.declared.find.Place.{Place}
 use Rattle.text_places.specs.declared.find.Place.the-variants.{At, Nowhere}
 use Rattle.text_places.specs.Places.{firstWhere, starts}
-use Rattle.text_places.specs.Spans.{span, Lies}
 use Rattle.text_places.proofs.PlaceLaws.{first-inside}
 use Rattle.text_white.specs.Trim.{trimEnd}
 use Rattle.text_white.proofs.TrimLaws.{trim-end-inside}
 use Rattle.load_rule.specs.Comments.{signatureOf}
-use Rattle.load_residual.specs.declared.residual.Residual.the-variants.{Text, Nothing}
-use Rattle.load_residual.specs.inner.Residuals.{placeLook, Gives, heeded, bracedGives, hashGives}
-
-none-lies : (n : ℕ) → Lies (span 0 0) n
-none-lies n = record { order = omega arith; within = omega arith }
+use Rattle.load_residual.specs.declared.residual.Residual.{Residual}
+use Rattle.load_residual.specs.declared.residual.Residual.the-variants.{Nothing}
+use Rattle.load_residual.specs.inner.Residuals.{Gives, heeded, bracedGives, hashGives}
+use Rattle.load_residual.proofs.Giving.{nothing-lies}
 
 module _ (s : List ℕ) (hash e : ℕ) where
   pub unheeded : (member : Bool) → not member ≡ true → Gives s Nothing (heeded member (hashGives (between s hash e)))
   unheeded member n = go member n
     where
       go : (b : Bool) → not b ≡ true → Gives s Nothing (heeded b (hashGives (between s hash e)))
-      go false q = record { look = refl; lies = none-lies (length s) }
+      go false q = record { look = refl; lies = nothing-lies (length s) }
       go true q = clash q refl
 
   module _ (o : hash ≤ e) (i : e ≤ length s) {size : ℕ} (f : size ≡ trimEnd (between s hash e)) where
@@ -60,8 +57,8 @@ module _ (s : List ℕ) (hash e : ℕ) where
       no-brace member m z = go member m
         where
           go : (b : Bool) → not b ≡ false → Gives s Nothing (heeded b (hashGives (between s hash e)))
-          go true r = record { look = sym (found ∙ ap (bracedGives (between s hash (hash + size))) z); lies = none-lies (length s) }
-          go false r = record { look = refl; lies = none-lies (length s) }
+          go true r = record { look = sym (found ∙ ap (bracedGives (between s hash (hash + size))) z); lies = nothing-lies (length s) }
+          go false r = record { look = refl; lies = nothing-lies (length s) }
 
       module _ {gap : ℕ} (z : q ≡ At gap) where
         inside : gap < size
@@ -86,22 +83,12 @@ module _ (s : List ℕ) (hash e : ℕ) where
         given : hashGives (between s hash e) ≡ signatureOf (between s (hash + gap) (hash + size))
         given = found ∙ ap (bracedGives (between s hash (hash + size))) z ∙ ap signatureOf json
 
-        module _ (p : Place) (r : placeLook (between s (hash + gap) (hash + size)) p ≡ signatureOf (between s (hash + gap) (hash + size))) (member : Bool) (m : not member ≡ false) where
-          pub no-string : p ≡ Nowhere → Gives s Nothing (heeded member (hashGives (between s hash e)))
-          no-string y = go member m
-            where
-              go : (b : Bool) → not b ≡ false → Gives s Nothing (heeded b (hashGives (between s hash e)))
-              go true u = record { look = sym (given ∙ sym r ∙ ap (placeLook (between s (hash + gap) (hash + size))) y); lies = none-lies (length s) }
-              go false u = record { look = refl; lies = none-lies (length s) }
+        pub brace-gives : {r : Residual} → Gives s r (signatureOf (between s (hash + gap) (hash + size))) → (member : Bool) → not member ≡ false →
+            Gives s r (heeded member (hashGives (between s hash e)))
+        brace-gives {r} w member m = go member m
+          where
+            go : (b : Bool) → not b ≡ false → Gives s r (heeded b (hashGives (between s hash e)))
+            go true u = record { look = w .look ∙ sym given; lies = w .lies }
+            go false u = clash refl u
 
-          pub string-here : {string : ℕ} → p ≡ At string → Gives s (Text (hash + gap) (hash + size) string) (heeded member (hashGives (between s hash e)))
-          string-here {string} y = go member m
-            where
-              go : (b : Bool) → not b ≡ false → Gives s (Text (hash + gap) (hash + size) string) (heeded b (hashGives (between s hash e)))
-              go true u = record {
-                look = sym (given ∙ sym r ∙ ap (placeLook (between s (hash + gap) (hash + size))) y);
-                lies = record { order = brace-order; within = stop-inside };
-              }
-              go false u = clash refl u
-
-pub ruleset hashed = (unheeded, stop-fits, stop-inside, no-brace, brace-fits, brace-order, no-string, string-here, needs)
+pub ruleset hashed = (unheeded, stop-fits, stop-inside, no-brace, brace-fits, brace-order, brace-gives, needs)

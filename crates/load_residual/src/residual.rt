@@ -81,8 +81,19 @@ fn string_of(json: &[u8]) -> Place
     }
 }
 
+// The signature that a comment's JSON gives, which runs from `start` to `end`.
+fn signature_between(text: &[u8], start: usize, end: usize) -> Residual
+    requires { ⌜ (start ≤ «end») × («end» ≤ length (now text)) ⌝ }
+    ensures { λ r. ⌜ Gives (now (text .entry)) r (signatureOf (between (now (text .entry)) start «end»)) ⌝ }
+{
+    let Place::At(string) = string_of(&text[start..end]) else {
+        return Residual::Nothing;
+    };
+    Residual::Text { start, end, string }
+}
+
 // The signature that a comment gives, whose `{` stands at `brace`.
-pub fn signature_at(line: &[u8], brace: Place) -> Residual
+fn signature_at(line: &[u8], brace: Place) -> Residual
     requires { ⌜ lineOf (now line) ≡ kinds.Comment brace ⌝ }
     ensures { λ r. ⌜ Gives (now (line .entry)) r (signatureAt (now (line .entry)) brace) ⌝ }
 {
@@ -90,11 +101,7 @@ pub fn signature_at(line: &[u8], brace: Place) -> Residual
         return Residual::Nothing;
     };
     let part = trim_both(line);
-    let end = part.end;
-    let Place::At(string) = string_of(&line[start..end]) else {
-        return Residual::Nothing;
-    };
-    Residual::Text { start, end, string }
+    signature_between(line, start, part.end)
 }
 
 // Whether there is a signature.
@@ -174,15 +181,7 @@ fn signature_in(text: &[u8], hash: usize, end: usize, member: bool) -> Residual
     let Place::At(gap) = first_byte(&text[hash..stop], b'{') else {
         return Residual::Nothing;
     };
-    let start = hash + gap;
-    let Place::At(string) = string_of(&text[start..stop]) else {
-        return Residual::Nothing;
-    };
-    Residual::Text {
-        start,
-        end: stop,
-        string,
-    }
+    signature_between(text, hash + gap, stop)
 }
 
 // No line is passed yet.

@@ -191,9 +191,6 @@ module _ (classes : List (List ℕ)) (rows : List (List ℕ)) (pool : List ℕ) 
       pub own-link-fits : Fits w64 (8192 + row)
       own-link-fits = let i = own-inside in let f = x .few in omega arith
 
-      pub own-row-fits : Fits w64 (row * 60)
-      own-row-fits = let i = own-inside in let f = x .few in omega arith
-
 pub ruleset lining-before = (home-inside, own-inside, line-row, line-behind, own-link, own-link-fits, needs)
 
 -- What the row that answers says.

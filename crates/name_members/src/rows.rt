@@ -8,8 +8,8 @@ use table_rows::unpack_class;
 use table_rows::unpack_member;
 use tables::Found;
 use tables::last_with_raw;
-use tables::same_stored;
 use tables::text_in;
+use text_places::same_text;
 ghost use mathlib.Core.Path.{_≡_};
 ghost use Prim.Native.Nat.{_<_};
 ghost use mathlib.Core.List.{[]};
@@ -62,13 +62,13 @@ pub fn is_sought(sought: Sought, pool: &[u8], member: Member, display: &[u8]) ->
     match sought {
         Sought::Field => false,
         Sought::Method => true,
-        Sought::Own => same_stored(display, text_in(pool, member.owner)),
+        Sought::Own => same_text(display, text_in(pool, member.owner)),
         Sought::OwnLine(line) => {
             // numbers are compared before texts
             if !holds_line(ranges, line) {
                 return false;
             }
-            same_stored(display, text_in(pool, member.owner))
+            same_text(display, text_in(pool, member.owner))
         }
     }
 }
@@ -79,7 +79,7 @@ fn class_is(classes: &[ClassRow], pool: &[u8], class: u32, raw: &[u8]) -> bool
 {
     let row = class as usize;
     if row < classes.len() {
-        return same_stored(text_in(pool, unpack_class(classes[row]).raw), raw);
+        return same_text(text_in(pool, unpack_class(classes[row]).raw), raw);
     }
     false
 }
@@ -101,10 +101,10 @@ fn is_match(
     if !class_is(classes, pool, member.class, owner) {
         return false;
     }
-    if !same_stored(text_in(pool, member.raw_name), name) {
+    if !same_text(text_in(pool, member.raw_name), name) {
         return false;
     }
-    same_stored(text_in(pool, member.descriptor), descriptor)
+    same_text(text_in(pool, member.descriptor), descriptor)
 }
 
 // Whether a member is what is sought, and matches.

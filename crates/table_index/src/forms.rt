@@ -3,7 +3,7 @@ use crate::blocks::alike_up_to;
 use crate::texts::Order;
 use crate::texts::compare_texts;
 use table_pool::stored_byte;
-use tables::same_stored;
+use text_places::same_text;
 ghost use mathlib.Core.Path.{_≡_};
 ghost use Prim.Native.Nat.{_<_, _+_};
 ghost use lib.Dec.{leb};
@@ -122,7 +122,7 @@ pub fn is_named(text: &[u8], name: &[u8], form: NameForm) -> bool
     ensures { λ r. ⌜ r ≡ same (now (text .entry)) (spelled form (now (name .entry))) ⌝ }
 {
     match form {
-        NameForm::Whole => same_stored(text, name),
+        NameForm::Whole => same_text(text, name),
         NameForm::Piece(dots) => is_piece(text, name, dots),
     }
 }

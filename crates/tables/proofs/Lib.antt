@@ -4,5 +4,3 @@ pub mod Searching
 pub mod Checking
 pub mod Tested
 pub mod Holding
-pub mod AsciiBlocks
-pub mod SameBlocks

@@ -1,5 +1,4 @@
 // The check for refusal 14, "tables malformed". Every function takes any rows, any pool and any counts.
-use crate::ascii::ascii_far;
 use crate::texts::lesser;
 use crate::texts::text_in;
 use table_rows::ClassRow;
@@ -12,6 +11,7 @@ use table_rows::Text;
 use table_rows::range_flag;
 use table_rows::unpack_class;
 use table_rows::unpack_member;
+use text_utf8::ascii_start;
 use text_utf8::is_utf8;
 ghost use mathlib.Core.Path.{_≡_};
 ghost use Rattle.text_utf8.specs.inner.Runs.{AsciiTo};
@@ -139,7 +139,7 @@ pub fn well_formed(classes: &[ClassRow], members: &[MemberRow], pool: &[u8], use
         return false;
     }
     let bytes = used.pool as usize;
-    let ascii = ascii_far(&pool[..bytes]);
+    let ascii = ascii_start(&pool[..bytes]);
     let class_rows = used.classes as usize;
     if !classes_fine(&classes[..class_rows], pool, ascii, used) {
         return false;

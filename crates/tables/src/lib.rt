@@ -1,14 +1,10 @@
 // Tables: the texts that rows name, the check for refusal 14, and the last row with a descriptor.
-mod ascii;
 mod check;
-mod same;
 mod search;
 mod texts;
 
-pub use ascii::ascii_far;
 pub use check::Used;
 pub use check::well_formed;
-pub use same::same_stored;
 pub use search::Found;
 pub use search::Side;
 pub use search::last_with_display;

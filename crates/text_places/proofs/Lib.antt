@@ -2,7 +2,7 @@
 pub mod PlaceLaws
 pub mod LineLaws
 pub mod BlockLaws
-pub mod EightLaws
+pub mod SameLaws
 pub mod Holds
 pub mod Taking
 pub mod InPart

@@ -1,4 +1,4 @@
 -- Words of inner contracts: no rule cites them.
 pub mod Blocks
-pub mod Eights
+pub mod Differing
 pub mod NextLine

@@ -2,7 +2,7 @@
 pub mod Leads
 pub mod Sequences
 pub mod Pieces
-pub mod Ascii
+pub mod RunLaws
 pub mod Checking
 pub mod Grammatical
 pub mod Starts

@@ -1,94 +1,20 @@
 // Whether a text is UTF-8. Runs of ASCII go by blocks, most characters of three octets at one go.
+use crate::ascii::ascii_blocks;
+use crate::ascii::ascii_end;
 use crate::sequence::Sequence;
 use crate::sequence::sequence_at;
 ghost use mathlib.Core.Path.{_≡_};
 ghost use mathlib.Core.Bool.{true};
-ghost use Prim.Native.Nat.{ℕ, _+_, _≤_, _<_, max};
-ghost use lib.ListN.{length, getD, drop};
+ghost use Prim.Native.Nat.{_≤_};
+ghost use lib.ListN.{length, drop};
 ghost use Rattle.text_utf8.specs.Utf8.{sequenceOf, pieces, checkFrom, checkOf, isUtf8};
 ghost use Rattle.ground.specs.Choice.{within};
-ghost use Rattle.text_utf8.specs.inner.Runs.{AsciiTo, Three, goodLength};
+ghost use Rattle.text_utf8.specs.inner.Runs.{Three, goodLength};
 
 // Whether a whole text is UTF-8, and if not, where and how it breaks first.
 pub enum Check {
     Valid,
     Broken { at: usize, length: usize },
-}
-
-// The greater of two bytes.
-fn greater(a: u8, b: u8) -> u8
-    ensures { λ r. ⌜ r ≡ max a b ⌝ }
-{
-    if a < b {
-        return b;
-    }
-    a
-}
-
-// A bound of the 16 bytes from a place on: the greatest of them. The compiler makes a few vector instructions of it.
-fn greatest_of_block(s: &[u8], at: usize) -> u8
-    requires { ⌜ at + 16 ≤ length (now s) ⌝ }
-    ensures { λ r. ⌜ ((k : ℕ) → k < 16 → getD (now (s .entry)) (at + k) 0 ≤ r) ⌝ }
-{
-    let mut greatest = 0;
-    let mut i = 0;
-    while i < 16 {
-        greatest = greater(greatest, s[at + i]);
-        i += 1;
-    }
-    greatest
-}
-
-// A place up to which all bytes from `start` on are ASCII, by whole blocks.
-fn ascii_blocks(s: &[u8], start: usize) -> usize
-    requires { ⌜ start ≤ length (now s) ⌝ }
-    ensures { λ r. ⌜ AsciiTo (now (s .entry)) start r ⌝ }
-{
-    let mut at = start;
-    while 16 <= s.len() - at {
-        if 0x7F < greatest_of_block(s, at) {
-            return at;
-        }
-        at += 16;
-    }
-    at
-}
-
-// The place up to which all bytes from `start` on are ASCII.
-fn ascii_bytes(s: &[u8], start: usize) -> usize
-    requires { ⌜ start ≤ length (now s) ⌝ }
-    ensures { λ r. ⌜ AsciiTo (now (s .entry)) start r ⌝ }
-{
-    let mut at = start;
-    while at < s.len() {
-        if 0x7F < s[at] {
-            return at;
-        }
-        at += 1;
-    }
-    at
-}
-
-// The same: no block is asked where the first byte is not ASCII, as in lines of other scripts.
-fn ascii_end(s: &[u8], start: usize) -> usize
-    requires { ⌜ start ≤ length (now s) ⌝ }
-    ensures { λ r. ⌜ AsciiTo (now (s .entry)) start r ⌝ }
-{
-    if start < s.len() {
-        if 0x7F < s[start] {
-            return start;
-        }
-    }
-    let blocks = ascii_blocks(s, start);
-    ascii_bytes(s, blocks)
-}
-
-// The place up to which a text is ASCII.
-pub fn ascii_start(s: &[u8]) -> usize
-    ensures { λ r. ⌜ AsciiTo (now (s .entry)) 0 r ⌝ }
-{
-    let blocks = ascii_blocks(s, 0);
-    ascii_bytes(s, blocks)
 }
 
 // Whether a byte may be any but the first of a character.
@@ -153,7 +79,7 @@ fn bad_at(s: &[u8], at: usize) -> Check
 pub fn check_text(s: &[u8]) -> Check
     ensures { λ r. ⌜ r ≡ checkOf (now (s .entry)) ⌝ }
 {
-    let mut at = ascii_blocks(s, 0);
+    let mut at = ascii_blocks(s, 0, 256);
     while at < s.len() {
         if s[at] < 0x80 {
             at = ascii_end(s, at + 1);

@@ -1,9 +1,9 @@
 // The name rows: inside the name bytes, and UTF-8.
 use table_rows::Text;
-use tables::ascii_far;
 use text_parts::GROUPS;
 use text_parts::mark_reach;
 use text_parts::part_is_utf8;
+use text_utf8::ascii_start;
 use tree_rule::RowCheck;
 use tree_rule::TreeCounts;
 use tree_words::name_bytes;
@@ -76,7 +76,7 @@ pub fn faulty_text(tree: &[u8], counts: TreeCounts) -> RowCheck
     ensures { λ r. ⌜ r ≡ faultyText counts (now (tree .entry)) ⌝ }
 {
     let bytes = name_bytes(tree, counts);
-    if ascii_far(bytes) == bytes.len() {
+    if ascii_start(bytes) == bytes.len() {
         return RowCheck::Fine;
     }
     let mut reach = [0; GROUPS];

@@ -6,8 +6,8 @@ use Rattle.apply_members.proofs.member.is_home.Tie as tie
 starts-as-requires : tie.Need-starts-as-requires
 starts-as-requires c κs = search home-asking
 
-same-bytes-requires : tie.Need-same-bytes-requires
-same-bytes-requires c κs = search home-asking
+same-text-requires : tie.Need-same-text-requires
+same-text-requires c κs = search home-asking
 
 returns : tie.Need-returns
 returns c = search home-asking
@@ -16,4 +16,4 @@ returns-2 : tie.Need-returns-2
 returns-2 c = search home-asking
 
 pub is-home-spec : {M : Type 1} → statement M
-is-home-spec = tie.close (tie.spec starts-as-requires same-bytes-requires returns returns-2)
+is-home-spec = tie.close (tie.spec starts-as-requires same-text-requires returns returns-2)

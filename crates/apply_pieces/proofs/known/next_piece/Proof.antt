@@ -3,17 +3,17 @@ use Rattle.apply_pieces.proofs.Knowing.{piece-by-piece, past-fits}
 use Rattle.apply_pieces.proofs.known.next_piece.Statement.{statement}
 use Rattle.apply_pieces.proofs.known.next_piece.Tie as tie
 
-sub-near-place : tie.Need-sub-near-place
-sub-near-place c = search piece-by-piece
+sub-first-byte : tie.Need-sub-first-byte
+sub-first-byte c = search piece-by-piece
 
-part-near-place-start : tie.Need-part-near-place-start
-part-near-place-start c = search piece-by-piece
+part-first-byte-start : tie.Need-part-first-byte-start
+part-first-byte-start c = search piece-by-piece
 
-part-near-place-end : tie.Need-part-near-place-end
-part-near-place-end c = search piece-by-piece
+part-first-byte-end : tie.Need-part-first-byte-end
+part-first-byte-end c = search piece-by-piece
 
-near-place-requires : tie.Need-near-place-requires
-near-place-requires c κs = search piece-by-piece
+first-byte-requires : tie.Need-first-byte-requires
+first-byte-requires c κs = search piece-by-piece
 
 enum-known-plain : tie.Need-enum-known-plain
 enum-known-plain c = search piece-by-piece
@@ -27,17 +27,17 @@ returns c = search piece-by-piece
 add-start : tie.Need-add-start
 add-start c = search piece-by-piece
 
-sub-place-of : tie.Need-sub-place-of
-sub-place-of c = search piece-by-piece
+sub-first-byte-2 : tie.Need-sub-first-byte-2
+sub-first-byte-2 c = search piece-by-piece
 
-part-place-of-start : tie.Need-part-place-of-start
-part-place-of-start c = search piece-by-piece
+part-first-byte-start-2 : tie.Need-part-first-byte-start-2
+part-first-byte-start-2 c = search piece-by-piece
 
-part-place-of-end : tie.Need-part-place-of-end
-part-place-of-end c = search piece-by-piece
+part-first-byte-end-2 : tie.Need-part-first-byte-end-2
+part-first-byte-end-2 c = search piece-by-piece
 
-place-of-requires : tie.Need-place-of-requires
-place-of-requires c κs = search piece-by-piece
+first-byte-requires-2 : tie.Need-first-byte-requires-2
+first-byte-requires-2 c κs = search piece-by-piece
 
 enum-known-gap : tie.Need-enum-known-gap
 enum-known-gap c = search piece-by-piece
@@ -61,18 +61,18 @@ pub next-piece-spec : {M : Type 1} → statement M
 next-piece-spec =
     tie.close
     (tie.spec
-    sub-near-place
-    part-near-place-start
-    part-near-place-end
-    near-place-requires
+    sub-first-byte
+    part-first-byte-start
+    part-first-byte-end
+    first-byte-requires
     enum-known-plain
     enum-told
     returns
     add-start
-    sub-place-of
-    part-place-of-start
-    part-place-of-end
-    place-of-requires
+    sub-first-byte-2
+    part-first-byte-start-2
+    part-first-byte-end-2
+    first-byte-requires-2
     enum-known-gap
     enum-told-2
     returns-2

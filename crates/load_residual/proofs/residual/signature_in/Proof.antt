@@ -42,32 +42,14 @@ enum-told c = search hashed
 returns-2 : tie.Need-returns-2
 returns-2 c = search hashed
 
-add-start : tie.Need-add-start
-add-start c = search hashed
+add-signature-between : tie.Need-add-signature-between
+add-signature-between c = search hashed
 
-sub-string-of : tie.Need-sub-string-of
-sub-string-of c = search hashed
-
-part-string-of-start : tie.Need-part-string-of-start
-part-string-of-start c = search hashed
-
-part-string-of-end : tie.Need-part-string-of-end
-part-string-of-end c = search hashed
-
-string-of-requires : tie.Need-string-of-requires
-string-of-requires c κs = search hashed
-
-enum-known-string : tie.Need-enum-known-string
-enum-known-string c = search hashed
-
-enum-told-2 : tie.Need-enum-told-2
-enum-told-2 c = search hashed
+signature-between-requires : tie.Need-signature-between-requires
+signature-between-requires c κs = search hashed
 
 returns-3 : tie.Need-returns-3
 returns-3 c = search hashed
-
-returns-4 : tie.Need-returns-4
-returns-4 c = search hashed
 
 pub signature-in-spec : {M : Type 1} → statement M
 signature-in-spec =
@@ -86,12 +68,6 @@ signature-in-spec =
     enum-known-gap
     enum-told
     returns-2
-    add-start
-    sub-string-of
-    part-string-of-start
-    part-string-of-end
-    string-of-requires
-    enum-known-string
-    enum-told-2
-    returns-3
-    returns-4)
+    add-signature-between
+    signature-between-requires
+    returns-3)

@@ -15,8 +15,8 @@ unpack-class-requires c κs = search class-known
 text-in-requires : tie.Need-text-in-requires
 text-in-requires c κs = search class-known
 
-same-stored-requires : tie.Need-same-stored-requires
-same-stored-requires c κs = search class-known
+same-text-requires : tie.Need-same-text-requires
+same-text-requires c κs = search class-known
 
 returns : tie.Need-returns
 returns c = search class-known
@@ -32,6 +32,6 @@ class-is-spec =
     shared-slice-copy-out-unpack-class
     unpack-class-requires
     text-in-requires
-    same-stored-requires
+    same-text-requires
     returns
     returns-2)

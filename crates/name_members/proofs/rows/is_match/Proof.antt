@@ -12,8 +12,8 @@ returns c = search matching
 text-in-requires : tie.Need-text-in-requires
 text-in-requires c κs = search matching
 
-same-stored-requires : tie.Need-same-stored-requires
-same-stored-requires c κs = search matching
+same-text-requires : tie.Need-same-text-requires
+same-text-requires c κs = search matching
 
 returns-2 : tie.Need-returns-2
 returns-2 c = search matching
@@ -21,8 +21,8 @@ returns-2 c = search matching
 text-in-requires-2 : tie.Need-text-in-requires-2
 text-in-requires-2 c κs = search matching
 
-same-stored-requires-2 : tie.Need-same-stored-requires-2
-same-stored-requires-2 c κs = search matching
+same-text-requires-2 : tie.Need-same-text-requires-2
+same-text-requires-2 c κs = search matching
 
 returns-3 : tie.Need-returns-3
 returns-3 c = search matching
@@ -34,8 +34,8 @@ is-match-spec =
     class-is-requires
     returns
     text-in-requires
-    same-stored-requires
+    same-text-requires
     returns-2
     text-in-requires-2
-    same-stored-requires-2
+    same-text-requires-2
     returns-3)

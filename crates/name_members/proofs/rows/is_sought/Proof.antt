@@ -21,8 +21,8 @@ enum-told-3 c = search seeking-kind
 text-in-requires : tie.Need-text-in-requires
 text-in-requires c κs = search seeking-kind
 
-same-stored-requires : tie.Need-same-stored-requires
-same-stored-requires c κs = search seeking-kind
+same-text-requires : tie.Need-same-text-requires
+same-text-requires c κs = search seeking-kind
 
 enum-known-sought : tie.Need-enum-known-sought
 enum-known-sought c = search seeking-kind
@@ -36,8 +36,8 @@ returns-2 c = search seeking-kind
 text-in-requires-2 : tie.Need-text-in-requires-2
 text-in-requires-2 c κs = search seeking-kind
 
-same-stored-requires-2 : tie.Need-same-stored-requires-2
-same-stored-requires-2 c κs = search seeking-kind
+same-text-requires-2 : tie.Need-same-text-requires-2
+same-text-requires-2 c κs = search seeking-kind
 
 returns-3 : tie.Need-returns-3
 returns-3 c = search seeking-kind
@@ -61,12 +61,12 @@ is-sought-spec =
     enum-told-2
     enum-told-3
     text-in-requires
-    same-stored-requires
+    same-text-requires
     enum-known-sought
     holds-line-requires
     returns-2
     text-in-requires-2
-    same-stored-requires-2
+    same-text-requires-2
     returns-3
     returns-4
     returns-5

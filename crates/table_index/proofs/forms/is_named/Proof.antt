@@ -6,8 +6,8 @@ use Rattle.table_index.proofs.forms.is_named.Tie as tie
 enum-told : tie.Need-enum-told
 enum-told c = search same-naming
 
-same-stored-requires : tie.Need-same-stored-requires
-same-stored-requires c κs = search same-naming
+same-text-requires : tie.Need-same-text-requires
+same-text-requires c κs = search same-naming
 
 enum-known-form : tie.Need-enum-known-form
 enum-known-form c = search same-naming
@@ -24,4 +24,4 @@ returns-2 c = search same-naming
 pub is-named-spec : {M : Type 1} → statement M
 is-named-spec =
     tie.close
-    (tie.spec enum-told same-stored-requires enum-known-form is-piece-requires returns returns-2)
+    (tie.spec enum-told same-text-requires enum-known-form is-piece-requires returns returns-2)

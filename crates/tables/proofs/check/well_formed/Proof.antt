@@ -12,11 +12,11 @@ returns c = search forming
 cast-bytes : tie.Need-cast-bytes
 cast-bytes c = search forming
 
-slice-aggregate-ascii-far : tie.Need-slice-aggregate-ascii-far
-slice-aggregate-ascii-far c = search forming
+slice-aggregate-ascii-start : tie.Need-slice-aggregate-ascii-start
+slice-aggregate-ascii-start c = search forming
 
-ascii-far-requires : tie.Need-ascii-far-requires
-ascii-far-requires c κs = search forming
+ascii-start-requires : tie.Need-ascii-start-requires
+ascii-start-requires c κs = search forming
 
 cast-class-rows : tie.Need-cast-class-rows
 cast-class-rows c = search forming
@@ -49,8 +49,8 @@ well-formed-spec =
     counts-fine-requires
     returns
     cast-bytes
-    slice-aggregate-ascii-far
-    ascii-far-requires
+    slice-aggregate-ascii-start
+    ascii-start-requires
     cast-class-rows
     slice-aggregate-classes-fine
     classes-fine-requires

@@ -6,8 +6,8 @@ use Rattle.tree_checks.proofs.names.faulty_text.Tie as tie
 name-bytes-requires : tie.Need-name-bytes-requires
 name-bytes-requires c κs = search reached
 
-ascii-far-requires : tie.Need-ascii-far-requires
-ascii-far-requires c κs = search reached
+ascii-start-requires : tie.Need-ascii-start-requires
+ascii-start-requires c κs = search reached
 
 returns : tie.Need-returns
 returns c = search reached
@@ -32,7 +32,7 @@ faulty-text-spec =
     tie.close
     (tie.spec
     name-bytes-requires
-    ascii-far-requires
+    ascii-start-requires
     returns
     slice-aggregate-mark-reach
     mark-reach-requires
