@@ -24,9 +24,7 @@ use Rattle.text_white.proofs.TrimLaws.{run-inside}
 use Rattle.table_rows.specs.Rows.{zeroClass, zeroMember}
 use Rattle.load_rule.specs.declared.Load.{Load}
 use Rattle.load_rule.specs.declared.Load.the-variants.{TooLong, NotUtf8}
-use Rattle.load_rule.specs.Loading.{Lent, counting, checked, answerOf, isLoaded, leaves, classRowsOf, memberRowsOf, poolOf, lent, lentOf, classesLeft, membersLeft, poolLeft, loadNumbers, numbersGiven, linesParse, mostText}
-use Rattle.table_rows.specs.Tables.{Tables}
-use Rattle.load.specs.Loads.{Loads}
+use Rattle.load_rule.specs.Loading.{Lent, counting, checked, answerOf, isLoaded, leaves, classRowsOf, memberRowsOf, poolOf, lent, linesParse, mostText}
 use Rattle.load.specs.inner.Left.{Cleared, Left, Leaving}
 
 -- a text that is not too long

@@ -2,11 +2,9 @@
 use mathlib.Core.Path.{_≡_, refl, sym, _∙_, ap}
 use mathlib.Core.Bool.{Bool, true, false}
 use mathlib.Core.List.{List}
-use Prim.Native.Nat.{ℕ, _+_, _-_, _≤_, _<_}
+use Prim.Native.Nat.{ℕ, _≤_, _<_}
 use native.Mathlib.Omega.{arith}
 use lib.ListN.{length, drop}
-use mir.Val.{Fits}
-use mir.Syntax.{w64}
 use borrow.Author.Needs.{needs}
 use Rattle.ground.specs.Put.{between}
 use Rattle.ground.specs.Choice.{pick}
@@ -21,7 +19,7 @@ use Rattle.json_comment.specs.declared.answer.Comment as comment
 use Rattle.json_comment.specs.declared.answer.Comment.the-variants.{Unreadable, Readable}
 use Rattle.json_comment.specs.Answer.{commentOf, residualOf}
 use Rattle.line.specs.declared.line.Line.the-variants as kinds
-use Rattle.text_places.specs.Spans.{span, shift, partOf, Lies, largest}
+use Rattle.text_places.specs.Spans.{span, partOf, Lies}
 use Rattle.line.specs.Kinds.{lineOf}
 use Rattle.line_parts.proofs.Lying.{trim-lies}
 use Rattle.line.proofs.Whole.{brace-inside}

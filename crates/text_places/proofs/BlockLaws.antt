@@ -1,10 +1,10 @@
 -- Blocks that do not hold a byte, and the searches that pass them. Assumes nothing.
-use mathlib.Core.Path.{_≡_, refl, sym, ap₂, _∙_}
+use mathlib.Core.Path.{_≡_, refl, sym, ap, ap₂, _∙_}
 use mathlib.Core.Bool.{Bool, true, false}
 use mathlib.Core.List.{List}
 use mathlib.Core.Logic.{_⊎_, inl, inr}
 use Prim.Native.Nat.{ℕ, zero, suc, _+_, _-_, _*_, _/_, _%_, _^_, _≤_, _<_}
-use native.Mathlib.Nat.{add-zero, pow-suc}
+use native.Mathlib.Nat.{add-zero, pow-suc, mul-assoc, mul-comm}
 use native.Mathlib.Omega.{arith}
 use mir.Val.{Fits}
 use mir.Syntax.{w16, w64}
@@ -62,20 +62,17 @@ unfolding trailingZeros
 zeros-below d m t = ap₂ (λ (x y : ℕ). under x (trailingZeros d y)) (bit-below m t .0) (bit-below m t .1)
 
 module _ (b : ℕ) (s : List ℕ) where
-  -- it is made of halves
-  join-two : (at n : ℕ) → maskOf b s at (suc (suc n)) ≡ maskOf b s at 2 + 4 * maskOf b s (at + 2) n
+  -- it is made of two parts
+  join : (n m at : ℕ) → maskOf b s at (n + m) ≡ maskOf b s at n + 2 ^ n * maskOf b s (at + n) m
   unfolding maskOf
-  join-two at n = let e : at + 2 ≡ at + 1 + 1 = omega arith in rw e (omega arith)
-
-  join-four : (at n : ℕ) → maskOf b s at (suc (suc (suc (suc n)))) ≡ maskOf b s at 4 + 16 * maskOf b s (at + 4) n
-  join-four at n =
-      let e : at + 4 ≡ at + 2 + 2 = omega arith in
-      rw e (omega (arith, join-two at (suc (suc n)), join-two (at + 2) n, join-two at 2))
-
-  join-eight : (at n : ℕ) → maskOf b s at (suc (suc (suc (suc (suc (suc (suc (suc n)))))))) ≡ maskOf b s at 8 + 256 * maskOf b s (at + 8) n
-  join-eight at n =
-      let e : at + 8 ≡ at + 4 + 4 = omega arith in
-      rw e (omega (arith, join-four at (suc (suc (suc (suc n)))), join-four (at + 4) n, join-four at 4))
+  join zero m at = let z : 0 + m ≡ m = omega arith in rw (z, add-zero at) (omega arith)
+  join (suc n) m at =
+      let z : suc n + m ≡ suc (n + m) = omega arith in
+      let e : at + suc n ≡ at + 1 + n = omega arith in
+      let p : 2 ^ n * 2 * maskOf b s (at + 1 + n) m ≡ 2 ^ n * maskOf b s (at + 1 + n) m * 2 =
+      mul-assoc (2 ^ n) 2 (maskOf b s (at + 1 + n) m) ∙ ap (λ x. 2 ^ n * x) (mul-comm 2 (maskOf b s (at + 1 + n) m))
+      ∙ sym (mul-assoc (2 ^ n) (maskOf b s (at + 1 + n) m) 2) in
+      rw (z, e, pow-suc 2 n, p) (omega (arith, join n m (at + 1)))
 
   mask-small : (at n : ℕ) → maskOf b s at n < 2 ^ n
   unfolding maskOf
@@ -114,38 +111,43 @@ module _ (b : ℕ) (s : List ℕ) where
       pub two-fits : Fits w16 (l + 2 * h)
       two-fits = let z = mask-small at 2 in let j = two-joined in omega arith
 
+    -- of halves of so many bytes each
+    module _ (n : ℕ) (e : l ≡ maskOf b s at n) (f : h ≡ maskOf b s (at + n) n) where
+      halves : l + 2 ^ n * h ≡ maskOf b s at (n + n)
+      halves = rw (e, f) (sym (join n n at))
+
+      halves-small : l + 2 ^ n * h < 2 ^ (n + n)
+      halves-small = rw halves (mask-small at (n + n))
+
     module _ (e : l ≡ maskOf b s at 2) (f : h ≡ maskOf b s (at + 2) 2) where
       pub four-joined : l + 4 * h ≡ maskOf b s at 4
-      four-joined = let j = join-two at 2 in omega arith
+      four-joined = halves 2 e f
 
       pub four-high : Fits w16 (4 * h)
-      four-high = let z = mask-small at 4 in let j = four-joined in omega arith
+      four-high = let z = halves-small 2 e f in omega arith
 
       pub four-fits : Fits w16 (l + 4 * h)
-      four-fits = let z = mask-small at 4 in let j = four-joined in omega arith
+      four-fits = let z = halves-small 2 e f in omega arith
 
     module _ (e : l ≡ maskOf b s at 4) (f : h ≡ maskOf b s (at + 4) 4) where
       pub eight-joined : l + 16 * h ≡ maskOf b s at 8
-      eight-joined = let j = join-four at 4 in omega arith
+      eight-joined = halves 4 e f
 
       pub eight-high : Fits w16 (16 * h)
-      eight-high = let z = mask-small at 8 in let j = eight-joined in omega arith
+      eight-high = let z = halves-small 4 e f in omega arith
 
       pub eight-fits : Fits w16 (l + 16 * h)
-      eight-fits = let z = mask-small at 8 in let j = eight-joined in omega arith
+      eight-fits = let z = halves-small 4 e f in omega arith
 
     module _ (e : l ≡ maskOf b s at 8) (f : h ≡ maskOf b s (at + 8) 8) where
-      whole : l + 256 * h ≡ maskOf b s at 16
-      whole = let j = join-eight at 8 in omega arith
-
       pub whole-high : Fits w16 (256 * h)
-      whole-high = let z = mask-small at 16 in let j = whole in omega arith
+      whole-high = let z = halves-small 8 e f in omega arith
 
       pub whole-fits : Fits w16 (l + 256 * h)
-      whole-fits = let z = mask-small at 16 in let j = whole in omega arith
+      whole-fits = let z = halves-small 8 e f in omega arith
 
       pub whole-zeros : (k : ℕ) → k < trailingZeros 16 (l + 256 * h) → getD s (at + k) 0 ≡ b → ⊥
-      whole-zeros k u = mask-zeros 16 16 at k (rw whole at u) (omega (arith, trailing-le 16 (l + 256 * h)))
+      whole-zeros k u = mask-zeros 16 16 at k (rw (halves 8 e f) at u) (omega (arith, trailing-le 16 (l + 256 * h)))
 
 pub without-none : (b : ℕ) (s : List ℕ) («from» : ℕ) → «from» ≤ length s → Without b s «from» «from»
 without-none b s f h = along-none (λ x. x ≡ b → ⊥) s f h

@@ -33,10 +33,10 @@ fn token_fine(tree: &[u8], at: usize, bounds: &[usize; 4]) -> bool
         return false;
     }
     let bound = bounds[kind];
-    if bound <= word_at(tree, at + 4) as usize {
-        return false;
+    if (word_at(tree, at + 4) as usize) < bound {
+        return (word_at(tree, at + 8) as usize) < bound;
     }
-    (word_at(tree, at + 8) as usize) < bound
+    false
 }
 
 // "kind 1 member name and 2 descriptor (raw name, display name, below S), 3 source line (raw, display), 0 anything else, its a and b not

@@ -27,9 +27,6 @@ word-at-requires-2 c κs = search token-tests
 cast-if2 : tie.Need-cast-if2
 cast-if2 c = search token-tests
 
-returns-2 : tie.Need-returns-2
-returns-2 c = search token-tests
-
 add-word-at-2 : tie.Need-add-word-at-2
 add-word-at-2 c = search token-tests
 
@@ -38,6 +35,9 @@ word-at-requires-3 c κs = search token-tests
 
 cast-result : tie.Need-cast-result
 cast-result c = search token-tests
+
+returns-2 : tie.Need-returns-2
+returns-2 c = search token-tests
 
 returns-3 : tie.Need-returns-3
 returns-3 c = search token-tests
@@ -54,8 +54,8 @@ token-fine-spec =
     add-word-at
     word-at-requires-2
     cast-if2
-    returns-2
     add-word-at-2
     word-at-requires-3
     cast-result
+    returns-2
     returns-3)
