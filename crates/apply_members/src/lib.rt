@@ -1,5 +1,5 @@
-// Members that nodes name: the row whose name is shown, and the method whose lines are meant. Functions require that the tables and the tree
-// file have passed their checks, and that both indexes are made.
+// Members that nodes name: the row whose name is shown, and the method whose lines are meant. Functions require that the tables and the
+// tree file have passed their checks, and that both indexes are made.
 mod lines;
 mod member;
 mod node;

@@ -1,5 +1,6 @@
 -- The promise of an entry point as one statement: the answer, the class rows, the member rows and the pool, each by the rule of loading,
--- and the answer as document 01 numbers it. `parse` and `parse_str` say these five equations in their contracts; here they stand for theorems to speak of.
+-- and the answer as document 01 numbers it. `parse` and `parse_str` say these five equations in their contracts; here
+-- they stand for theorems to speak of.
 use mathlib.Core.Path.{_≡_}
 use mathlib.Core.List.{List}
 use Prim.Native.Nat.{ℕ}

@@ -72,7 +72,8 @@ pub fn ascii_end(s: &[u8], start: usize) -> usize
     ascii_bytes(s, blocks)
 }
 
-// The place up to which a text as long as a pool is ASCII: first by blocks so long that what a block costs besides its bytes does not count.
+// The place up to which a text is ASCII, which may be as long as a pool: first by blocks so long that what a block costs besides its bytes
+// does not count.
 pub fn ascii_start(s: &[u8]) -> usize
     ensures { λ r. ⌜ AsciiTo (now (s .entry)) 0 r ⌝ }
 {

@@ -1,4 +1,5 @@
-//! Tree files: the smali tree of a class, to which a [`Mapping`](crate::Mapping) is applied. Built and read here without knowing the layout.
+//! Tree files: the smali tree of a class, to which a [`Mapping`](crate::Mapping) is applied. Built and read here without
+//! knowing the layout.
 //!
 //! ```
 //! use clumarief::tree::{Token, Tree};
