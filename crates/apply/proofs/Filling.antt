@@ -28,13 +28,9 @@ use Rattle.apply_plans.specs.inner.Passed.{PlansMade}
 use Rattle.apply_output.proofs.Listing.{laid-length}
 use Rattle.apply_output.specs.inner.Output.{Ready, OutputIs, OutputOver, OutputBy}
 use Rattle.apply.specs.inner.Filled.{PassReady, FillReady, FilledTo, NoneFilled, OutputFilledBy}
+use Rattle.ground.proofs.Fill.{zero-at}
 
 -- Zeros.
-zero-at : (n i : ℕ) → _≡_ {A = ℕ} (getD (replicate n 0) i 0) 0
-zero-at zero i = refl
-zero-at (suc n) zero = refl
-zero-at (suc n) (suc i) = zero-at n i
-
 pub zero-drop : (k n : ℕ) → _≡_ {A = List ℕ} (drop k (replicate n 0)) (replicate (n - k) 0)
 zero-drop zero n = let z : n - 0 ≡ n = omega arith in rw z
 zero-drop (suc k) zero = let z : 0 - suc k ≡ 0 = omega arith in rw z

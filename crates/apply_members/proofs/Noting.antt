@@ -30,7 +30,7 @@ use Rattle.name_members.specs.inner.Sought.{soughtBy}
 use Rattle.name_members.specs.MemberAnswers.{rowAsked}
 use Rattle.name_members.proofs.Asking.{asked-none}
 use Rattle.name_index.specs.inner.Chains.{Chained, ownRow}
-use Rattle.name_index.proofs.LastRows.{last-none, last-told, raw-has}
+use Rattle.name_index.proofs.LastRows.{last-none, last-told, raw-has, raw-last}
 use Rattle.tree_rule.specs.Signatures.{opens}
 use Rattle.tree_signature.specs.inner.Tokens.{startsAs}
 use Rattle.apply_members.specs.declared.member.MemberNote.{MemberNote}
@@ -234,7 +234,7 @@ module _ (classes rows : List (List ℕ)) (pool class owner name descriptor : Li
       has = raw-has classes pool owner (sym f ∙ e)
 
       pub owner-last : lastRaw classes pool (textIn pool (unpackClass (getD classes i []) .raw)) ≡ Row i
-      owner-last = ap (lastRaw classes pool) has ∙ sym f ∙ e
+      owner-last = raw-last classes pool owner (sym f ∙ e)
 
       module _ {b : Bool} (q : b ≡ startsAs true descriptor) where
         test : opens descriptor ≡ b

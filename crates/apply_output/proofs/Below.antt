@@ -25,7 +25,8 @@ use Rattle.apply_output.specs.declared.plan.Plan.the-variants.{Stays, Li
 use Rattle.apply_output.specs.inner.Plan.{planBy, planAt, added, addedBelow, namesBy, bodyBy, rowBy, nameRowBy}
 use Rattle.apply_output.specs.inner.Output.{Ready, changesBelow}
 use Rattle.apply_output.proofs.Changing.{planned-names, planned-row}
-use Rattle.apply_output.proofs.Listing.{join-join, names-append, numbered-append}
+use Rattle.apply_output.proofs.Listing.{join-join}
+use Rattle.apply_rule.proofs.Numbering.{new-append, numbered-append}
 
 -- The name that a plan adds.
 module _ (classes rows : List (List ℕ)) (pool : List ℕ) (c : TreeCounts) (f : List ℕ) where
@@ -78,7 +79,7 @@ module _
     unfolding newNames
     names-more =
         ap newNames (below-more n)
-        ∙ names-append (below n) (this n ∷ [])
+        ∙ new-append (below n) (this n ∷ [])
         ∙ ap (λ l. newNames (below n) ++ l) (append-nil (nameOf (this n .change)) ∙ planned-names k n h)
 
     pub rows-more : join (map tokenRowBytes (numbered (c .names) (below (n + 1)))) ≡
@@ -125,7 +126,7 @@ module _
         let rest : List Changed = listFrom this (0 + (n + 1)) (c .tokens - (n + 1)) in
         let split : below (c .tokens) ≡ below (n + 1) ++ rest = ap below (sym z) ∙ list-append this 0 (n + 1) (c .tokens - (n + 1)) in
         let whole : join (newNames (below (c .tokens))) ≡ join (newNames (below (n + 1))) ++ join (newNames rest) =
-        ap (λ l. join (newNames l)) split ∙ ap join (names-append (below (n + 1)) rest)
+        ap (λ l. join (newNames l)) split ∙ ap join (new-append (below (n + 1)) rest)
         ∙ join-join (newNames (below (n + 1))) (newNames rest) in
         let more : join (newNames (below (n + 1))) ≡ join (newNames (below n)) ++ bodyBy classes rows pool c f (plan n) =
         ap join (names-more n h) ∙ join-join (newNames (below n)) (namesBy classes rows pool c f (plan n)) in

@@ -15,7 +15,8 @@ use Rattle.tree_rule.specs.Files.{treeCounts, nodesStart, tokensStart, namesSta
 use Rattle.tree_rule.proofs.Reading.{bytes-count}
 use Rattle.tree_rule.proofs.PutWords.{drop-put, part-before, part-after, part-more}
 use Rattle.apply_output.specs.inner.Output.{textsStart, FinishReady, finished}
-use Rattle.apply_output.proofs.Listing.{counts-length, part-length}
+use Rattle.apply_output.proofs.Listing.{counts-length}
+use Rattle.ground.proofs.Parts.{between-length}
 
 -- what stands from a place on is a part and what stands behind it
 pub cut : (s : List ℕ) (a b : ℕ) → a ≤ b → drop a s ≡ between s a b ++ drop b s
@@ -68,10 +69,10 @@ module _ (c : TreeCounts) (f : List ℕ) (count size : ℕ) (out : List ℕ) (k 
   counts-size = counts-length laid
 
   nodes-size : length nodes ≡ 8 * c .nodes
-  nodes-size = let l = part-length f nodesStart (tokensStart c) (omega (arith, k .file)) in omega arith
+  nodes-size = let l = between-length f nodesStart (tokensStart c) (omega (arith, k .file)) in omega arith
 
   names-size : length names ≡ 8 * c .names
-  names-size = let l = part-length f (namesStart c) (bytesStart c) (omega (arith, k .file)) in omega arith
+  names-size = let l = between-length f (namesStart c) (bytesStart c) (omega (arith, k .file)) in omega arith
 
   bytes-size : length (bytesIn c f) ≡ c .bytes
   bytes-size = bytes-count c f (k .file)

@@ -1,11 +1,9 @@
 -- Changes one after the other: the tokens, the names and the rows that they make. Assumes nothing.
 use mathlib.Core.Path.{_≡_, refl, sym, _∙_, ap}
 use mathlib.Core.List.{List, [], _∷_, _++_, map, append-assoc}
-use Prim.Native.Nat.{ℕ, suc, _+_, _*_, _-_, _≤_}
-use native.Mathlib.Nat.{mul-zero, mul-suc}
+use Prim.Native.Nat.{ℕ, _+_, _*_, _-_}
 use native.Mathlib.Omega.{arith}
-use lib.ListN.{length, drop, length-append, length-drop}
-use lib.Seq.{length-take-le}
+use lib.ListN.{length, length-append}
 use Rattle.ground.specs.Join.{join}
 use Rattle.ground.specs.Put.{between}
 use Rattle.tree_rule.specs.declared.TreeCounts.{TreeCounts}
@@ -24,30 +22,16 @@ use Rattle.tree_rule.specs.Files.{
 use Rattle.tree_rule.proofs.Reading.{bytes-count}
 use Rattle.tree_rule.proofs.ReadWritten.{token-length, name-length}
 use Rattle.apply_rule.specs.Changes.{Changed}
-use Rattle.apply_rule.specs.Applying.{tokenWith, nameOf, newNames, numbered, nameRows}
+use Rattle.apply_rule.specs.Applying.{newNames, numbered, nameRows}
 use Rattle.apply_rule.specs.inner.Plans.{laidCounts, laidOut}
+use Rattle.ground.proofs.Joins.{joined-length}
+use Rattle.apply_rule.proofs.Numbering.{numbered-length, name-rows-length}
+use Rattle.ground.proofs.Parts.{between-length}
 
 pub join-join : (a b : List (List ℕ)) → join (a ++ b) ≡ join a ++ join b
 unfolding join
 join-join [] b = refl
 join-join (x ∷ a) b = ap (λ l. x ++ l) (join-join a b) ∙ sym (append-assoc x (join a) (join b))
-
-pub names-append : (a b : List Changed) → newNames (a ++ b) ≡ newNames a ++ newNames b
-unfolding newNames
-names-append [] b = refl
-names-append (x ∷ a) b =
-    ap (λ l. nameOf (x .change) ++ l) (names-append a b) ∙ sym (append-assoc (nameOf (x .change)) (newNames a) (newNames b))
-
-pub numbered-append : (next : ℕ) (a b : List Changed) →
-    numbered next (a ++ b) ≡ numbered next a ++ numbered (next + length (newNames a)) b
-unfolding numbered newNames
-numbered-append next [] b = let z : next + 0 ≡ next = omega arith in rw z
-numbered-append next (x ∷ a) b =
-    let more : next + length (nameOf (x .change)) + length (newNames a) ≡ next + length (nameOf (x .change) ++ newNames a) =
-    rw (length-append (nameOf (x .change)) (newNames a)) (omega arith) in
-    ap (λ l. tokenWith next (x .change) (x .token) ∷ l)
-    (numbered-append (next + length (nameOf (x .change))) a b
-    ∙ ap (λ n. numbered (next + length (nameOf (x .change))) a ++ numbered n b) more)
 
 pub rows-append : (at : ℕ) (a b : List (List ℕ)) → nameRows at (a ++ b) ≡ nameRows at a ++ nameRows (at + length (join a)) b
 unfolding nameRows join
@@ -58,29 +42,9 @@ rows-append at (x ∷ a) b =
     (rows-append (at + length x) a b ∙ ap (λ n. nameRows (at + length x) a ++ nameRows n b) more)
 
 -- Lengths.
-joined-length : {A : Type 0} (enc : A → List ℕ) (w : ℕ) → ((x : A) → length (enc x) ≡ w) → (l : List A) →
-    length (join (map enc l)) ≡ w * length l
-unfolding join
-joined-length enc w size [] = sym (mul-zero w)
-joined-length enc w size (x ∷ l) =
-    length-append (enc x) (join (map enc l)) ∙ rw (size x, joined-length enc w size l, mul-suc w (length l)) (omega arith)
-
-numbered-length : (next : ℕ) (cs : List Changed) → length (numbered next cs) ≡ length cs
-unfolding numbered
-numbered-length next [] = refl
-numbered-length next (x ∷ cs) = ap suc (numbered-length (next + length (nameOf (x .change))) cs)
-
-rows-length : (at : ℕ) (ss : List (List ℕ)) → length (nameRows at ss) ≡ length ss
-unfolding nameRows
-rows-length at [] = refl
-rows-length at (s ∷ ss) = ap suc (rows-length (at + length s) ss)
-
 pub counts-length : (c : TreeCounts) → length (countBytes c) ≡ 16
 unfolding wordBytes
 counts-length c = refl
-
-pub part-length : (s : List ℕ) (a e : ℕ) → e ≤ length s → length (between s a e) ≡ e - a
-part-length s a e h = length-take-le (e - a) (drop a s) (omega (arith, length-drop a s))
 
 pub laid-length : (c : TreeCounts) (f : List ℕ) (cs : List Changed) → length f ≡ fileLength c → length cs ≡ c .tokens →
     length (laidOut c f cs) ≡ bytesStart c + 8 * length (newNames cs) + c .bytes + length (join (newNames cs))
@@ -93,12 +57,12 @@ laid-length c f cs e h =
     let bytes : List ℕ = bytesIn c f in
     let texts : List ℕ = join (newNames cs) in
     let n₁ = counts-length (laidCounts c (newNames cs)) in
-    let n₂ = part-length f nodesStart (tokensStart c) (omega arith) in
+    let n₂ = between-length f nodesStart (tokensStart c) (omega arith) in
     let n₃ = joined-length tokenRowBytes 12 token-length (numbered (c .names) cs) in
     let m₃ = numbered-length (c .names) cs in
-    let n₄ = part-length f (namesStart c) (bytesStart c) (omega arith) in
+    let n₄ = between-length f (namesStart c) (bytesStart c) (omega arith) in
     let n₅ = joined-length nameRowBytes 8 name-length (nameRows (c .bytes) (newNames cs)) in
-    let m₅ = rows-length (c .bytes) (newNames cs) in
+    let m₅ = name-rows-length (c .bytes) (newNames cs) in
     let n₆ = bytes-count c f e in
     let l₁ = length-append counts (nodes ++ (tokens ++ (names ++ (new ++ (bytes ++ texts))))) in
     let l₂ = length-append nodes (tokens ++ (names ++ (new ++ (bytes ++ texts)))) in

@@ -26,6 +26,7 @@ use Rattle.apply_output.specs.inner.Quiet.{notePlace, addedNote, plainSh
 use Rattle.apply_output.specs.inner.Turn.{TurnReady, rowOut, Turned}
 use Rattle.apply_output.proofs.Rowing.{three-put}
 use Rattle.apply_output.proofs.Turning.{row-length}
+use Rattle.apply_output.proofs.Planning.{row-inside}
 
 -- Where a note stands.
 module _ (c : TreeCounts) (f : List ℕ) (at : ℕ) {k : ℕ} (e : k ≡ wordAt f at) where
@@ -129,9 +130,6 @@ module _ (c : TreeCounts) (f out : List ℕ) (i : ℕ) where
           (is-other (eqb-false kind 1 e) (eqb-false kind 2 g) (eqb-false kind 3 h))))
 
 module _ (c : TreeCounts) (f out : List ℕ) (i : ℕ) {s : ℕ} (e : s ≡ tokensStart c) where
-  pub quiet-row-inside : FormedBy c f → i < c .tokens → s + 12 * i + 12 ≤ length f
-  quiet-row-inside k l = omega (arith, k .size)
-
   module _ {p : ℕ} (g : p ≡ notePlace c f (s + 12 * i)) where
     pub quiet-note-inside : FormedBy c f → i < c .tokens → fileLength c ≤ length out → p + 4 ≤ length out
     quiet-note-inside k l h = rw (g, e) (note-inside c f out i k l h)
@@ -139,7 +137,7 @@ module _ (c : TreeCounts) (f out : List ℕ) (i : ℕ) {s : ℕ} (e : s ≡ toke
     pub quiet-told : {k n r : ℕ} → k ≡ wordAt f (s + 12 * i) → n ≡ wordAt out p → r ≡ addedNote k n → r ≡ added (planAt c f out i)
     quiet-told {k} {n} {r} x y z = z ∙ rw (x, y, g, e) (note-tells c f out i)
 
-pub ruleset quiet-notes = (quiet-row-inside, quiet-note-inside, quiet-told, needs)
+pub ruleset quiet-notes = (row-inside, quiet-note-inside, quiet-told, needs)
 
 -- The row.
 module _ (f out : List ℕ) (at : ℕ) {k : ℕ} (e : k ≡ wordAt f at) where

@@ -18,6 +18,7 @@ use Rattle.text_places.proofs.PlaceLaws.{first-inside, seeking-ends, seeking-fo
 use Rattle.text_places.proofs.BlockLaws.{seek-blocks}
 use Rattle.text_places.proofs.Holds.{first-is}
 use Rattle.apply_pieces.specs.inner.Within.{FirstAt}
+use Rattle.ground.proofs.Parts.{between-byte}
 
 -- What a search says of the bytes that it passed.
 none-passed : (b at : ℕ) (l : List ℕ) → firstFrom (starts b) at l ≡ Nowhere → (k : ℕ) → k < length l → getD l k 0 ≡ b → ⊥
@@ -44,11 +45,6 @@ before-found b at (x ∷ l) {i} e k h = go (eqb x b) refl (before-found b (suc a
     go false q again f zero u = eqb-false x b q
     go false q again f (suc j) u = again f j (omega arith)
 
-part-byte : (s : List ℕ) (a e k : ℕ) → a ≤ k → k < e → getD (between s a e) (k - a) 0 ≡ getD s k 0
-part-byte s a e k h i =
-    let z : a + (k - a) ≡ k = omega arith in
-    getD-take (e - a) (drop a s) (k - a) 0 (omega arith) ∙ getD-drop a s (k - a) 0 ∙ ap (λ j. getD s j 0) z
-
 -- A search from one place up to another.
 module _
     (b : ℕ) (s : List ℕ) (a stop : ℕ) (i : a ≤ stop) (j : stop ≤ length s) {p : Place}
@@ -61,7 +57,7 @@ module _
     goes = omega arith;
     inside = j;
     each = λ k l u w.
-        none-passed b 0 (between s a stop) (sym e ∙ f) (k - a) (omega (arith, part-size)) (part-byte s a stop k l u ∙ w);
+        none-passed b 0 (between s a stop) (sym e ∙ f) (k - a) (omega (arith, part-size)) (between-byte s a stop k l u ∙ w);
   }
 
   module _ {n : ℕ} (f : p ≡ At n) where
@@ -77,11 +73,11 @@ module _
             goes = omega arith;
             inside = omega arith;
             each = λ k l u w.
-                before-found b 0 (between s a stop) (sym e ∙ f) (k - a) (omega arith) (part-byte s a stop k l (omega arith) ∙ w);
+                before-found b 0 (between s a stop) (sym e ∙ f) (k - a) (omega arith) (between-byte s a stop k l (omega arith) ∙ w);
           };
           inside = omega arith;
           there =
-              sym (part-byte s a stop (a + n) (omega arith) h) ∙ ap (λ m. getD (between s a stop) m 0) z
+              sym (between-byte s a stop (a + n) (omega arith) h) ∙ ap (λ m. getD (between s a stop) m 0) z
               ∙ first-is b (between s a stop) (sym e ∙ f);
         }
 

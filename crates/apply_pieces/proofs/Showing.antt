@@ -17,7 +17,7 @@ use Rattle.table_rows.specs.Classes.{shown}
 use Rattle.table_pool.specs.declared.write.Wrote.{Wrote}
 use Rattle.table_pool.specs.declared.write.Wrote.the-variants.{Done, NoRoom}
 use Rattle.table_pool.specs.inner.Wrote.{Written, WroteBy}
-use Rattle.table_pool.proofs.Writes.{wrote-told, wrote-none, wrote-as, wrote-then, none-then, written-length}
+use Rattle.table_pool.proofs.Writes.{wrote-told, wrote-none, wrote-as, wrote-then, none-then, written-length, two-no-first}
 use Rattle.tables.specs.Back.{textIn, readBack}
 use Rattle.descriptor.specs.Pieces.{partsFrom}
 use Rattle.apply_rule.specs.Changes.{pieceKnown}
@@ -38,16 +38,13 @@ pub ruleset raw-lengths = (raw-told, needs)
 
 -- What stands before a piece, and the piece.
 module _ (d : List ℕ) (at : ℕ) (a : List ℕ) (r : Wrote) (d₁ : List ℕ) (w : WroteBy r d at a d₁) where
-  pub one-none : (b : List ℕ) → r ≡ NoRoom → length d < at + length (a ++ b)
-  one-none b e = none-then d at a b (wrote-none r d at a d₁ w e)
-
   pub one-shown : {m : ℕ} → r ≡ Done m → (classes : List (List ℕ)) (pool : List ℕ) (row : ℕ) →
       {c : Class} → c ≡ unpackClass (getD classes row []) → {s : List ℕ} → s ≡ textIn pool (c .display) →
       (v : Wrote) (d₂ : List ℕ) → WroteBy v d₁ m s d₂ → WroteBy v d at (a ++ displayOf classes pool row) d₂
   one-shown {m} e classes pool row f {s} g v d₂ u =
       wrote-then v (displayOf classes pool row) d₂ (wrote-told r d at a d₁ w e) (wrote-as v d₁ m d₂ (display-told classes pool row f g) u)
 
-pub ruleset showing-one = (one-none, one-shown, needs)
+pub ruleset showing-one = (two-no-first, one-shown, needs)
 
 -- What is left, from the place `from` on, is what makes the whole when it is written. `piece` is the first piece there that is known, by
 -- the row `row`.

@@ -6,7 +6,7 @@ use Prim.Native.Nat.{ℕ, suc, _-_, _≤_, _<_}
 use native.Mathlib.Omega.{arith}
 use lib.ListN.{length, getD}
 use Rattle.ground.specs.Choice.{pick, both}
-use Rattle.ground.proofs.Cases.{both-left, both-right, clash}
+use Rattle.ground.proofs.Cases.{both-left, both-right, clash, both-more}
 use Rattle.text_places.specs.Places.{same}
 use Rattle.text_places.proofs.PlaceLaws.{same-equal}
 use Rattle.table_rows.specs.Classes.{Pair, shown}
@@ -96,15 +96,10 @@ module _ (classes rows : List (List ℕ)) (pool class : List ℕ) where
         holds : List ℕ → Bool
         holds r = lineMatches cs k n (entryBack pool r)
 
-        less : (a b m : Bool) → both a m ≡ false → both (both a b) m ≡ false
-        less true true m q = q
-        less true false m q = refl
-        less false b m q = refl
-
         none : (i : ℕ) → 0 ≤ i → i < length rows → holds (getD rows i []) ≡ false
         none i l m =
             let x : Entry = entryBack pool (getD rows i []) in
-            less (ownedBy (shown cs (k .owner)) (x .kind)) (kindHolds (x .kind) n) (matches cs k x)
+            both-more (ownedBy (shown cs (k .owner)) (x .kind)) (kindHolds (x .kind) n) (matches cs k x)
             (last-none (λ r. ownerMatches cs k (entryBack pool r)) 0 rows f i m)
 
     pub number-line : (x : Context) {w : ℕ} → w ≡ contextNumber classes rows pool class x → (n : RawLine) →

@@ -1,5 +1,5 @@
 -- What a mapping shows is UTF-8 and fits 32 bits; so are the changes that it makes. Assumes nothing.
-use mathlib.Core.Path.{_≡_, ap}
+use mathlib.Core.Path.{_≡_}
 use mathlib.Core.Bool.{Bool, true, false}
 use mathlib.Core.List.{List, [], _∷_, _++_}
 use Prim.Native.Nat.{ℕ, suc, _+_, _-_, _≤_, min}
@@ -11,9 +11,8 @@ use Rattle.table_rows.specs.declared.rows.Ranges.{Ranges}
 use Rattle.table_rows.specs.declared.rows.Ranges.the-variants.{None, Display, Both}
 use Rattle.text_places.specs.Places.{same}
 use Rattle.text_utf8.specs.Grammar.{UTF8-octets}
-use Rattle.text_utf8.specs.Utf8.{isValid, isUtf8}
-use Rattle.text_utf8.proofs.Checking.{valid-told}
-use Rattle.text_utf8.proofs.Grammatical.{valid-iff}
+use Rattle.text_utf8.specs.Utf8.{isUtf8}
+use Rattle.text_utf8.proofs.Grammatical.{utf8-octets, octets-utf8}
 use Rattle.table_rows.specs.Classes.{Pair, shown}
 use Rattle.descriptor.specs.Pieces.{partsFrom, turn}
 use Rattle.descriptor.proofs.Octets.{turn-octets}
@@ -70,12 +69,6 @@ use Rattle.apply_rule.specs.Applying.{nameOf, newNames, allChanged}
 use Rattle.apply_rule.specs.Theorems.{RangesFit, KindFits, ShowsWell}
 
 -- Texts, by the check and by the grammar.
-pub octets-told : (s : List ℕ) → isUtf8 s ≡ true → UTF8-octets s
-octets-told s e = valid-iff s .0 (valid-told s e)
-
-pub utf8-of : (s : List ℕ) → UTF8-octets s → isUtf8 s ≡ true
-utf8-of s o = ap isValid (valid-iff s .1 o)
-
 pub every-append : {A : Type 0} {P : A → Type 0} (a b : List A) → Every P a → Every P b → Every P (a ++ b)
 every-append [] b e f = f
 every-append (x ∷ a) b (every-one p e) f = every-one p (every-append a b e f)
@@ -123,10 +116,10 @@ turned-fine : (look : List ℕ → Look) → ((p : List ℕ) → LookFine (look 
     LookFine (shownDescriptor look d)
 turned-fine look fine d u =
     pick-fine (pieceKnown look (partsFrom [] d)) (known (turn look d)) unknown
-    (utf8-of (turn look d) (turn-octets look (λ q o. piece-fine q (look q) (fine q) o) (octets-told d u))) (omega arith)
+    (octets-utf8 (turn look d) (turn-octets look (λ q o. piece-fine q (look q) (fine q) o) (utf8-octets d u))) (omega arith)
   where
     piece-fine : (q : List ℕ) (l : Look) → LookFine l → UTF8-octets q → UTF8-octets (lookOr q l)
-    piece-fine q (known s) f o = octets-told s f
+    piece-fine q (known s) f o = utf8-octets s f
     piece-fine q unknown f o = o
 
 -- Names of members.

@@ -1,8 +1,7 @@
 -- A file laid out with its changes, stretch by stretch, is the tree with these changes, written. Assumes nothing.
 use mathlib.Core.Path.{_≡_, sym, _∙_, ap}
-use mathlib.Core.List.{List, [], _∷_, _++_, map, append-assoc}
+use mathlib.Core.List.{List, [], _++_, map, append-assoc}
 use Prim.Native.Nat.{ℕ, _+_, _*_, _-_, _<_}
-use native.Mathlib.Nat.{mul-zero, mul-suc}
 use native.Mathlib.Omega.{arith}
 use lib.ListN.{length, getD, drop, length-append}
 use lib.Seq.{take-at, drop-at, drop-drop}
@@ -58,14 +57,7 @@ use Rattle.apply_rule.proofs.Numbering.{
   node-rows-same,
   name-rows-length,
 }
-
--- rows of `w` bytes, one after the other
-pub joined-length : {A : Type 0} (enc : A → List ℕ) (w : ℕ) → ((x : A) → length (enc x) ≡ w) → (l : List A) →
-    length (join (map enc l)) ≡ w * length l
-unfolding join
-joined-length enc w size [] = sym (mul-zero w)
-joined-length enc w size (x ∷ l) =
-    length-append (enc x) (join (map enc l)) ∙ rw (size x, joined-length enc w size l, mul-suc w (length l)) (omega arith)
+use Rattle.ground.proofs.Joins.{joined-length}
 
 module _ (c : TreeCounts) (f : List ℕ) (k : FormedBy c f) where
   abbrev t : Tree

@@ -56,7 +56,7 @@ use Rattle.apply_rule.specs.Applying.{
 }
 use Rattle.apply_rule.specs.Theorems.{ShowsWell}
 use Rattle.apply_rule.proofs.Numbering.{tokens-numbered, name-rows-length}
-use Rattle.apply_rule.proofs.Laid.{joined-length}
+use Rattle.ground.proofs.Joins.{joined-length}
 use Rattle.apply_rule.proofs.Fitting.{ChangeFits, every-append, changes-fit, new-names-fine}
 use Rattle.apply_rule.proofs.Kept.{each-length, each-at, text-kept, kept}
 use Rattle.apply_rule.proofs.Appended.{new-text, new-inside}

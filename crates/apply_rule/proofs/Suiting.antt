@@ -36,14 +36,7 @@ use Rattle.apply_rule.specs.Changes.{
 }
 use Rattle.apply_rule.specs.Applying.{tokenWith, nameOf, newNames, numbered, allChanged}
 use Rattle.apply_rule.proofs.Fitting.{ChangeFits, every-append}
-
-every-front : {A : Type 0} {P : A → Type 0} (a b : List A) → Every P (a ++ b) → Every P a
-every-front [] b e = every-none
-every-front (x ∷ a) b (every-one p e) = every-one p (every-front a b e)
-
-every-back : {A : Type 0} {P : A → Type 0} (a b : List A) → Every P (a ++ b) → Every P b
-every-back [] b e = e
-every-back (x ∷ a) b (every-one p e) = every-back a b e
+use Rattle.tree_rule.proofs.ReadWritten.{every-front, every-back}
 
 -- A name is never replaced by a line.
 abbrev NoLine : Change → Type 0

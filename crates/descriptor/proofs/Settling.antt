@@ -6,7 +6,7 @@ use Prim.Native.Nat.{ℕ, suc, _+_, _-_, _^_, _≤_, _<_}
 use native.Mathlib.Numerals.{add-one}
 use native.Mathlib.Omega.{arith}
 use lib.Dec.{eqb}
-use lib.ListN.{length, getD, take, drop, set, length-set, length-take, length-drop, length-append}
+use lib.ListN.{length, getD, take, drop, set, length-set, length-drop, length-append}
 use lib.Seq.{drop-cons, drop-drop, take-take, length-take-le}
 use mir.Val.{Fits}
 use mir.Syntax.{w64}
@@ -15,7 +15,7 @@ use borrow.Author.Needs.{needs}
 use Rattle.ground.specs.Choice.{both, either}
 use Rattle.ground.specs.Put.{put, between}
 use Rattle.ground.proofs.Cases.{cases}
-use Rattle.ground.proofs.Parts.{drop-take}
+use Rattle.ground.proofs.Parts.{drop-take, between-length}
 use Rattle.ground.proofs.PutLaws.{put-nothing, put-one, put-put, put-same, put-before, getD-put, length-put}
 use Rattle.text_places.specs.declared.find.Place.{Place}
 use Rattle.text_places.specs.declared.find.Place.the-variants.{At, Nowhere}
@@ -85,9 +85,6 @@ pub record Moving (d : List ℕ) (at «end» : ℕ) (room : List ℕ) (j : ℕ) 
   pub is : room ≡ put d (j + 1) (slashed (between d j «end»))
   pub size : length room ≡ length d
 
-part-size : (d : List ℕ) (a e : ℕ) → a ≤ e → e ≤ length d → length (between d a e) ≡ e - a
-part-size d a e i h = omega (arith, length-take (e - a) (drop a d), length-drop a d)
-
 part-none : (d : List ℕ) (e : ℕ) → between d e e ≡ []
 part-none d e = let z : e - e ≡ 0 = omega arith in rw z
 
@@ -101,7 +98,7 @@ module _ (d : List ℕ) (at «end» : ℕ) (i : at ≤ «end») (h : «end» ≤
   name-length =
       let a = length-append (slashed (between d at «end»)) (0x3B ∷ []) in
       let b = slashed-length (between d at «end») in
-      let c = part-size d at «end» i h in
+      let c = between-length d at «end» h in
       omega arith
 
   pub name-no-room : length d - «end» < 2 → length d < at + length (classDescriptor (between d at «end»))
@@ -150,7 +147,7 @@ module _ (d : List ℕ) (at «end» : ℕ) (i : at ≤ «end») (h : «end» ≤
       name-done l =
           let here : j ≡ at = omega (arith, w .low) in
           let n : List ℕ = slashed (between d at «end») in
-          let size-n : length n ≡ «end» - at = slashed-length (between d at «end») ∙ part-size d at «end» i h in
+          let size-n : length n ≡ «end» - at = slashed-length (between d at «end») ∙ between-length d at «end» h in
           let first : set room at 0x4C ≡ put d at (0x4C ∷ n) =
           ap (λ r. set r at 0x4C) (w .is ∙ ap (λ m. put d (m + 1) (slashed (between d m «end»))) here) ∙ put-before d at n 0x4C 0 (omega arith) in
           let place : at + length (0x4C ∷ n) ≡ «end» + 1 = omega arith in
@@ -171,7 +168,7 @@ module _ (d : List ℕ) (at «end» : ℕ) (i : at ≤ «end») (h : «end» ≤
   -- what is kept is written already
   kept-written : Written «end» d at (between d at «end») d
   kept-written =
-      let n = part-size d at «end» i h in
+      let n = between-length d at «end» h in
       record { past = omega arith; room = omega arith; is = sym (put-same d at («end» - at) (omega arith)) }
 
   module _ {b : Bool} (k : b ≡ rawKept (between d at «end»)) where
@@ -193,7 +190,7 @@ module _ (d : List ℕ) (at «end» : ℕ) (i : at ≤ «end») (h : «end» ≤
 
     module _ {close : ℕ} (g : p ≡ At close) where
       inside : at + close + 1 ≤ «end»
-      inside = let n = part-size d at «end» i h in let j = last-inside (starts 0x29) (between d at «end») (sym f ∙ g) in omega arith
+      inside = let n = between-length d at «end» h in let j = last-inside (starts 0x29) (between d at «end») (sym f ∙ g) in omega arith
 
       pub signature-after : at + close + 1 ≤ «end»
       signature-after = inside

@@ -51,6 +51,11 @@ pub both-right : (a b : Bool) → both a b ≡ true → b ≡ true
 both-right true b e = e
 both-right false b e = absurd (let z : _≡_ {A = ℕ} 0 1 = cc in omega arith)
 
+pub both-more : (a b m : Bool) → both a m ≡ false → both (both a b) m ≡ false
+both-more true true m e = e
+both-more true false m e = refl
+both-more false b m e = refl
+
 pub either-left : (a b : Bool) → either a b ≡ false → a ≡ false
 either-left true b e = e
 either-left false b e = refl

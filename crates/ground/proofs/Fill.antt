@@ -4,7 +4,7 @@ use mathlib.Core.List.{List, [], _∷_, _++_, append-nil}
 use Prim.Native.Nat.{ℕ, zero, suc, _+_, _≤_, _<_}
 use native.Mathlib.Numerals.{add-one}
 use native.Mathlib.Nat.{le-of-suc-le-suc, not-suc-le-zero}
-use lib.ListN.{length, drop, set, replicate, drop-of-length-le}
+use lib.ListN.{length, getD, drop, set, replicate, drop-of-length-le}
 
 module _ {A : Type 0} (z : A) where
   pub fill-none : (d : List A) → d ≡ replicate 0 z ++ drop 0 d
@@ -20,3 +20,9 @@ module _ {A : Type 0} (z : A) where
 
   pub fill-done : (n : ℕ) (d : List A) → length d ≤ n → replicate n z ++ drop n d ≡ replicate n z
   fill-done n d h = rw (drop-of-length-le d h, append-nil)
+
+-- each of them, and what is read behind them
+pub zero-at : (n i : ℕ) → _≡_ {A = ℕ} (getD (replicate n 0) i 0) 0
+zero-at zero i = refl
+zero-at (suc n) zero = refl
+zero-at (suc n) (suc i) = zero-at n i

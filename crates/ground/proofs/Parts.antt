@@ -3,8 +3,8 @@ use mathlib.Core.Path.{_≡_, sym}
 use mathlib.Core.List.{List, [], _∷_}
 use Prim.Native.Nat.{ℕ, zero, suc, _+_, _-_, _≤_, _<_}
 use native.Mathlib.Omega.{arith}
-use lib.ListN.{length, take, drop, length-take, length-drop}
-use lib.Seq.{take-all, take-nil, take-take, drop-drop}
+use lib.ListN.{length, getD, take, drop, length-take, length-drop}
+use lib.Seq.{take-all, take-nil, take-take, drop-drop, getD-take, getD-drop}
 use Rattle.ground.specs.Put.{between}
 
 module _ {A : Type 0} where
@@ -36,3 +36,12 @@ module _ {A : Type 0} where
   -- a part of a part
   pub part-part : (s : List A) (a e x y : ℕ) → y ≤ e - a → between (between s a e) x y ≡ between s (a + x) (a + y)
   part-part s a e x y h = cut-part s a (e - a) x y h
+
+-- A part of a text: its length, and each of its bytes.
+pub between-length : (s : List ℕ) (a e : ℕ) → e ≤ length s → length (between s a e) ≡ e - a
+between-length s a e h = omega (arith, length-take (e - a) (drop a s), length-drop a s)
+
+pub between-byte : (s : List ℕ) (a e i : ℕ) → a ≤ i → i < e → getD (between s a e) (i - a) 0 ≡ getD s i 0
+between-byte s a e i h l =
+    let there : a + (i - a) ≡ i = omega arith in
+    rw (getD-take (e - a) (drop a s) (i - a) 0 (omega arith), getD-drop a s (i - a) 0, there)

@@ -16,6 +16,7 @@ use Rattle.json_grammar.specs.Encode.{utf8}
 use Rattle.json_grammar.specs.Grammar
 use Rattle.json_grammar.specs.Reader.{got, bad, andThen, Piece, stands, closes, wrong, hexdig, hexValue, hex4, second, unicode, shortEscape, escape, pieceOf, takes, ends, charsFrom, stringOf}
 use Rattle.json_grammar.proofs.Took.{Took, and-got, same-rest, same-value, never-bad}
+use Rattle.ground.proofs.Joins.{cons-same}
 
 -- Choices that end in a char.
 module _ {v : List ℕ} {n : ℕ} where
@@ -133,9 +134,6 @@ record Second (u : ℕ) (t v : List ℕ) (n : ℕ) : Type 0 where
 
 two-heads : {x y a b : ℕ} {s t : List ℕ} → x ≡ a → y ≡ b → s ≡ t → x ∷ (y ∷ s) ≡ a ∷ (b ∷ t)
 two-heads p q r = cc
-
-head-tail : {x a : ℕ} {s t : List ℕ} → x ≡ a → s ≡ t → x ∷ s ≡ a ∷ t
-head-tail p q = cc
 
 surrogate-reads : (t : List ℕ) (low high : ℕ) → high < 65536 → within low high (hex4 t) ≡ true → HexRead t
 surrogate-reads t low high h e = hex4-reads t (ne-eqb (hex4 t) 65536 (λ z. let w = within-both low high (hex4 t) e in omega arith))
@@ -380,7 +378,7 @@ string-took (x ∷ s) {v} {r} e = go (eqb x 0x22) refl e
         let t = chars-took (length s) s v r (omega arith) f in
         record {
           part = 0x22 ∷ (t .part ++ (0x22 ∷ []));
-          cut = head-tail (eqb-true x 0x22 q) (t .cut ∙ sym (append-assoc (t .part) (0x22 ∷ []) r));
+          cut = cons-same (eqb-true x 0x22 q) (t .cut ∙ sym (append-assoc (t .part) (0x22 ∷ []) r));
           is = Grammar.quoted (t .is);
         }
     go false q f = never-bad f

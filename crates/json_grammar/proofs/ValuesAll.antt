@@ -20,6 +20,7 @@ use Rattle.json_grammar.proofs.Items.{took-shorter, skip-shorter}
 use Rattle.json_grammar.proofs.Onward.{no-value}
 use Rattle.json_grammar.proofs.All.{isStop, stops, skip-past, skip-none, structural-stands, structural-all, number-all}
 use Rattle.json_grammar.proofs.StringsAll.{string-all}
+use Rattle.ground.proofs.Joins.{cons-same}
 
 -- The values that nest nothing: their first octet, and that they are read.
 record First (a : List ℕ) : Type 0 where
@@ -105,9 +106,6 @@ structural-stops x s (_⨾_ (more (right (left (octet y e))) w) v) r = only-stop
 structural-stops x s (_⨾_ (more (right (right (left (octet y e)))) w) v) r = only-stop 0x0A refl y e
 structural-stops x s (_⨾_ (more (right (right (right (octet y e)))) w) v) r = only-stop 0x0D refl y e
 
-list-cons : {A : Type 0} {x y : A} {xs ys : List A} → x ≡ y → xs ≡ ys → x ∷ xs ≡ y ∷ ys
-list-cons e g = cc
-
 -- Items and what encloses them, over any reader of an item that reads all of a kind. `f` is what the grammar says of an item.
 module _
     {X Y : Type 0} (f : X → Y) (P : List ℕ → Y → Type 0) (p : List ℕ → Out X) (closing : ℕ)
@@ -171,7 +169,7 @@ module _
           let shorter : length (skip (b ++ l)) ≤ n = rw (← s .leaves) (omega (arith, skip-shorter (s .tail), skip-shorter (d .rest), ap length seen, item-shorter (skip (a ++ (c ++ (b ++ l)))) x (d .rest) (d .reads))) in
           let (xs, g, o) = again n shorter in (
             x ∷ xs,
-            list-cons e g,
+            cons-same e g,
             read-then n (skip (a ++ (c ++ (b ++ l)))) x (d .rest) (x ∷ xs) (skip r) (d .reads)
                 (after-comma x (itemsOf p closing n) (skip (d .rest)) (s .tail) (skip r) xs seen (ap (itemsOf p closing n) (s .leaves) ∙ o)),
           )

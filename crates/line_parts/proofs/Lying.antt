@@ -27,6 +27,7 @@ use Rattle.line_parts.specs.Arrows.{sidesOf, splitAt, arrowOf, classSide
 use Rattle.line_parts.specs.Fields.{fieldSplit, fieldOf}
 use Rattle.line_parts.specs.Methods.{shiftName}
 use Rattle.text_white.proofs.TrimLaws.{trim-inside, trim-order}
+use Rattle.ground.proofs.Parts.{between-length}
 
 pub trim-lies : (s : List ℕ) → Lies (trimBoth s) (length s)
 trim-lies s = record { order = trim-order s; within = trim-inside s }
@@ -41,7 +42,7 @@ pub shift-lies : (by : ℕ) (p : Span) (m n : ℕ) → by + m ≤ n → Lies p m
 shift-lies by p m n h l = let o = l .order in let w = l .within in record { order = omega arith; within = omega arith }
 
 pub part-length : (s : List ℕ) (p : Span) → Lies p (length s) → length (partOf s p) ≡ p .«end» - p .start
-part-length s p l = let w = l .within in omega (arith, length-take (p .«end» - p .start) (drop (p .start) s), length-drop (p .start) s)
+part-length s p l = between-length s (p .start) (p .«end») (l .within)
 
 -- The sides of an arrow.
 pub sides-are : (a : Span) (n : ℕ) (b : Span) {l r : Span} → sidesOf a n b ≡ Sides l r → (a ≡ l) × (shift n b ≡ r)

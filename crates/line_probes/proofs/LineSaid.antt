@@ -1,13 +1,9 @@
 -- What an answer about a line says is what its rule says, case by case. Assumes nothing.
 use mathlib.Core.Path.{_≡_, sym, _∙_, ap}
 use mathlib.Core.List.{List, [], _∷_}
-use Prim.Native.Nat.{ℕ, _+_, _^_, _<_}
-use native.Mathlib.Omega.{arith}
-use mir.Val.{Fits}
-use mir.Syntax.{w64}
+use Prim.Native.Nat.{ℕ, _+_}
 use borrow.Author.Needs.{needs}
 use Rattle.ground.specs.Choice.{bit}
-use Rattle.text_places.specs.Places.{placeNumber}
 use Rattle.text_places.specs.declared.find.Place.{Place}
 use Rattle.text_places.specs.declared.find.Place.the-variants.{At, Nowhere}
 use Rattle.text_places.specs.declared.spans.Span.{Span}
@@ -24,6 +20,7 @@ use Rattle.text_places.specs.Spans.{span}
 use Rattle.line_parts.specs.Signatures.{nameSpan}
 use Rattle.line_probes.specs.LineAnswers.{owned, ownerSpan, lined, firstLine, lastLine, sevenNumbers, commentLineNumbers, classNumbers, fieldNumbers, methodNumbers, lineKindNumbers, argumentNumbers}
 use Rattle.line_probes.proofs.Braces.{brace-counts}
+use Rattle.text_places.proofs.PlaceLaws.{place-fits}
 
 module _ {t x : Line} (e : t ≡ x) where
   pub said-blank : {n : List ℕ} → t ≡ lines.Blank → n ≡ sevenNumbers 0 0 0 0 0 0 0 → n ≡ lineKindNumbers x
@@ -62,10 +59,7 @@ brace-at g f = f ∙ sym (ap commentLineNumbers g)
 pub brace-none : {p : Place} {n : List ℕ} → p ≡ Nowhere → n ≡ sevenNumbers 1 0 0 0 0 0 0 → n ≡ commentLineNumbers p
 brace-none g f = f ∙ sym (ap commentLineNumbers g)
 
-pub brace-fits : {p : Place} {i : ℕ} → p ≡ At i → placeNumber p < 2 ^ 64 → Fits w64 (i + 1)
-brace-fits e h = let l = rw e at h in omega arith
-
-pub ruleset said-braces = (brace-at, brace-none, brace-fits, needs)
+pub ruleset said-braces = (brace-at, brace-none, place-fits, needs)
 
 -- The parts of a method.
 pub owner-there : {q : Qualified} {o a : Span} → q ≡ Owned o a → o ≡ ownerSpan q

@@ -18,7 +18,7 @@ use Rattle.text_places.specs.declared.lines.NextLine.the-variants.{Line, NoLine
 use Rattle.text_places.specs.Lines.{lines, Taken}
 use Rattle.text_places.specs.Spans.{Lies}
 use Rattle.text_places.specs.inner.NextLine.{lineFrom, nextLine}
-use Rattle.text_places.proofs.Taking.{end-taken}
+use Rattle.text_places.proofs.Taking.{end-taken, starts-there}
 use Rattle.text_white.specs.Trim.{trimStart, trimEnd}
 use Rattle.line.specs.declared.line.Line.the-variants as kinds
 use Rattle.line.specs.Kinds.{lineOf}
@@ -35,8 +35,9 @@ use Rattle.load_residual.specs.inner.Passes.{passedOf, Passes, none, bla
 use Rattle.load_residual.proofs.Giving.{given-looks}
 use Rattle.load_residual.proofs.Local.{dark-cut, dark-ends}
 use Rattle.load_residual.proofs.Opened.{braceOf, comment-is, comment-gives}
-use Rattle.load_residual.proofs.Leading.{part-length, part-byte, part-left, ink-length}
+use Rattle.load_residual.proofs.Leading.{part-left, ink-length}
 use Rattle.load_residual.proofs.Passing.{passes-few}
+use Rattle.ground.proofs.Parts.{between-length, between-byte}
 
 or-unknown : (o : Look) → orLook o unknown ≡ o
 or-unknown (known s) = refl
@@ -79,10 +80,6 @@ follow-starts member s e = rw e (record { decides = or-unknown (heeded member (r
 no-line : (at : ℕ) (l : List ℕ) → 0 < length l → lineFrom at l ≡ NoLine → ⊥
 no-line at [] h e = omega arith
 no-line at (b ∷ l) h e = let z : _≡_ {A = ℕ} 0 1 = cc in omega arith
-
-starts-there : (at : ℕ) (l : List ℕ) {a e n : ℕ} → lineFrom at l ≡ Line a e n → at ≡ a
-starts-there at [] q = absurd (let z : _≡_ {A = ℕ} 0 1 = cc in omega arith)
-starts-there at (b ∷ l) q = cc
 
 module _ {member : Bool} {s : List ℕ} {found : Residual} {k : Passed} (f : Following member s found k) where
   ended : residualIn (lines (drop (k .bytes) s)) ≡ unknown → Looks member s (record { residual = found; passed = k })
@@ -161,7 +158,7 @@ module _ {member : Bool} {s : List ℕ} {found : Residual} {k : Passed} (f : Fol
           shorter =
               let h = at-hash .past z n from-hash in
               let o₁ = at-hash .goes in
-              let l = part-length s (k .bytes) z (taken .order) (taken .ends) in
+              let l = between-length s (k .bytes) z (taken .ends) in
               let w = trims in
               omega arith
 
@@ -169,7 +166,7 @@ module _ {member : Bool} {s : List ℕ} {found : Residual} {k : Passed} (f : Fol
           left = ap (λ j. drop j line) trims ∙ part-left s (k .bytes) z hash (at-hash .goes) hash-order
 
           stands : getD line (trimStart line) 0 ≡ 0x23
-          stands = ap (λ j. getD line j 0) trims ∙ part-byte s (k .bytes) z hash (at-hash .goes) (at-hash .past z n from-hash) ∙ at-hash .stands
+          stands = ap (λ j. getD line j 0) trims ∙ between-byte s (k .bytes) z hash (at-hash .goes) (at-hash .past z n from-hash) ∙ at-hash .stands
 
           kept : 0 < trimEnd (drop (trimStart line) line)
           kept =
@@ -177,7 +174,7 @@ module _ {member : Bool} {s : List ℕ} {found : Residual} {k : Passed} (f : Fol
               let h = at-hash .past z n from-hash in
               let b = at-hash .stands in
               let dark = ink-length s hash i (omega arith) (omega arith) in
-              rw left (dark-ends (between s hash z) (dark-cut (drop hash s) (z - hash) dark) (omega (arith, part-length s hash z hash-order hash-inside)))
+              rw left (dark-ends (between s hash z) (dark-cut (drop hash s) (z - hash) dark) (omega (arith, between-length s hash z hash-inside)))
 
           brace : Place
           brace = braceOf line shorter kept stands

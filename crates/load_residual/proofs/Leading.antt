@@ -3,21 +3,20 @@ use mathlib.Core.Path.{_≡_, refl, sym, _∙_, ap}
 use mathlib.Core.Bool.{Bool, true, false}
 use mathlib.Core.List.{List, [], _∷_, _++_, append-nil, append-assoc}
 use mathlib.Core.Logic.{_⊎_, inl, inr}
-use Prim.Native.Nat.{ℕ, zero, suc, _+_, _-_, _^_, _≤_, _<_}
+use Prim.Native.Nat.{ℕ, suc, _+_, _-_, _^_, _≤_, _<_}
 use native.Mathlib.Nat.{add-zero}
 use native.Mathlib.Omega.{arith}
 use lib.Dec.{eqb, lit<}
-use lib.ListN.{length, getD, take, drop, length-take, length-drop, drop-of-length-le}
-use lib.Seq.{take-add, drop-drop, drop-cons, getD-take, getD-drop}
+use lib.ListN.{length, getD, take, drop, length-drop, drop-of-length-le}
+use lib.Seq.{take-add, drop-drop, drop-cons, getD-drop}
 use mir.Val.{Fits}
 use mir.Syntax.{w64}
 use borrow.Author.Tests.{ne-eqb, eqb-true}
 use borrow.Author.Needs.{needs}
 use Rattle.ground.specs.Choice.{pick, both}
 use Rattle.ground.specs.Put.{between}
-use Rattle.ground.specs.Look.{unknown}
 use Rattle.ground.proofs.Cases.{le-or-lt, both-right, within-yes}
-use Rattle.ground.proofs.Parts.{drop-take}
+use Rattle.ground.proofs.Parts.{drop-take, between-length, between-byte}
 use Rattle.text_places.specs.declared.lines.NextLine.the-variants.{Line}
 use Rattle.text_places.specs.Lines.{crEnd, lines, Taken}
 use Rattle.text_places.specs.inner.NextLine.{toLf, nextLine}
@@ -27,7 +26,7 @@ use Rattle.text_utf8.specs.declared.sequence.Sequence.the-variants.{Good}
 use Rattle.text_utf8.specs.Utf8.{sequenceOf, piecesFrom}
 use Rattle.text_utf8.proofs.Sequences.{good-fits, sequence-ascii}
 use Rattle.text_white.specs.White.{isWhite, inRanges, whiteRanges}
-use Rattle.text_white.specs.Trim.{runOf, trimStart, trimEnd, trimBoth}
+use Rattle.text_white.specs.Trim.{runOf, trimStart, trimEnd}
 use Rattle.text_white.specs.inner.Before.{whiteLength, whiteLengthOf}
 use Rattle.text_white.proofs.Ink.{ink-dark, space-white}
 use Rattle.text_white.proofs.Sync.{good-inner, white-length-reads}
@@ -36,7 +35,7 @@ use Rattle.line.specs.Kinds.{lineOf}
 use Rattle.line.proofs.Kinding.{line-blank}
 use Rattle.load_rule.specs.Comments.{residualIn}
 use Rattle.load_residual.specs.declared.residual.Opening.the-variants.{Blank, Comment, Other}
-use Rattle.load_residual.specs.inner.Openings.{BlankLine, HashLine, OpensBy}
+use Rattle.load_residual.specs.inner.Openings.{OpensBy}
 use Rattle.load_residual.proofs.Local.{white-headed, dark-cut, dark-ends}
 use Rattle.load_residual.proofs.Opened.{other-gives}
 
@@ -177,12 +176,6 @@ trimmed-blank l e =
     let stop : trimEnd (drop (trimStart l) l) ≡ 0 = rw none in
     sym (line-blank l refl (omega arith))
 
-pub part-length : (s : List ℕ) (a e : ℕ) → a ≤ e → e ≤ length s → length (between s a e) ≡ e - a
-part-length s a e h l = omega (arith, length-take (e - a) (drop a s), length-drop a s)
-
-pub part-byte : (s : List ℕ) (a e i : ℕ) → a ≤ i → i < e → getD (between s a e) (i - a) 0 ≡ getD s i 0
-part-byte s a e i h l = let there : a + (i - a) ≡ i = omega arith in rw (getD-take (e - a) (drop a s) (i - a) 0 (omega arith), getD-drop a s (i - a) 0, there)
-
 pub part-left : (s : List ℕ) (a e i : ℕ) → a ≤ i → i ≤ e → drop (i - a) (between s a e) ≡ between s i e
 part-left s a e i h l =
     let there : a + (i - a) ≡ i = omega arith in
@@ -201,10 +194,10 @@ module _ {s : List ℕ} {at i : ℕ} (k : Leading s at i) (start : at < length s
       within = k .lf .inside
 
       few : crEnd (between s at i) ≤ i - at
-      few = let c = cr-end-le (between s at i) in let n = part-length s at i o within in omega arith
+      few = let c = cr-end-le (between s at i) in let n = between-length s at i within in omega arith
 
       size : length (between s at (at + crEnd (between s at i))) ≡ crEnd (between s at i)
-      size = let f = few in let p = o in let q = within in let n = part-length s at (at + crEnd (between s at i)) (omega arith) (omega arith) in omega arith
+      size = let f = few in let p = o in let q = within in let n = between-length s at (at + crEnd (between s at i)) (omega arith) in omega arith
 
       go : (i - at ≤ crEnd (between s at i)) ⊎ (crEnd (between s at i) < i - at) →
           trimStart (between s at (at + crEnd (between s at i))) ≡ length (between s at (at + crEnd (between s at i)))
@@ -217,10 +210,10 @@ module _ {s : List ℕ} {at i : ℕ} (k : Leading s at i) (start : at < length s
           omega arith
       go (inr l) =
           let p = o in
-          let n = part-length s at i o within in
+          let n = between-length s at i within in
           let there : at + crEnd (between s at i) - at ≡ crEnd (between s at i) = omega arith in
           let c : getD s (at + crEnd (between s at i)) 0 ≡ 0x0D =
-          sym (part-byte s at i (at + crEnd (between s at i)) (omega arith) (omega arith)) ∙ ap (λ j. getD (between s at i) j 0) there
+          sym (between-byte s at i (at + crEnd (between s at i)) (omega arith) (omega arith)) ∙ ap (λ j. getD (between s at i) j 0) there
           ∙ cr-stands (between s at i) (omega arith) in
           let t = k .crs (at + crEnd (between s at i)) (omega arith) (omega arith) c in
           let m = size in
@@ -277,7 +270,7 @@ module _ {s : List ℕ} {at i : ℕ} (k : Leading s at i) (h : i < length s) (z 
   cr-same =
       let o = k .lf .past in
       let p = past-here in
-      let n = part-length s at i o (omega arith) in
+      let n = between-length s at i (omega arith) in
       let e = ap crEnd (part-joins s at i last o (omega arith)) ∙ cr-behind (between s at i) (between s i last) cr-past in
       omega arith
 
@@ -301,7 +294,7 @@ module _ {s : List ℕ} {at i : ℕ} (k : Leading s at i) (h : i < length s) (z 
           let c = cr-end-le (between s i last) in
           let p = past-here in
           let l = last-inside in
-          let n = part-length s i last (omega arith) l in
+          let n = between-length s i last l in
           omega arith
 
       go : (length s ≤ last) ⊎ (last < length s) → Ends
@@ -334,11 +327,11 @@ module _ {s : List ℕ} {at i : ℕ} (k : Leading s at i) (h : i < length s) (z 
       let o = k .lf .past in
       let l : List ℕ = between s at (e .«end») in
       let t = dark-trims (e .«end») (e .behind) (e .inside) in
-      let size = part-length s at (e .«end») (omega (arith, e .behind)) (e .inside) in
+      let size = between-length s at (e .«end») (e .inside) in
       let left : drop (trimStart l) l ≡ between s i (e .«end») = ap (λ j. drop j l) t ∙ part-left s at (e .«end») i o (omega (arith, e .behind)) in
-      let byte : getD l (trimStart l) 0 ≡ getD s i 0 = ap (λ j. getD l j 0) t ∙ part-byte s at (e .«end») i o (e .behind) in
+      let byte : getD l (trimStart l) 0 ≡ getD s i 0 = ap (λ j. getD l j 0) t ∙ between-byte s at (e .«end») i o (e .behind) in
       let kept : 0 < trimEnd (drop (trimStart l) l) =
-      rw left (dark-ends (between s i (e .«end»)) (dark-cut (drop i s) (e .«end» - i) z) (omega (arith, part-length s i (e .«end») (omega (arith, e .behind)) (e .inside), e .behind))) in
+      rw left (dark-ends (between s i (e .«end»)) (dark-cut (drop i s) (e .«end» - i) z) (omega (arith, between-length s i (e .«end») (e .inside), e .behind))) in
       ap residualIn (line-split s at (e .there) .split) ∙ other-gives l (omega (arith, e .behind)) kept (residualIn (lines (drop (e .next) s))) (λ c. n (sym byte ∙ c))
 
   pub hash-here : getD s i 0 ≡ 0x23 → OpensBy (Comment i) s at

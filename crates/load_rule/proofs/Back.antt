@@ -10,9 +10,7 @@ use Rattle.tables.specs.Back.{pairOf, readBack}
 use Rattle.tables.proofs.Holding.{Holds, holds-all, holds-first, holds-second}
 use Rattle.load_rule.specs.Classes.{classText, classPool, classRow, classRows}
 use Rattle.load_rule.specs.Laid.{rowsFrom}
-
-same-cons : {A : Type 0} {x y : A} {a b : List A} → x ≡ y → a ≡ b → x ∷ a ≡ y ∷ b
-same-cons e f = cc
+use Rattle.ground.proofs.Joins.{cons-same}
 
 -- `read` reads back what `row` lays
 module _ (pool : List ℕ) (used : Used) {A : Type 0} (row : ℕ → A → List ℕ) (text : A → List ℕ) (read : List ℕ → A)
@@ -21,7 +19,7 @@ module _ (pool : List ℕ) (used : Used) {A : Type 0} (row : ℕ → A → List 
   unfolding rowsFrom join
   laid-back p [] h = refl
   laid-back p (x ∷ xs) h =
-      same-cons (one p x (holds-first (text x) (join (map text xs)) h))
+      cons-same (one p x (holds-first (text x) (join (map text xs)) h))
       (laid-back (p + length (text x)) xs (holds-second (text x) (join (map text xs)) h))
 
 module _ (pool : List ℕ) (used : Used) where

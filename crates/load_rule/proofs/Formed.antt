@@ -39,6 +39,7 @@ use Rattle.load_rule.specs.Theorems.{Fitted, usedOf}
 use Rattle.load_rule.proofs.Exactly.{loaded-iff, loaded-leaves}
 use Rattle.load_rule.proofs.Octets.{KindOctets, EntryOctets, Entries, no-entry, an-entry, str-texts, parse-texts, pool-texts}
 use Rattle.load_rule.specs.Laid.{rowsFrom}
+use Rattle.text_white.proofs.Cuts.{texts-as}
 
 -- A member's class row: a member line is sound only behind a class line.
 data Below (count : ℕ) : List Entry → Type 0 where
@@ -153,9 +154,6 @@ module _ (pool : List ℕ) (used : Used) where
 -- what is lent, filled up with zeros
 filled-length : {A : Type 0} (z : A) (used : List A) (n : ℕ) → length used ≤ n → length (used ++ replicate (n - length used) z) ≡ n
 filled-length z used n h = let a = length-append used (replicate (n - length used) z) in let b = length-replicate (n - length used) z in omega arith
-
-texts-as : {a b : List (List ℕ)} → a ≡ b → Texts a → Texts b
-texts-as e t = rw e at t
 
 module _ (s : List ℕ) (ls : List (List ℕ)) (n : Lent) {f : Fates} {names : ℕ} (e : answerOf s ls n ≡ Loaded f names) where
   fitted : Fitted s ls n f names

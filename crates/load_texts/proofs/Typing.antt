@@ -20,7 +20,7 @@ use Rattle.table_pool.specs.declared.write.Wrote.the-variants.{Done, NoRoom}
 use Rattle.ground.specs.Join.{join}
 use Rattle.table_rows.specs.Classes.{Pair}
 use Rattle.table_pool.specs.inner.Wrote.{Written, WroteBy}
-use Rattle.table_pool.proofs.Writes.{written-length, wrote-told, wrote-none, wrote-then, none-then, wrote-as}
+use Rattle.table_pool.proofs.Writes.{written-length, wrote-told, wrote-none, wrote-then, wrote-as, two-no-first}
 use Rattle.tables.specs.Back.{readBack}
 use Rattle.descriptor.specs.Raw.{rawTypeOf}
 use Rattle.load_raw_types.specs.inner.Behind.{Indexed}
@@ -120,9 +120,6 @@ pub ruleset arguing = (arguing-starts, arguing-indexed, arguing-ends, arguing-no
 
 -- One text after another, of which the second is made from the classes.
 module _ (rows : List (List ℕ)) (index d : List ℕ) (at : ℕ) (x : Indexed rows d index at) (a : List ℕ) (r : Wrote) (d₁ : List ℕ) (w : WroteBy r d at a d₁) where
-  none-first : (b : List ℕ) → r ≡ NoRoom → length d < at + length (a ++ b)
-  none-first b e = none-then d at a b (wrote-none r d at a d₁ w e)
-
   module _ {q : ℕ} (e : r ≡ Done q) where
     pub indexed-after : Indexed rows d₁ index q
     indexed-after = indexed-put x (wrote-told r d at a d₁ w e)
@@ -136,7 +133,7 @@ module _ (rows : List (List ℕ)) (index d : List ℕ) (at : ℕ) (x : Indexed r
 module _ (rows : List (List ℕ)) (index d : List ℕ) (at : ℕ) (x : Indexed rows d index at) (r : Wrote) (d₁ : List ℕ) where
   module _ (arguments : List (List ℕ)) (w : WroteBy r d at (0x28 ∷ []) d₁) where
     pub opening-none : r ≡ NoRoom → length d < at + length (0x28 ∷ argumentTypes (readBack rows d) arguments)
-    opening-none e = none-first rows index d at x (0x28 ∷ []) r d₁ w (argumentTypes (readBack rows d) arguments) e
+    opening-none e = two-no-first d at (0x28 ∷ []) (argumentTypes (readBack rows d) arguments) r d₁ w e
 
     pub opening-done : {q : ℕ} → r ≡ Done q → (r₂ : Wrote) (d₂ : List ℕ) → WroteBy r₂ d₁ q (argumentTypes (readBack rows d₁) arguments) d₂ →
         WroteBy r₂ d at (0x28 ∷ argumentTypes (readBack rows d) arguments) d₂
@@ -144,7 +141,7 @@ module _ (rows : List (List ℕ)) (index d : List ℕ) (at : ℕ) (x : Indexed r
 
   module _ (returned : List ℕ) (w : WroteBy r d at (0x29 ∷ []) d₁) where
     pub returned-none : r ≡ NoRoom → length d < at + length (0x29 ∷ rawTypeOf (readBack rows d) returned)
-    returned-none e = none-first rows index d at x (0x29 ∷ []) r d₁ w (rawTypeOf (readBack rows d) returned) e
+    returned-none e = two-no-first d at (0x29 ∷ []) (rawTypeOf (readBack rows d) returned) r d₁ w e
 
     pub returned-done : {q : ℕ} → r ≡ Done q → (r₂ : Wrote) (d₂ : List ℕ) → WroteBy r₂ d₁ q (rawTypeOf (readBack rows d₁) returned) d₂ →
         WroteBy r₂ d at (0x29 ∷ rawTypeOf (readBack rows d) returned) d₂
@@ -152,7 +149,7 @@ module _ (rows : List (List ℕ)) (index d : List ℕ) (at : ℕ) (x : Indexed r
 
   module _ (arguments : List (List ℕ)) (returned : List ℕ) (w : WroteBy r d at (0x28 ∷ argumentTypes (readBack rows d) arguments) d₁) where
     pub types-none : r ≡ NoRoom → length d < at + length (typesDescriptor (readBack rows d) arguments returned)
-    types-none e = none-first rows index d at x (0x28 ∷ argumentTypes (readBack rows d) arguments) r d₁ w (0x29 ∷ rawTypeOf (readBack rows d) returned) e
+    types-none e = two-no-first d at (0x28 ∷ argumentTypes (readBack rows d) arguments) (0x29 ∷ rawTypeOf (readBack rows d) returned) r d₁ w e
 
     pub types-done : {q : ℕ} → r ≡ Done q → (r₂ : Wrote) (d₂ : List ℕ) → WroteBy r₂ d₁ q (0x29 ∷ rawTypeOf (readBack rows d₁) returned) d₂ →
         WroteBy r₂ d at (typesDescriptor (readBack rows d) arguments returned) d₂

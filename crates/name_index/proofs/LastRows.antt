@@ -1,5 +1,5 @@
 -- The last row that answers, by places: it does, and no row behind it. Assumes nothing.
-use mathlib.Core.Path.{_≡_, refl, _∙_}
+use mathlib.Core.Path.{_≡_, refl, _∙_, ap}
 use mathlib.Core.Bool.{Bool, true, false}
 use mathlib.Core.List.{List, [], _∷_}
 use Prim.Native.Nat.{ℕ, zero, suc, _-_, _≤_, _<_}
@@ -71,3 +71,8 @@ pub raw-has : (rows : List (List ℕ)) (pool name : List ℕ) {i : ℕ} → last
 raw-has rows pool name {i} e =
     let z : i - 0 ≡ i = omega arith in
     same-equal (textIn pool (unpackClass (getD rows i []) .raw)) name (rw z at (last-told (hasName Raw pool name) 0 rows e .holds))
+
+-- and is the last that has it
+pub raw-last : (rows : List (List ℕ)) (pool name : List ℕ) {i : ℕ} → lastRaw rows pool name ≡ Row i →
+    lastRaw rows pool (textIn pool (unpackClass (getD rows i []) .raw)) ≡ Row i
+raw-last rows pool name e = ap (lastRaw rows pool) (raw-has rows pool name e) ∙ e

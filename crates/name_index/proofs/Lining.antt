@@ -11,7 +11,7 @@ use mir.Syntax.{w64}
 use borrow.Author.Needs.{needs}
 use Rattle.ground.specs.Choice.{pick, both}
 use Rattle.ground.specs.Look.{Look, known}
-use Rattle.ground.proofs.Cases.{both-left, both-right}
+use Rattle.ground.proofs.Cases.{both-left, both-right, both-more}
 use Rattle.table_rows.specs.declared.rows.Member.{Member}
 use Rattle.table_rows.specs.declared.rows.Ranges.{Ranges}
 use Rattle.table_rows.specs.declared.rows.Text.{Text}
@@ -56,11 +56,6 @@ owned-holds : (look : Look) (b : Bool) (o : List ℕ) (g : Ranges) (n : RawLine)
     kindHolds (pick b field (method o g)) n ≡ holdsLine g n
 owned-holds look true o g n e = absurd (let z : _≡_ {A = ℕ} 0 1 = cc in omega arith)
 owned-holds look false o g n e = refl
-
-both-both : (o h m : Bool) → both o m ≡ false → both (both o h) m ≡ false
-both-both true true m e = e
-both-both true false m e = refl
-both-both false h m e = refl
 
 both-missing : (o m : Bool) → both (both o false) m ≡ false
 both-missing true m = refl
@@ -114,7 +109,7 @@ module _ (classes : List (List ℕ)) (rows : List (List ℕ)) (pool : List ℕ) 
       holds-later : (j : ℕ) → row + 1 ≤ j → j < length rows → holds (getD rows j []) ≡ false
       holds-later j l h =
           let e : Entry = entryBack pool (getD rows j []) in
-          both-both (ownedBy (shown cs raw) (e .kind)) (kindHolds (e .kind) n) (matches cs k e) (own-later j (omega arith) h)
+          both-more (ownedBy (shown cs raw) (e .kind)) (kindHolds (e .kind) n) (matches cs k e) (own-later j (omega arith) h)
 
       kind-is : kindHolds (kindBack pool m) n ≡ holdsLine (m .ranges) n
       kind-is =

@@ -21,6 +21,7 @@ use Rattle.table_index.specs.inner.Marks.{markCount, markFrom}
 use Rattle.table_index.proofs.Marking.{mark-from-below, marked-below}
 use Rattle.name_index.specs.declared.chains.ClassMark.{ClassMark}
 use Rattle.name_index.specs.inner.Chains.{lastBelow, chained, memberIndexSize, memberMark, classMark, rowMark, markAt, Chained}
+use Rattle.ground.proofs.Fill.{zero-at}
 
 module _ (f : ℕ → ℕ) (h : ℕ) where
   pub last-inside : (n : ℕ) → lastBelow f h n ≤ n
@@ -143,11 +144,6 @@ pub class-small : (classes : List (List ℕ)) (pool : List ℕ) (class : ℕ) {k
 class-small classes pool class e = rw e (mark-from-below 0 (textIn pool (unpackClass (getD classes class []) .raw)))
 
 -- Row after row.
-zero-everywhere : (n i : ℕ) → _≡_ {A = ℕ} (getD (replicate n 0) i 0) 0
-zero-everywhere zero i = refl
-zero-everywhere (suc n) zero = refl
-zero-everywhere (suc n) (suc i) = zero-everywhere n i
-
 module _ (classes : List (List ℕ)) (pool : List ℕ) (rows : List (List ℕ)) where
   pub chaining-starts : {index : List ℕ} → index ≡ replicate memberIndexSize 0 → length rows ≤ mostMembers → Chained classes pool rows index 0
   chaining-starts e h =
@@ -155,7 +151,7 @@ module _ (classes : List (List ℕ)) (pool : List ℕ) (rows : List (List ℕ)) 
         few = h;
         inside = omega arith;
         size = ap length e ∙ length-replicate {A = ℕ} memberIndexSize 0;
-        starts = λ m i. ap (λ l. getD l m 0) e ∙ zero-everywhere memberIndexSize m ∙ sym (none-below (markAt classes pool rows) m);
+        starts = λ m i. ap (λ l. getD l m 0) e ∙ zero-at memberIndexSize m ∙ sym (none-below (markAt classes pool rows) m);
         links = λ i l. absurd (omega arith);
       }
 

@@ -21,7 +21,7 @@ use Rattle.name_rule.specs.MemberNames.{Key, key}
 use Rattle.name_members.specs.declared.rows.Asked.the-variants.{Method}
 use Rattle.name_members.specs.MemberAnswers.{rowAsked, answerOfRow, answering}
 use Rattle.name_members.proofs.Asking.{asked-none}
-use Rattle.name_index.proofs.LastRows.{raw-has}
+use Rattle.name_index.proofs.LastRows.{raw-has, raw-last}
 use Rattle.name_probes.specs.Answers.{countsBy, rowNumber, answerNumber}
 
 -- The class is there, and has the raw descriptor.
@@ -34,7 +34,7 @@ module _ (classes rows : List (List ℕ)) (pool owner name descriptor : List ℕ
     has = raw-has classes pool owner (sym f ∙ e)
 
     pub last-class : lastRaw classes pool (textIn pool (unpackClass (getD classes i []) .raw)) ≡ Row i
-    last-class = ap (lastRaw classes pool) has ∙ sym f ∙ e
+    last-class = raw-last classes pool owner (sym f ∙ e)
 
     pub class-row : {z : Found} → z ≡ rowAsked Method (readBack classes pool) (key (textIn pool (unpackClass (getD classes i []) .raw)) name descriptor) rows pool →
         z ≡ rowAsked Method (readBack classes pool) (key owner name descriptor) rows pool

@@ -3,7 +3,7 @@ use mathlib.Core.Path.{_≡_, refl, sym, _∙_, ap}
 use mathlib.Core.Bool.{Bool, true, false}
 use mathlib.Core.List.{List, []}
 use mathlib.Core.Logic.{_⊎_, inl, inr}
-use Prim.Native.Nat.{ℕ, zero, suc, _+_, _-_, _≤_, _<_}
+use Prim.Native.Nat.{ℕ, suc, _+_, _-_, _≤_, _<_}
 use native.Mathlib.Numerals.{add-one}
 use native.Mathlib.Omega.{arith}
 use lib.Dec.{eqb}
@@ -21,6 +21,7 @@ use Rattle.table_index.specs.inner.Index.{headsAt, endsAt, marksAt, inde
 use Rattle.table_index.proofs.Marking.{mark-below, mark-is}
 use Rattle.table_index.proofs.Heads.{first-inside, first-here, first-other, head-new, head-old, head-told, head-inside}
 use Rattle.table_index.proofs.Heads.{count-zero, count-here, count-other, count-inside}
+use Rattle.ground.proofs.Fill.{zero-at}
 
 -- A part of the table after one number was written.
 pub ends-inside : (index : List ℕ) (i v : ℕ) {f : ℕ} → length index ≡ indexSize → f < mostClasses →
@@ -30,11 +31,6 @@ ends-inside index i v e h = let s = length-set index i v in omega arith
 pub ruleset joining = (ends-inside, needs)
 
 -- Zeros.
-zeros : (n i : ℕ) → _≡_ {A = ℕ} (getD (replicate n 0) i 0) 0
-zeros zero i = refl
-zeros (suc n) zero = refl
-zeros (suc n) (suc i) = zeros n i
-
 no-first : (ms : List ℕ) (m : ℕ) → _≡_ {A = ℕ} 0 (firstWith ms m 0)
 unfolding firstWith
 no-first ms m = refl
@@ -45,9 +41,9 @@ grouped-none ms {n} {index} e few = record {
   few = few;
   inside = omega arith;
   size = ap length e ∙ length-replicate {A = ℕ} indexSize 0;
-  firsts = λ m h. ap (λ l. getD l (marksAt + m) 0) e ∙ zeros indexSize (marksAt + m) ∙ no-first ms m;
+  firsts = λ m h. ap (λ l. getD l (marksAt + m) 0) e ∙ zero-at indexSize (marksAt + m) ∙ no-first ms m;
   heads = λ r h. absurd (omega arith);
-  counts = λ f h. ap (λ l. getD l (endsAt + f) 0) e ∙ zeros indexSize (endsAt + f) ∙ count-zero ms f;
+  counts = λ f h. ap (λ l. getD l (endsAt + f) 0) e ∙ zero-at indexSize (endsAt + f) ∙ count-zero ms f;
 }
 
 -- One row more, whose head is `f`, in a table whose marks know it already.

@@ -6,7 +6,7 @@ use Prim.Native.Nat.{ℕ, _+_, _*_, _/_, _%_, _-_, _≤_, _<_}
 use native.Mathlib.Nat.{mod-lt, zero-add}
 use native.Mathlib.Omega.{arith}
 use lib.Dec.{ltb}
-use lib.ListN.{length, getD, List·getD-map, length-map, length-append}
+use lib.ListN.{length, getD, List·getD-map, length-append}
 use lib.Seq.{take-at}
 use borrow.Author.Needs.{needs}
 use borrow.Author.Tests.{lt-ltb, le-ltb}
@@ -17,15 +17,9 @@ use Rattle.table_index.specs.declared.forms.NameForm.{NameForm}
 use Rattle.table_index.specs.declared.forms.NameForm.the-variants.{Whole, Piece}
 use Rattle.table_index.specs.inner.Forms.{spelled}
 use Rattle.table_index.specs.inner.Marks.{markCount, fourAt, fewBytes, mixed, manyMark, markFrom, markOf, marksOf}
+use Rattle.table_pool.proofs.Naming.{name-byte, name-length}
 
 -- a byte of a name
-stored-at : (dots : Bool) (s : List ℕ) (i : ℕ) → getD (nameBytes dots s) i 0 ≡ slashIf dots (getD s i 0)
-stored-at true s i = List·getD-map (slashIf true) s i 0
-stored-at false s i = List·getD-map (slashIf false) s i 0
-
-stored-size : (dots : Bool) (s : List ℕ) → length (nameBytes dots s) ≡ length s
-stored-size dots s = length-map s (slashIf dots)
-
 plain-name : (s : List ℕ) → nameBytes false s ≡ s
 plain-name s = map-id s
 
@@ -34,7 +28,7 @@ pub four-told : (dots : Bool) (s : List ℕ) (at : ℕ) {w x y z : ℕ} →
     y ≡ slashIf dots (getD s (at + 2) 0) → z ≡ slashIf dots (getD s (at + 3) 0) →
     w + 256 * x + 65536 * (y + 256 * z) ≡ fourAt (nameBytes dots s) at
 four-told dots s at e f g h =
-    rw (stored-at dots s at, stored-at dots s (at + 1), stored-at dots s (at + 2), stored-at dots s (at + 3), ← e, ← f, ← g, ← h)
+    rw (name-byte dots s at, name-byte dots s (at + 1), name-byte dots s (at + 2), name-byte dots s (at + 3), ← e, ← f, ← g, ← h)
 
 pub ruleset fours = (four-told, needs)
 
@@ -48,7 +42,7 @@ pub few-told : (dots : Bool) (s : List ℕ) {w x y : ℕ} →
     w ≡ slashIf dots (getD s 0 0) → x ≡ slashIf dots (getD s (length s / 2) 0) → y ≡ slashIf dots (getD s (length s - 1) 0) →
     w + 256 * x + 65536 * y ≡ fewBytes (nameBytes dots s)
 few-told dots s e f g =
-    rw (stored-size dots s, stored-at dots s 0, stored-at dots s (length s / 2), stored-at dots s (length s - 1), ← e, ← f, ← g)
+    rw (name-length dots s, name-byte dots s 0, name-byte dots s (length s / 2), name-byte dots s (length s - 1), ← e, ← f, ← g)
 
 pub ruleset few = (none-told, few-told, needs)
 
@@ -115,18 +109,18 @@ module _ (dots : Bool) (s : List ℕ) where
   pub name-short : length s < 4 → {x y : ℕ} → x ≡ fewBytes (nameBytes dots s) → y ≡ mixed (length s % markCount) x 0 0 0 →
       y ≡ markFrom 0 (nameBytes dots s)
   name-short h e f =
-      let z : 0 + length t % markCount ≡ length s % markCount = rw (stored-size dots s) (zero-add (length s % markCount)) in
+      let z : 0 + length t % markCount ≡ length s % markCount = rw (name-length dots s) (zero-add (length s % markCount)) in
       f ∙ ap (λ x. mixed (length s % markCount) x 0 0 0) e
-      ∙ ap (λ m. mixed m (fewBytes t) 0 0 0) (sym z) ∙ short-text 0 t (rw (stored-size dots s) h)
+      ∙ ap (λ m. mixed m (fewBytes t) 0 0 0) (sym z) ∙ short-text 0 t (rw (name-length dots s) h)
 
   pub name-long : 4 ≤ length s → {n a b c d y : ℕ} → n ≡ length s - 4 - 8 →
       a ≡ fourAt (nameBytes dots s) 0 → b ≡ fourAt (nameBytes dots s) n → c ≡ fourAt (nameBytes dots s) ((n + (length s - 4)) / 2) →
       d ≡ fourAt (nameBytes dots s) (length s - 4) →
       y ≡ mixed (length s % markCount) a b c d → y ≡ markFrom 0 (nameBytes dots s)
   name-long h {n} {a} {b} {c} {d} {y} i e f g k l =
-      let z : 0 + length t % markCount ≡ length s % markCount = rw (stored-size dots s) (zero-add (length s % markCount)) in
-      plain-long 0 t (rw (stored-size dots s) h) (rw (stored-size dots s) i)
-      e f (rw (stored-size dots s) g) (rw (stored-size dots s) k) (l ∙ ap (λ m. mixed m a b c d) (sym z))
+      let z : 0 + length t % markCount ≡ length s % markCount = rw (name-length dots s) (zero-add (length s % markCount)) in
+      plain-long 0 t (rw (name-length dots s) h) (rw (name-length dots s) i)
+      e f (rw (name-length dots s) g) (rw (name-length dots s) k) (l ∙ ap (λ m. mixed m a b c d) (sym z))
 
 pub name-seed : (n : ℕ) → n % markCount < 16384
 name-seed n = omega arith

@@ -19,7 +19,8 @@ use Rattle.text_utf8.specs.Grammar.{UTF8-octets}
 use Rattle.text_utf8.proofs.Boundaries.{Fresh, fresh-as}
 use Rattle.text_parts.specs.inner.Reach.{isTail, tailsUpTo, tailsAt, validTo, groupPlace, groupCount, Reached, LongPart, endsWell}
 use Rattle.text_parts.proofs.Tails.{tails-inside, tails-fresh, four-break}
-use Rattle.text_parts.proofs.Reaching.{utf8-yes, utf8-octets, utf8-no, part-cut, part-join, valid-extends, ends-told}
+use Rattle.text_parts.proofs.Reaching.{utf8-no, part-cut, part-join, valid-extends, ends-told}
+use Rattle.text_utf8.proofs.Grammatical.{utf8-octets, octets-utf8}
 
 -- Where a sequence has to end.
 module _ (s : List ℕ) (good e : ℕ) where
@@ -122,7 +123,7 @@ module _ (s reach : List ℕ) (start e : ℕ) (r : Reached s reach) (p : LongPar
         pub start-broken : not b ≡ true → false ≡ isUtf8 (between s start e)
         start-broken m =
             let no : isUtf8 (between s start fresh) ≡ false = sym u ∙ not-true b m in
-            sym (utf8-no (between s start e) (λ o. clash (utf8-yes (between s start fresh) (part-cut s start fresh e fresh-order fresh-before begins o .0)) no))
+            sym (utf8-no (between s start e) (λ o. clash (octets-utf8 (between s start fresh) (part-cut s start fresh e fresh-order fresh-before begins o .0)) no))
 
         module _ (m : not b ≡ false) (h : group < groupCount) where
           told : getD reach group 0 ≡ validTo s fresh
@@ -138,10 +139,10 @@ module _ (s reach : List ℕ) (start e : ℕ) (r : Reached s reach) (p : LongPar
               yes = utf8-octets (between s start fresh) (sym u ∙ not-false b m)
 
               go : (x : Bool) → isUtf8 (between s fresh e) ≡ x → x ≡ isUtf8 (between s start e)
-              go true q = sym (utf8-yes (between s start e) (part-join s start fresh e fresh-order fresh-before yes (utf8-octets (between s fresh e) q)))
+              go true q = sym (octets-utf8 (between s start e) (part-join s start fresh e fresh-order fresh-before yes (utf8-octets (between s fresh e) q)))
               go false q =
                   sym (utf8-no (between s start e)
-                  (λ o. clash (utf8-yes (between s fresh e) (part-cut s start fresh e fresh-order fresh-before begins o .1)) q))
+                  (λ o. clash (octets-utf8 (between s fresh e) (part-cut s start fresh e fresh-order fresh-before begins o .1)) q))
 
           pub by-table : {g : ℕ} → g ≡ getD reach group 0 → {z : Bool} → z ≡ endsWell s g e → z ≡ isUtf8 (between s start e)
           by-table q y =

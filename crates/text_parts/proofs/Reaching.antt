@@ -16,19 +16,12 @@ use Rattle.text_utf8.specs.declared.check.Check.{Check}
 use Rattle.text_utf8.specs.declared.check.Check.the-variants.{Valid, Broken}
 use Rattle.text_utf8.specs.Grammar.{UTF8-char, UTF8-octets}
 use Rattle.text_utf8.specs.Utf8.{checkOf, isUtf8}
-use Rattle.text_utf8.proofs.Checking.{valid-told}
-use Rattle.text_utf8.proofs.Grammatical.{valid-iff, broken-breaks}
+use Rattle.text_utf8.proofs.Grammatical.{valid-iff, broken-breaks, utf8-octets, octets-utf8}
 use Rattle.text_utf8.proofs.Boundaries.{octets-as, append-octets, Fresh, at-end, fresh-as, octets-fresh, cut-octets}
 use Rattle.text_parts.specs.inner.Reach.{isTail, stopOf, validTo, endsWell}
 use Rattle.text_parts.proofs.Tails.{rest-octets, here-fresh, fresh-head, head-fresh}
 
 -- A text is UTF-8, or not.
-pub utf8-yes : (s : List ℕ) → UTF8-octets s → isUtf8 s ≡ true
-utf8-yes s o = rw (valid-iff s .1 o)
-
-pub utf8-octets : (s : List ℕ) → isUtf8 s ≡ true → UTF8-octets s
-utf8-octets s e = valid-iff s .0 (valid-told s e)
-
 pub utf8-no : (s : List ℕ) → (UTF8-octets s → ⊥) → isUtf8 s ≡ false
 utf8-no s n = go (isUtf8 s) refl
   where
@@ -151,9 +144,9 @@ module _ (s : List ℕ) where
       short l true q = utf8-no (between s m e) (λ o. clash q (tail-free l o))
       short l false q =
           let i = x .inside in
-          utf8-yes (between s m e) (part-cut m e b h (omega arith) (here-fresh s e (omega arith) q) (x .good) .0)
+          octets-utf8 (between s m e) (part-cut m e b h (omega arith) (here-fresh s e (omega arith) q) (x .good) .0)
 
       go : (e ≤ b) ⊎ (b < e) → (b ≤ e) ⊎ (e < b) → isUtf8 (between s m e) ≡ endsWell s b e
       go (inr l) w = utf8-no (between s m e) (λ o. no-further x e l k o) ∙ sym (rw (lt-ltb b e l))
-      go (inl l) (inl r) = let z : b ≡ e = omega arith in utf8-yes (between s m e) (rw z at (x .good)) ∙ sym (rw (le-ltb b e l, eq-eqb b e z))
+      go (inl l) (inl r) = let z : b ≡ e = omega arith in octets-utf8 (between s m e) (rw z at (x .good)) ∙ sym (rw (le-ltb b e l, eq-eqb b e z))
       go (inl l) (inr r) = short r (isTail (getD s e 0)) refl ∙ sym (rw (le-ltb b e l, ne-eqb b e (λ z. absurd (omega arith))))

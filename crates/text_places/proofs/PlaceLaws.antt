@@ -2,7 +2,7 @@
 use mathlib.Core.Path.{_≡_, refl, sym}
 use mathlib.Core.Bool.{Bool, true, false}
 use mathlib.Core.List.{List, [], _∷_}
-use Prim.Native.Nat.{ℕ, zero, suc, _+_, _-_, _≤_, _<_}
+use Prim.Native.Nat.{ℕ, zero, suc, _+_, _-_, _^_, _≤_, _<_}
 use native.Mathlib.Numerals.{add-one}
 use native.Mathlib.Omega.{arith}
 use lib.Dec.{eqb}
@@ -10,12 +10,14 @@ use lib.ListN.{length, getD, drop, length-drop, drop-of-length-le}
 use lib.Seq.{drop-cons, drop-length}
 use borrow.Author.Tests.{eq-eqb, ne-eqb, eqb-true}
 use borrow.Author.Needs.{needs}
+use mir.Val.{Fits}
+use mir.Syntax.{w64}
 use mathlib.Core.Logic.{_⊎_, inl, inr}
 use Rattle.ground.specs.Choice.{pick, both}
 use Rattle.ground.proofs.Cases.{clash, both-left, both-right, le-or-lt}
 use Rattle.text_places.specs.declared.find.Place.{Place}
 use Rattle.text_places.specs.declared.find.Place.the-variants.{At, Nowhere}
-use Rattle.text_places.specs.Places.{firstFrom, firstWhere, lastFrom, lastWhere, orElse, starts, startsPair, same}
+use Rattle.text_places.specs.Places.{placeNumber, firstFrom, firstWhere, lastFrom, lastWhere, orElse, starts, startsPair, same}
 
 -- Forwards: the first place from here on is the first of the whole.
 pub record Seeking (p : List ℕ → Bool) (s : List ℕ) (at : ℕ) : Type 0 where
@@ -246,3 +248,7 @@ pub same-refl : (s : List ℕ) → same s s ≡ true
 unfolding same
 same-refl [] = refl
 same-refl (x ∷ s) = rw (eq-eqb x x refl) (same-refl s)
+
+-- The number of a place: one more than the place.
+pub place-fits : {o : Place} {i : ℕ} → o ≡ At i → placeNumber o < 2 ^ 64 → Fits w64 (i + 1)
+place-fits e h = let l = rw e at h in omega arith

@@ -17,7 +17,7 @@ pub record Taking (s : List ℕ) (at : ℕ) : Type 0 where
 pub taking-starts : (s : List ℕ) → Taking s 0
 taking-starts s = omega arith
 
-starts-there : (at : ℕ) (l : List ℕ) {a e n : ℕ} → lineFrom at l ≡ Line a e n → at ≡ a
+pub starts-there : (at : ℕ) (l : List ℕ) {a e n : ℕ} → lineFrom at l ≡ Line a e n → at ≡ a
 starts-there at [] q = absurd (let z : _≡_ {A = ℕ} 0 1 = cc in omega arith)
 starts-there at (b ∷ l) q = cc
 

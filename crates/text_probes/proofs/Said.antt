@@ -5,8 +5,6 @@ use mathlib.Core.List.{List, [], _∷_}
 use Prim.Native.Nat.{ℕ, _+_, _^_, _<_}
 use native.Mathlib.Omega.{arith}
 use lib.ListN.{length}
-use mir.Val.{Fits}
-use mir.Syntax.{w64}
 use borrow.Author.Needs.{needs}
 use Rattle.ground.specs.Choice.{bit}
 use Rattle.ground.proofs.Cases.{bit-told}
@@ -21,7 +19,7 @@ use Rattle.text_places.specs.declared.lines.NextLine.the-variants.{Line, NoLine
 use Rattle.text_places.specs.declared.spans.Span.{Span}
 use Rattle.text_places.specs.Places.{firstWhere, lastWhere, placeNumber}
 use Rattle.text_white.specs.Trim.{trimStart, trimEnd, trimBoth, afterMarks, startsWhite, firstWhite, lastWhite}
-use Rattle.text_places.proofs.PlaceLaws.{first-inside, last-inside}
+use Rattle.text_places.proofs.PlaceLaws.{first-inside, last-inside, place-fits}
 use Rattle.text_probes.specs.Answers.{trimNumbers, sequenceNumbers, checkNumbers, nextLineNumbers}
 
 module _ {t x : Sequence} (e : t ≡ x) where
@@ -66,9 +64,6 @@ place-at e = sym (rw e)
 
 pub place-none : {o : Place} → o ≡ Nowhere → 0 ≡ placeNumber o
 place-none e = sym (rw e)
-
-pub place-fits : {o : Place} {i : ℕ} → o ≡ At i → placeNumber o < 2 ^ 64 → Fits w64 (i + 1)
-place-fits e h = let l = rw e at h in omega arith
 
 -- all the trims of a text, put together
 pub all-trims :

@@ -20,6 +20,7 @@ use Rattle.text_utf8.specs.Grammar.{UTF8-char, UTF8-octets}
 use Rattle.text_utf8.specs.Utf8.{sequenceOf, pieces, checkFrom, checkOf}
 use Rattle.text_utf8.proofs.Pieces.{pieces-good}
 use Rattle.text_utf8.proofs.Grammatical.{good-is-char, valid-iff}
+use Rattle.ground.proofs.Joins.{cons-same}
 
 pub octets-as : {s t : List ℕ} → s ≡ t → UTF8-octets s → UTF8-octets t
 octets-as e o = rw e at o
@@ -114,9 +115,6 @@ same-first e = cc
 same-later : {x y : ℕ} {s t : List ℕ} → x ∷ s ≡ y ∷ t → s ≡ t
 same-later e = cc
 
-same-both : {x y : ℕ} {s t : List ℕ} → x ≡ y → s ≡ t → x ∷ s ≡ y ∷ t
-same-both p q = cc
-
 -- where UTF8-tail are at the head, a cut comes after them
 record Behind (c b p q : List ℕ) : Type 0 where
   between : List ℕ
@@ -133,13 +131,13 @@ behind no-tail b p q f e = record { between = p; before = refl; after = e }
 behind (tail l h t) b [] q f e = absurd (not-tail l h f (sym e))
 behind (tail l h t) b (z ∷ p) q f e =
     let w = behind t b p q f (same-later e) in
-    record { between = w .between; before = same-both (sym (same-first e)) (w .before); after = w .after }
+    record { between = w .between; before = cons-same (sym (same-first e)) (w .before); after = w .after }
 
 past-char : {a : List ℕ} → Shape a → (b : List ℕ) (y : ℕ) (p q : List ℕ) → Fresh q → a ++ b ≡ y ∷ (p ++ q) → Behind a b (y ∷ p) q
-past-char (single h) b y p q f e = record { between = p; before = same-both (sym (same-first e)) refl; after = same-later e }
+past-char (single h) b y p q f e = record { between = p; before = cons-same (sym (same-first e)) refl; after = same-later e }
 past-char (several h t) b y p q f e =
     let w = behind t b p q f (same-later e) in
-    record { between = w .between; before = same-both (sym (same-first e)) (w .before); after = w .after }
+    record { between = w .between; before = cons-same (sym (same-first e)) (w .before); after = w .after }
 
 cut : {t : List ℕ} → UTF8-octets t → (p q : List ℕ) → Fresh q → t ≡ p ++ q → UTF8-octets p × UTF8-octets q
 cut none [] q f e = (none, octets-as e none)
@@ -231,11 +229,11 @@ module _ {s : List ℕ} (o : UTF8-octets s) (i : ℕ) where
 module _ (f : ℕ → ℕ) (low : (x : ℕ) → x < 0x80 → f x < 0x80) (high : (x : ℕ) → 0x80 ≤ x → f x ≡ x) where
   tails-kept : {s : List ℕ} → Tails s → map f s ≡ s
   tails-kept no-tail = refl
-  tails-kept (tail {x} l h t) = same-both (high x l) (tails-kept t)
+  tails-kept (tail {x} l h t) = cons-same (high x l) (tails-kept t)
 
   shape-turned : {a : List ℕ} → Shape a → UTF8-char a → UTF8-octets (map f a)
   shape-turned (single {x} h) c = ascii-octets (f x) (low x h)
-  shape-turned (several {x} h t) c = octets-as (sym (same-both (high x (omega arith)) (tails-kept t))) (char-octets c)
+  shape-turned (several {x} h t) c = octets-as (sym (cons-same (high x (omega arith)) (tails-kept t))) (char-octets c)
 
   pub map-octets : {s : List ℕ} → UTF8-octets s → UTF8-octets (map f s)
   map-octets none = none

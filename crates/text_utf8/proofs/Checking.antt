@@ -2,13 +2,11 @@
 use mathlib.Core.Path.{_≡_, refl, sym, _∙_, ap}
 use mathlib.Core.Bool.{true, false}
 use mathlib.Core.List.{List}
-use Prim.Native.Nat.{ℕ, zero, suc, _+_, _-_, _^_, _≤_, _<_}
+use Prim.Native.Nat.{ℕ, zero, suc, _+_, _-_, _≤_, _<_}
 use native.Mathlib.Omega.{arith}
 use mathlib.Core.Logic.{_⊎_, inl, inr}
 use lib.ListN.{length, getD, take, drop, length-drop}
 use lib.Seq.{getD-take, getD-drop, length-take-le}
-use mir.Val.{Fits}
-use mir.Syntax.{w64}
 use borrow.Author.Needs.{needs}
 use Rattle.ground.proofs.Cases.{le-or-lt, clash}
 use Rattle.text_utf8.specs.declared.sequence.Sequence.{Sequence}
@@ -40,12 +38,6 @@ module _ {s : List ℕ} {at : ℕ} (c : Checked s at) where
       decides = rw (pieces-on s at (sym e ∙ g)) at (c .decides);
     }
 
-    pub checked-fits : {d m : ℕ} → length s < 2 ^ 64 → t ≡ Good d m → Fits w64 (at + m)
-    checked-fits b g = let i = good-inside s at (sym e ∙ g) in omega arith
-
-    pub checked-falls : {d m : ℕ} → t ≡ Good d m → length s - (at + m) < length s - at
-    checked-falls g = let i = good-inside s at (sym e ∙ g) in omega arith
-
   pub checked-ascii : at < length s → getD s at 0 < 0x80 → Checked s (at + 1)
   checked-ascii h a = checked-good refl (sym (sequence-ascii s at h a))
 
@@ -74,9 +66,6 @@ module _ {s : List ℕ} {at to : ℕ} (c : Checked s at) (h : at < length s) (b 
 
   pub runs-fall : length s - to < length s - at
   runs-fall = omega (arith, a .goes)
-
-pub run-inside : {s : List ℕ} {at to : ℕ} → AsciiTo s at to → to ≤ length s
-run-inside a = a .inside
 
 -- Whether a text is UTF-8, by what its check says.
 module _ (s : List ℕ) {t : Check} (e : t ≡ checkOf s) where

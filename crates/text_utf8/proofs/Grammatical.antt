@@ -18,7 +18,8 @@ use Rattle.text_utf8.specs.declared.check.Check.the-variants.{Valid, Bro
 use Rattle.text_utf8.specs.Grammar.{Breaks, UTF8-char, UTF8-octets}
 use Rattle.text_utf8.proofs.Sequences.{first-good, second-good, went-on, tails-fit, end-empty, good-fits, sequence-end}
 use Rattle.text_utf8.proofs.Pieces.{pieces-none, pieces-good, pieces-bad}
-use Rattle.text_utf8.specs.Utf8.{Lead, lead, leadOf, tails, afterLead, sequenceOf, pieces, checkFrom, checkOf}
+use Rattle.text_utf8.specs.Utf8.{Lead, lead, leadOf, tails, afterLead, sequenceOf, pieces, checkFrom, checkOf, isValid, isUtf8}
+use Rattle.text_utf8.proofs.Checking.{valid-told}
 
 -- octets after the first: as many as are to come, the next between two bounds and all later ones UTF8-tail
 data Tails : ℕ → ℕ → ℕ → List ℕ → Type 0 where
@@ -203,6 +204,12 @@ accepted (more {a} {b} c st) at =
 -- RFC 3629: a text is accepted exactly where it is UTF8-octets
 pub valid-iff : (s : List ℕ) → (checkOf s ≡ Valid) ↔ UTF8-octets s
 valid-iff s = (octets-of (length s) s 0 (omega arith), λ o. accepted o 0)
+
+pub utf8-octets : (s : List ℕ) → isUtf8 s ≡ true → UTF8-octets s
+utf8-octets s e = valid-iff s .0 (valid-told s e)
+
+pub octets-utf8 : (s : List ℕ) → UTF8-octets s → isUtf8 s ≡ true
+octets-utf8 s o = ap isValid (valid-iff s .1 o)
 
 -- where a text breaks, `k` bytes on
 record BreaksOn (s : List ℕ) (k m : ℕ) : Type 0 where

@@ -1,13 +1,15 @@
 -- A text as its sequences: the first one, and those of what it leaves. Assumes nothing.
 use mathlib.Core.Path.{_≡_, refl, _∙_}
 use mathlib.Core.List.{List, [], _∷_}
-use Prim.Native.Nat.{ℕ, zero, suc, _+_, _≤_, _<_}
+use Prim.Native.Nat.{ℕ, zero, suc, _+_, _-_, _^_, _≤_, _<_}
 use native.Mathlib.Omega.{arith}
 use lib.ListN.{length, drop, length-drop}
 use lib.Seq.{drop-drop}
 use Rattle.text_utf8.specs.declared.sequence.Sequence.the-variants.{End, Good, Bad}
 use Rattle.text_utf8.specs.Utf8.{sequenceOf, piecesFrom, pieces}
 use Rattle.text_utf8.proofs.Sequences.{good-fits}
+use mir.Val.{Fits}
+use mir.Syntax.{w64}
 
 skipped : (n : ℕ) (l : List ℕ) → piecesFrom n l ≡ pieces (drop n l)
 unfolding piecesFrom
@@ -48,3 +50,9 @@ module _ (s : List ℕ) (at : ℕ) where
 
   pub good-inside : {d m : ℕ} → sequenceOf (drop at s) ≡ Good d m → (0 < m) × (at + m ≤ length s)
   good-inside {d} {m} e = let f = good-fits (drop at s) e in omega (arith, length-drop at s)
+
+  pub good-past-fits : {d m : ℕ} → length s < 2 ^ 64 → sequenceOf (drop at s) ≡ Good d m → Fits w64 (at + m)
+  good-past-fits h e = let i = good-inside e in omega arith
+
+  pub good-past-falls : {d m : ℕ} → sequenceOf (drop at s) ≡ Good d m → length s - (at + m) < length s - at
+  good-past-falls e = let i = good-inside e in omega arith

@@ -21,9 +21,10 @@ use Rattle.text_utf8.specs.declared.check.Check.the-variants.{Valid, Bro
 use Rattle.text_utf8.specs.Utf8.{sequenceOf, pieces, checkFrom, checkOf}
 use Rattle.text_utf8.specs.inner.Runs.{Three, goodLength}
 use Rattle.text_utf8.proofs.Sequences.{end-empty}
-use Rattle.text_utf8.proofs.Pieces.{pieces-none, pieces-bad, good-inside}
+use Rattle.text_utf8.proofs.Pieces.{pieces-none, pieces-bad, good-inside, good-past-fits, good-past-falls}
 use Rattle.text_utf8.proofs.Grammatical.{char-reads}
-use Rattle.text_utf8.proofs.Checking.{Checked, checked-first, checked-runs, runs-fall, run-inside, checked-all, checked-good, checked-fits, checked-falls}
+use Rattle.text_utf8.proofs.Checking.{Checked, checked-first, checked-runs, runs-fall, checked-all, checked-good}
+use Rattle.text_utf8.proofs.RunLaws.{ascii-inside}
 
 module _ (b : ℕ) where
   pub tail-low : b < 0x80 → false ≡ within 0x80 0xBF b
@@ -114,9 +115,9 @@ module _ {s : List ℕ} {at : ℕ} (c : Checked s at) {r : ℕ} (e : r ≡ goodL
     checked-length = checked-good c refl (stands .1)
 
     pub length-fits : length s < 2 ^ 64 → Fits w64 (at + r)
-    length-fits b = checked-fits c refl b (stands .1)
+    length-fits b = good-past-fits s at b (stands .1)
 
     pub length-falls : length s - (at + r) < length s - at
-    length-falls = checked-falls c refl (stands .1)
+    length-falls = good-past-falls s at (stands .1)
 
-pub ruleset checking = (checked-first, checked-runs, runs-fall, run-inside, checked-all, checked-zero, checked-bad-at, checked-length, length-fits, length-falls, needs)
+pub ruleset checking = (checked-first, checked-runs, runs-fall, ascii-inside, checked-all, checked-zero, checked-bad-at, checked-length, length-fits, length-falls, needs)

@@ -120,7 +120,7 @@ unfolding ontos
 ontos-none x [] = refl
 ontos-none x (y ∷ p) = ap (onto x) (ontos-none y p)
 
-texts-as : {a b : List (List ℕ)} → a ≡ b → Texts a → Texts b
+pub texts-as : {a b : List (List ℕ)} → a ≡ b → Texts a → Texts b
 texts-as e t = rw e at t
 
 -- a rule that splits so; at the end it opens one more part, or does not

@@ -24,7 +24,7 @@ use Rattle.text_white.specs.inner.Before.{whiteLengthOf, whiteLength}
 use Rattle.text_utf8.proofs.Sequences.{end-empty, good-fits}
 use Rattle.text_utf8.proofs.Threes.{three-here}
 use Rattle.text_places.proofs.PlaceLaws.{seeking, backing}
-use Rattle.text_utf8.proofs.Pieces.{pieces-none, pieces-good, pieces-past, pieces-on, pieces-bad, good-inside}
+use Rattle.text_utf8.proofs.Pieces.{pieces-none, pieces-good, pieces-past, pieces-on, pieces-bad, good-inside, good-past-fits, good-past-falls}
 
 -- White space at the head of a text, by what was read there.
 module _ {t : Sequence} (l : List ℕ) (e : t ≡ sequenceOf l) where
@@ -122,10 +122,10 @@ module _ {p : ℕ → Bool} {s : List ℕ} {at : ℕ} (k : Running p s at) where
     }
 
     pub run-fits : {d m : ℕ} → length s < 2 ^ 64 → t ≡ Good d m → Fits w64 (at + m)
-    run-fits b g = let i = good-inside s at (sym e ∙ g) in omega arith
+    run-fits b g = good-past-fits s at b (sym e ∙ g)
 
     pub run-falls : {d m : ℕ} → t ≡ Good d m → length s - (at + m) < length s - at
-    run-falls g = let i = good-inside s at (sym e ∙ g) in omega arith
+    run-falls g = good-past-falls s at (sym e ∙ g)
 
 pub told : (d : ℕ) {b y : Bool} → b ≡ isWhite d → b ≡ y → isWhite d ≡ y
 told d w y = sym w ∙ y

@@ -46,11 +46,11 @@ use Rattle.tree_rule.specs.Files.{
 use Rattle.tree_rule.specs.Theorems.{Word, ParentFits, TokenFits, NameFits, Every, every-none, every-one, Writable}
 use Rattle.tree_rule.proofs.WordLaws.{word-written, past-word}
 
-every-front : {A : Type 0} {P : A → Type 0} (a b : List A) → Every P (a ++ b) → Every P a
+pub every-front : {A : Type 0} {P : A → Type 0} (a b : List A) → Every P (a ++ b) → Every P a
 every-front [] b e = every-none
 every-front (x ∷ a) b (every-one p e) = every-one p (every-front a b e)
 
-every-back : {A : Type 0} {P : A → Type 0} (a b : List A) → Every P (a ++ b) → Every P b
+pub every-back : {A : Type 0} {P : A → Type 0} (a b : List A) → Every P (a ++ b) → Every P b
 every-back [] b e = e
 every-back (x ∷ a) b (every-one p e) = every-back a b e
 

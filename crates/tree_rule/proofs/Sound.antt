@@ -3,7 +3,7 @@ use mathlib.Core.Path.{_≡_, refl, sym, _∙_, ap, subst}
 use mathlib.Core.Bool.{Bool, true, false}
 use mathlib.Core.List.{List, [], _∷_, _++_, map}
 use Prim.Native.Nat.{ℕ, zero, suc, _+_, _*_, _-_, _≤_, _<_}
-use native.Mathlib.Nat.{not-suc-le-zero, mul-zero, mul-suc}
+use native.Mathlib.Nat.{not-suc-le-zero}
 use native.Mathlib.Omega.{arith}
 use lib.Dec.{eqb}
 use lib.ListN.{length, getD, drop, length-append}
@@ -55,6 +55,7 @@ use Rattle.tree_rule.proofs.ReadWritten.{
   tree-again,
 }
 use Rattle.tree_rule.proofs.WrittenRead.{nodes-length, nodes-tokens}
+use Rattle.ground.proofs.Joins.{joined-length}
 
 -- From a file to its tree.
 module _ (f : List ℕ) (small : (i : ℕ) → getD f i 0 < 256) where
@@ -85,13 +86,6 @@ module _ (f : List ℕ) (small : (i : ℕ) → getD f i 0 < 256) where
       }
 
 -- From a tree to its file.
-joined-length : {A : Type 0} (enc : A → List ℕ) (w : ℕ) → ((x : A) → length (enc x) ≡ w) → (l : List A) →
-    length (join (map enc l)) ≡ w * length l
-unfolding join
-joined-length enc w size [] = sym (mul-zero w)
-joined-length enc w size (x ∷ l) =
-    length-append (enc x) (join (map enc l)) ∙ rw (size x, joined-length enc w size l, mul-suc w (length l)) (omega arith)
-
 -- a row by its number, and what stands behind it
 rows-at : {A : Type 0} (enc : A → List ℕ) (w base : ℕ) (f : List ℕ) → ((x : A) → length (enc x) ≡ w) →
     (z : A) (l : List A) (i k : ℕ)
