@@ -17,21 +17,6 @@ use Rattle.load_rule.specs.declared.Fate.the-variants as fate
 use Rattle.load_rule.specs.Comments.{signatureAt}
 use Rattle.load_rule.specs.Fates.{commentFate, methodFate, fateOf}
 
-module _ {b : Bool} where
-  pub fate-applied : b ≡ true → fate.Applied ≡ commentFate b
-  fate-applied e = sym (ap commentFate e)
-
-  pub fate-idle : b ≡ false → fate.Idle ≡ commentFate b
-  fate-idle e = sym (ap commentFate e)
-
-  pub fate-short : b ≡ true → fate.Short ≡ methodFate b
-  fate-short e = sym (ap methodFate e)
-
-  pub fate-whole : b ≡ false → fate.Method ≡ methodFate b
-  fate-whole e = sym (ap methodFate e)
-
-pub ruleset choosing = (fate-applied, fate-idle, fate-short, fate-whole, needs)
-
 module _ (member : Bool) (l : List ℕ) {k : Line} where
   pub fated-blank : k ≡ kinds.Blank → fate.Blank ≡ fateOf member l k
   fated-blank e = sym (ap (fateOf member l) e)

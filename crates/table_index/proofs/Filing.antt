@@ -9,7 +9,7 @@ use lib.Dec.{eqb}
 use lib.ListN.{length, getD, set, replicate, length-set, length-replicate}
 use lib.Seq.{getD-set-same, getD-set-other}
 use mir.Val.{Fits}
-use mir.Syntax.{w16, w64}
+use mir.Syntax.{w64}
 use borrow.Author.Tests.{eqb-true, eqb-false}
 use borrow.Author.Needs.{needs}
 use Rattle.table_rows.specs.Rows.{mostClasses}
@@ -183,33 +183,6 @@ module _ {n : ℕ} {keys : List (List ℕ)} {ms index : List ℕ} {k : ℕ} (x :
 
 pub ruleset filing =
     (head-place, head-place-fits, row-few, head-few, shelf-size, shelf-ranked, end-few, place-inside, row-shelved, row-length, needs)
-
--- Where a shelf starts and ends.
-pub shelf-told : (index : List ℕ) (f : ℕ) {a b : ℕ} → a ≡ getD index (startsAt + f) 0 → b ≡ getD index (endsAt + f) 0 →
-    ShelfAt index f a b
-shelf-told index f e d = record { starts = e; ends = d }
-
-pub ruleset shelf-places = (shelf-told, needs)
-
--- A row in its place.
-module _ (index : List ℕ) (s : length index ≡ indexSize) {b : ℕ} (l : b < mostClasses) where
-  pub filed-inside : b < length index
-  filed-inside = omega arith
-
-  pub filed-next : Fits w16 (b + 1)
-  filed-next = omega arith
-
-  module _ {new : List ℕ} {p row : ℕ} (y : Inserted index new p b row) where
-    pub filed-end : {f : ℕ} → f < mostClasses → endsAt + f < length new
-    filed-end h = let z = y .size in omega arith
-
-    pub filed-all : (f : ℕ) → Filed index (set new (endsAt + f) (b + 1)) p b row f
-    filed-all f = record { middle = new; inserted = y; is = refl }
-
-    pub filed-length : (i v : ℕ) → length (set new i v) ≡ length index
-    filed-length i v = length-set new i v ∙ y .size
-
-pub ruleset placing-row = (filed-inside, filed-next, filed-end, filed-all, filed-length, needs)
 
 -- The place of a row, by its text.
 pub place-told : {keys : List (List ℕ)} {order : List ℕ} {a b : ℕ} (row : ℕ) {p : ℕ} {t : List ℕ} → t ≡ getD keys row [] →

@@ -11,14 +11,6 @@ use Rattle.ground.proofs.Cases.{le-or-lt}
 use Rattle.ground.proofs.Stretch.{along-none, along-byte, along-more}
 use Rattle.text_utf8.specs.inner.Runs.{AsciiTo}
 
-pub greater-second : (a b : ℕ) → a < b → b ≡ max a b
-greater-second a b h = omega arith
-
-pub greater-first : (a b : ℕ) → b ≤ a → a ≡ max a b
-greater-first a b h = omega arith
-
-pub ruleset greater-of = (greater-second, greater-first, needs)
-
 -- a bound of the bytes of a block that were passed
 pub record Bounded (s : List ℕ) (at size greatest i : ℕ) : Type 0 where
   pub few : i ≤ size

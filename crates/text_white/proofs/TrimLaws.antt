@@ -212,8 +212,6 @@ module _ (s : List ℕ) {a : ℕ} (e : a ≡ trimStart s) where
     pub both-trimmed : record { start = a; «end» = a + n } ≡ trimBoth s
     both-trimmed = rw (ends, e)
 
-pub ruleset both-trims = (both-part, both-fits, both-trimmed, needs)
-
 pub trim-inside : (s : List ℕ) → trimBoth s .«end» ≤ length s
 trim-inside s =
     let a = trim-start-inside s in
