@@ -11,7 +11,7 @@ use Rattle.ground.proofs.Parts.{prefix-whole}
 use Rattle.table_rows.specs.Tables.{tables}
 use Rattle.tables.specs.declared.check.Used.{Used}
 use Rattle.tables.specs.Check.{wellFormed}
-use Rattle.tables.proofs.Checking.{formed}
+use Rattle.tables.proofs.Checking.{formed, tested-formed, class-rows-lent, member-rows-lent}
 use Rattle.tree_rule.specs.Checks.{wellFormedFile}
 use Rattle.apply_rule.specs.declared.Applied.{Applied}
 use Rattle.apply_rule.specs.declared.Applied.the-variants.{Malformed, TooLong, BadTree}
@@ -28,29 +28,20 @@ module _ (c m : List (List ℕ)) (p class f : List ℕ) (used : Used) (room : �
   malformed-output h e = e ∙ sym (rw (sym w ∙ not-true b h))
 
   module _ (h : not b ≡ false) where
-    fine : wellFormed c m p used ≡ true
-    fine = sym w ∙ not-false b h
-
-    pub class-count-fits : used .classes ≤ length c
-    class-count-fits = let z = formed c m p used fine .counts .class-rows in omega arith
-
-    pub member-count-fits : used .members ≤ length m
-    member-count-fits = let z = formed c m p used fine .counts .member-rows in omega arith
-
     -- the tree file too long
     pub long-answer : mostTree < length f → TooLong ≡ applyAnswer (tables c m p) used class f room
-    long-answer l = sym (rw (fine, lt-leb (length f) mostTree l))
+    long-answer l = sym (rw (tested-formed c m p used w h, lt-leb (length f) mostTree l))
 
     pub long-output : mostTree < length f → {out : List ℕ} → out ≡ replicate room 0 → out ≡ applyOutput (tables c m p) used class f room
-    long-output l e = e ∙ sym (rw (fine, lt-leb (length f) mostTree l))
+    long-output l e = e ∙ sym (rw (tested-formed c m p used w h, lt-leb (length f) mostTree l))
 
     module _ (l : length f ≤ mostTree) {t : Bool} (v : t ≡ wellFormedFile f) where
       -- the tree file malformed
       pub bad-answer : not t ≡ true → BadTree ≡ applyAnswer (tables c m p) used class f room
-      bad-answer g = sym (rw (fine, le-leb (length f) mostTree l, sym v ∙ not-true t g))
+      bad-answer g = sym (rw (tested-formed c m p used w h, le-leb (length f) mostTree l, sym v ∙ not-true t g))
 
       pub bad-output : not t ≡ true → {out : List ℕ} → out ≡ replicate room 0 → out ≡ applyOutput (tables c m p) used class f room
-      bad-output g e = e ∙ sym (rw (fine, le-leb (length f) mostTree l, sym v ∙ not-true t g))
+      bad-output g e = e ∙ sym (rw (tested-formed c m p used w h, le-leb (length f) mostTree l, sym v ∙ not-true t g))
 
       module _ (g : not t ≡ false) where
         good : wellFormedFile f ≡ true
@@ -64,19 +55,19 @@ module _ (c m : List (List ℕ)) (p class f : List ℕ) (used : Used) (room : �
               r ≡ applyAnswer (tables c m p) used class f room
           accepted-answer q =
               q ∙ ap (λ n. fittingAnswer n (appliedFile (mappingIn (take (used .classes) c) (take (used .members) m) p) class f)) size
-              ∙ sym (rw (fine, le-leb (length f) mostTree l, good))
+              ∙ sym (rw (tested-formed c m p used w h, le-leb (length f) mostTree l, good))
 
           pub accepted-output : {new : List ℕ} → new ≡ fittingOutput (length out) (appliedFile (mappingIn (take (used .classes) c) (take (used .members) m) p) class f) →
               new ≡ applyOutput (tables c m p) used class f room
           accepted-output q =
               q ∙ ap (λ n. fittingOutput n (appliedFile (mappingIn (take (used .classes) c) (take (used .members) m) p) class f)) size
-              ∙ sym (rw (fine, le-leb (length f) mostTree l, good))
+              ∙ sym (rw (tested-formed c m p used w h, le-leb (length f) mostTree l, good))
 
 pub accept-ready : (c m : List (List ℕ)) (p f : List ℕ) (used : Used) {b : Bool} → b ≡ wellFormed c m p used → not b ≡ false →
     length f ≤ mostTree → {t : Bool} → t ≡ wellFormedFile f → not t ≡ false →
     {out : List ℕ} (n : ℕ) → out ≡ replicate n 0 → AcceptReady (take (used .classes) c) (take (used .members) m) f out
 accept-ready c m p f used {b} w h l {t} v g {out} n e =
-    let fine : wellFormed c m p used ≡ true = sym w ∙ not-false b h in
+    let fine = tested-formed c m p used w h in
     let z = formed c m p used fine .counts .class-rows in
     let y = formed c m p used fine .counts .member-rows in
     record {
@@ -90,8 +81,8 @@ accept-ready c m p f used {b} w h l {t} v g {out} n e =
 pub ruleset applying = (
   malformed-answer,
   malformed-output,
-  class-count-fits,
-  member-count-fits,
+  class-rows-lent,
+  member-rows-lent,
   long-answer,
   long-output,
   bad-answer,

@@ -1,10 +1,11 @@
 -- A line by the number of its line context. Assumes nothing.
-use mathlib.Core.Path.{_≡_, refl, sym, _∙_, ap}
+use mathlib.Core.Path.{_≡_, sym, _∙_, ap}
 use mathlib.Core.List.{List, []}
 use Prim.Native.Nat.{ℕ, zero, suc, _-_, _≤_, _<_}
 use native.Mathlib.Omega.{arith}
 use lib.ListN.{getD}
 use borrow.Author.Needs.{needs}
+use Rattle.ground.proofs.Cases.{some}
 use Rattle.table_rows.specs.Rows.{unpackClass}
 use Rattle.tables.specs.declared.search.Found.the-variants.{Row}
 use Rattle.tables.specs.Back.{textIn, readBack}
@@ -23,27 +24,20 @@ module _ (classes rows : List (List ℕ)) (pool : List ℕ) (home : ℕ) {contex
   no-context n display e = sym (ap (λ x. lineNumber display (lineBy classes rows pool home x n)) e)
 
   module _ (h : context ≡ 0 → ⊥) where
-    some : 0 < context
-    some = go context h
-      where
-        go : (x : ℕ) → (x ≡ 0 → ⊥) → 0 < x
-        go zero k = absurd (k refl)
-        go (suc x) k = omega arith
-
     pub context-some : 1 ≤ context
-    context-some = some
+    context-some = some context h
 
     module _ (k : MeantBy classes rows pool home context) where
       pub context-class : lastRaw classes pool (textIn pool (unpackClass (getD classes home []) .raw)) ≡ Row home
-      context-class = k .meant some .class-row
+      context-class = k .meant (some context h) .class-row
 
       pub context-own : ownRow classes rows pool (keyOfRow classes rows pool home (context - 1)) ≡ Row (context - 1)
-      context-own = k .meant some .own-row
+      context-own = k .meant (some context h) .own-row
 
     module _ (n : RawLine) (display : ℕ) {l : LineName}
         (e : l ≡ lineOfMethod (mapping (readBack classes pool) (entriesBack rows pool)) (keyOfRow classes rows pool home (context - 1)) n) where
       is : lineBy classes rows pool home context n ≡ l
-      is = go context some ∙ sym e
+      is = go context (some context h) ∙ sym e
         where
           go : (x : ℕ) → 0 < x → lineBy classes rows pool home x n ≡ lineOfMethod (mapping (readBack classes pool) (entriesBack rows pool)) (keyOfRow classes rows pool home (x - 1)) n
           go zero q = absurd (omega arith)

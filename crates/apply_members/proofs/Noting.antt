@@ -10,7 +10,7 @@ use mir.Syntax.{w32}
 use borrow.Author.Needs.{needs}
 use Rattle.ground.specs.Choice.{pick}
 use Rattle.ground.specs.Look.{known, unknown}
-use Rattle.ground.proofs.Cases.{both-left, both-right, clash}
+use Rattle.ground.proofs.Cases.{both-left, both-right, clash, none-either}
 use Rattle.text_places.specs.Places.{same}
 use Rattle.table_rows.specs.declared.rows.Member.{Member}
 use Rattle.table_rows.specs.Classes.{Pair, shown}
@@ -82,20 +82,17 @@ module _ (classes rows : List (List ℕ)) (pool : List ℕ) where
   abbrev cs : List Pair
   cs = readBack classes pool
 
-  module _ {chains : List ℕ} (x : Chained classes pool rows chains (length rows)) (k : Key) {z : Found} where
-    pub field-few : z ≡ rowAsked asked.Field cs k rows pool → notedRow z ≤ mostMembers
-    field-few e = go z refl
-      where
-        go : (y : Found) → z ≡ y → notedRow y ≤ mostMembers
-        go (Row i) f = let h = field-found cs k rows pool (sym e ∙ f) .0 in let g = x .few in omega arith
-        go Unknown f = omega arith
+  module _ {chains : List ℕ} (x : Chained classes pool rows chains (length rows)) where
+    noted-few : (z : Found) → ((i : ℕ) → z ≡ Row i → i < length rows) → notedRow z ≤ mostMembers
+    noted-few (Row i) found = let h = found i refl in let g = x .few in omega arith
+    noted-few Unknown found = omega arith
 
-    pub method-few : z ≡ rowAsked asked.Method cs k rows pool → notedRow z ≤ mostMembers
-    method-few e = go z refl
-      where
-        go : (y : Found) → z ≡ y → notedRow y ≤ mostMembers
-        go (Row i) f = let h = method-found cs k rows pool (sym e ∙ f) .0 in let g = x .few in omega arith
-        go Unknown f = omega arith
+    module _ (k : Key) {z : Found} where
+      pub field-few : z ≡ rowAsked asked.Field cs k rows pool → notedRow z ≤ mostMembers
+      field-few e = noted-few z (λ i f. field-found cs k rows pool (sym e ∙ f) .0)
+
+      pub method-few : z ≡ rowAsked asked.Method cs k rows pool → notedRow z ≤ mostMembers
+      method-few e = noted-few z (λ i f. method-found cs k rows pool (sym e ∙ f) .0)
 
   pub field-noted : (k : Key) {z : Found} → z ≡ rowAsked asked.Field cs k rows pool → {n : ℕ} → n ≡ notedRow z →
       note n true 0 ≡ fieldNote classes rows pool k
@@ -105,16 +102,9 @@ module _ (classes rows : List (List ℕ)) (pool : List ℕ) where
     named-is : n ≡ notedRow (methodRow cs k rows pool)
     named-is = f ∙ ap notedRow e
 
-    owns : List ℕ → Bool
-    owns r = ownerMatches cs k (entryBack pool r)
-
     noted : (i : Bool) (l : ℕ) → i ≡ not home → l ≡ pick home (notedRow (ownRow classes rows pool k)) 0 →
         note n i l ≡ methodNote classes rows pool k home
     noted i l p q = rw (named-is, p, q)
-
-    never : (b : Bool) → _≡_ {A = ℕ} (pick b 0 0) 0
-    never true = refl
-    never false = refl
 
     first-none : (a b : Found) → orRow a b ≡ Unknown → a ≡ Unknown
     first-none (Row i) b h = absurd (let y : _≡_ {A = ℕ} 0 1 = cc in omega arith)
@@ -124,7 +114,7 @@ module _ (classes rows : List (List ℕ)) (pool : List ℕ) where
     method-none h =
         let o : ownRow classes rows pool k ≡ Unknown =
         first-none (ownRow classes rows pool k) (lastMember (methodMatches cs k) rows pool) (sym e ∙ h) in
-        noted (not home) 0 refl (sym (ap (λ y. pick home (notedRow y) 0) o ∙ never home))
+        noted (not home) 0 refl (sym (ap (λ y. pick home (notedRow y) 0) o ∙ none-either home))
 
     pub method-away : not home ≡ true → note n true 0 ≡ methodNote classes rows pool k home
     method-away h = go home h (λ p q. noted true 0 p q)
@@ -221,12 +211,8 @@ module _ (classes rows : List (List ℕ)) (pool class owner name descriptor : Li
         field : fieldRow (readBack classes pool) k rows pool ≡ Unknown
         field = sym (asked-none classes rows pool owner name descriptor f asked.Field e)
 
-        never : (b : Bool) → _≡_ {A = ℕ} (pick b 0 0) 0
-        never true = refl
-        never false = refl
-
         go : (b : Bool) → opens descriptor ≡ b → note 0 (not (isHome class owner descriptor)) 0 ≡ memberNote classes rows pool class k
-        go true t = sym (rw (t, method, own) (ap (note 0 (not (same owner class))) (never (same owner class))))
+        go true t = sym (rw (t, method, own) (ap (note 0 (not (same owner class))) (none-either (same owner class))))
         go false t = sym (rw (t, field))
 
     module _ {i : ℕ} (e : o ≡ Row i) where

@@ -22,7 +22,7 @@ use Rattle.tree_rule.specs.Theorems.{FormedBy, NamesBelow}
 use Rattle.tree_rule.proofs.RowLaws.{list-length, list-at}
 use Rattle.tree_rule.proofs.Reading.{name-at}
 use Rattle.tree_rule.proofs.Present.{OwnerInside, PresentAt, present-told}
-use Rattle.tree_signature.proofs.TokenLaws.{row-inside, names-inside}
+use Rattle.tree_rule.proofs.Formed.{token-read, row-inside, names-inside}
 use Rattle.apply_rule.specs.Changes.{rawNameOf, rawNameAt, ownerName, signedBy, signedOf}
 use Rattle.apply_members.specs.declared.member.MemberNote.{MemberNote}
 use Rattle.apply_members.specs.declared.node.NodeNote.{NodeNote}
@@ -30,25 +30,22 @@ use Rattle.apply_members.specs.inner.Notes.{note, memberNote, tokenOwner
 
 -- The raw name of a token.
 module _ (c : TreeCounts) (f : List ℕ) (i : ℕ) {a : ℕ} (e : a ≡ tokensStart c) {t : Token} (g : t ≡ tokenRow f (a + 12 * i)) where
-  here : tokenAt c f i ≡ t
-  here = sym (g ∙ ap (λ x. tokenRow f (x + 12 * i)) e)
-
   abbrev name : ℕ → List ℕ
   name n = nameIn (treeBy c f) n
 
   module _ {x y : ℕ} where
     pub no-name-other : t ≡ Other x y → [] ≡ rawNameOf name (tokenAt c f i)
-    no-name-other h = ap (rawNameOf name) (sym (here ∙ h))
+    no-name-other h = ap (rawNameOf name) (sym (token-read c f i e g ∙ h))
 
     pub no-name-line : t ≡ SourceLine x y → [] ≡ rawNameOf name (tokenAt c f i)
-    no-name-line h = ap (rawNameOf name) (sym (here ∙ h))
+    no-name-line h = ap (rawNameOf name) (sym (token-read c f i e g ∙ h))
 
     module _ (k : FormedBy c f) (l : i < c .tokens) where
       below-member : t ≡ MemberName x y → NamesBelow (c .names) (MemberName x y)
-      below-member h = rw (here ∙ h) at (k .tokens i l)
+      below-member h = rw (token-read c f i e g ∙ h) at (k .tokens i l)
 
       below-descriptor : t ≡ Descriptor x y → NamesBelow (c .names) (Descriptor x y)
-      below-descriptor h = rw (here ∙ h) at (k .tokens i l)
+      below-descriptor h = rw (token-read c f i e g ∙ h) at (k .tokens i l)
 
       pub member-there : t ≡ MemberName x y → x < c .names
       member-there h = below-member h .0
@@ -62,10 +59,10 @@ module _ (c : TreeCounts) (f : List ℕ) (i : ℕ) {a : ℕ} (e : a ≡ tokensSt
 
       module _ {s : List ℕ} (w : s ≡ textAt c f x) where
         pub name-of-member : t ≡ MemberName x y → s ≡ rawNameOf name (tokenAt c f i)
-        name-of-member h = w ∙ sym (name-at c f x (below-member h .0)) ∙ ap (rawNameOf name) (sym (here ∙ h))
+        name-of-member h = w ∙ sym (name-at c f x (below-member h .0)) ∙ ap (rawNameOf name) (sym (token-read c f i e g ∙ h))
 
         pub name-of-descriptor : t ≡ Descriptor x y → s ≡ rawNameOf name (tokenAt c f i)
-        name-of-descriptor h = w ∙ sym (name-at c f x (below-descriptor h .0)) ∙ ap (rawNameOf name) (sym (here ∙ h))
+        name-of-descriptor h = w ∙ sym (name-at c f x (below-descriptor h .0)) ∙ ap (rawNameOf name) (sym (token-read c f i e g ∙ h))
 
 pub ruleset raw-naming =
     (no-name-other, no-name-line, member-there, descriptor-there, shown-there, name-of-member, name-of-descriptor, row-inside, names-inside, needs)

@@ -77,27 +77,19 @@ placed (suc (suc zero)) h x y = omega arith
 placed (suc (suc (suc zero))) h x y = omega arith
 placed (suc (suc (suc (suc k)))) h x y = absurd (omega arith)
 
+times-none : (b : Bool) → pick b 0 1 * 0 ≡ pick b 0 0
+times-none true = refl
+times-none false = refl
+
+times-one : (b : Bool) → pick b 0 1 * 1 ≡ pick b 0 1
+times-one true = refl
+times-one false = refl
+
 counted : (k : ℕ) → k ≤ 3 → (n : ℕ) → pick (eqb n 0) 0 1 * getD kindAdding k 0 ≡ addedNote k n
-counted zero h n = go (eqb n 0)
-  where
-    go : (b : Bool) → pick b 0 1 * 0 ≡ pick b 0 0
-    go true = refl
-    go false = refl
-counted (suc zero) h n = go (eqb n 0)
-  where
-    go : (b : Bool) → pick b 0 1 * 1 ≡ pick b 0 1
-    go true = refl
-    go false = refl
-counted (suc (suc zero)) h n = go (eqb n 0)
-  where
-    go : (b : Bool) → pick b 0 1 * 1 ≡ pick b 0 1
-    go true = refl
-    go false = refl
-counted (suc (suc (suc zero))) h n = go (eqb n 0)
-  where
-    go : (b : Bool) → pick b 0 1 * 0 ≡ pick b 0 0
-    go true = refl
-    go false = refl
+counted zero h n = times-none (eqb n 0)
+counted (suc zero) h n = times-one (eqb n 0)
+counted (suc (suc zero)) h n = times-one (eqb n 0)
+counted (suc (suc (suc zero))) h n = times-none (eqb n 0)
 counted (suc (suc (suc (suc k)))) h n = absurd (omega arith)
 
 -- A token, by the tables.

@@ -14,6 +14,7 @@ use Rattle.tree_rule.specs.declared.Token.the-variants.{Other, MemberName, Desc
 use Rattle.tree_rule.specs.Words.{wordAt}
 use Rattle.tree_rule.specs.Files.{tokensStart, namesStart, fileLength, tokenRow, tokenAt}
 use Rattle.tree_rule.specs.Theorems.{FormedBy, NamesBelow}
+use Rattle.tree_rule.proofs.Formed.{row-inside}
 use Rattle.apply_output.specs.declared.plan.Plan.{Plan}
 use Rattle.apply_output.specs.declared.plan.Plan.the-variants.{Stays, Line, Member, Shown}
 use Rattle.apply_output.specs.inner.Plan.{memberPlan, noted, namePlan, planBy, planAt, added, addedBelow}
@@ -51,9 +52,6 @@ pub ruleset name-plans = (name-inside, no-note, some-note, needs)
 module _ (c : TreeCounts) (f out : List ℕ) (i : ℕ) {s : ℕ} (e : s ≡ tokensStart c) where
   pub token-inside : fileLength c ≤ length out → i < c .tokens → s + 12 * i + 8 + 4 ≤ length out
   token-inside h l = omega arith
-
-  pub row-inside : FormedBy c f → i < c .tokens → s + 12 * i + 12 ≤ length f
-  row-inside k l = omega (arith, k .size)
 
   module _ {w : ℕ} (g : w ≡ wordAt out (s + 12 * i + 8)) {t : Token} (h : t ≡ tokenRow f (s + 12 * i)) where
     there : planBy c out w t ≡ planAt c f out i

@@ -12,6 +12,7 @@ use borrow.Author.Tests.{eq-eqb, ne-eqb, eqb-true, eqb-false}
 use Rattle.ground.specs.Choice.{pick}
 use Rattle.ground.specs.Join.{join}
 use Rattle.ground.specs.Put.{put}
+use Rattle.ground.proofs.Cases.{none-either}
 use Rattle.ground.proofs.PutLaws.{length-put, put-nothing}
 use Rattle.tree_rule.specs.declared.TreeCounts.{TreeCounts}
 use Rattle.tree_rule.specs.declared.Token.{Token}
@@ -19,14 +20,14 @@ use Rattle.tree_rule.specs.declared.Token.the-variants.{Other, MemberName, Desc
 use Rattle.tree_rule.specs.Words.{wordAt, wordBytes}
 use Rattle.tree_rule.specs.Files.{tokensStart, namesStart, bytesStart, fileLength, tokenRow}
 use Rattle.tree_rule.specs.Theorems.{FormedBy, NamesBelow}
+use Rattle.tree_rule.proofs.Formed.{row-inside}
 use Rattle.apply_output.specs.declared.plan.Plan.{Plan}
 use Rattle.apply_output.specs.declared.plan.Plan.the-variants.{Stays, Line, Member, Shown}
 use Rattle.apply_output.specs.inner.Plan.{memberPlan, noted, planBy, planAt, added, namesBy, bodyBy, displayBy, rowBy, nameRowBy}
 use Rattle.apply_output.specs.inner.Quiet.{notePlace, addedNote, plainShown, plainRow}
 use Rattle.apply_output.specs.inner.Turn.{TurnReady, rowOut, Turned}
 use Rattle.apply_output.proofs.Rowing.{three-put}
-use Rattle.apply_output.proofs.Turning.{row-length}
-use Rattle.apply_output.proofs.Planning.{row-inside}
+use Rattle.apply_output.proofs.Turning.{row-length, turn-row-inside, turn-row-room}
 
 -- Where a note stands.
 module _ (c : TreeCounts) (f : List ℕ) (at : ℕ) {k : ℕ} (e : k ≡ wordAt f at) where
@@ -64,10 +65,6 @@ member-added (suc n) = rw (ne-eqb (suc n) 0 (λ e. omega arith))
 name-added : (name n row : ℕ) → pick (eqb n 0) 0 1 ≡ added (noted name n row)
 name-added name zero row = refl
 name-added name (suc n) row = rw (ne-eqb (suc n) 0 (λ e. omega arith))
-
-nothing-added : (t : Bool) → _≡_ {A = ℕ} (pick t 0 0) 0
-nothing-added true = refl
-nothing-added false = refl
 
 -- The kinds of a token, told apart.
 module _ (c : TreeCounts) (f out : List ℕ) (i : ℕ) where
@@ -122,10 +119,10 @@ module _ (c : TreeCounts) (f out : List ℕ) (i : ℕ) where
           rw (there, e, g) (name-added raw (wordAt out (namesStart c + 8 * raw)) (wordAt out (namesStart c + 8 * raw + 4)))
           ∙ sym (ap added (plan-of (Descriptor raw (wordAt f (at + 8))) (is-descriptor two)))
       go false e false g true h =
-          rw (e, g) (nothing-added (eqb (wordAt out (at + 8)) 0))
+          rw (e, g) (none-either (eqb (wordAt out (at + 8)) 0))
           ∙ sym (ap added (plan-of (SourceLine raw (wordAt f (at + 8))) (is-line (eqb-true kind 3 h))))
       go false e false g false h =
-          rw (e, g) (nothing-added (eqb (wordAt out (at + 8)) 0))
+          rw (e, g) (none-either (eqb (wordAt out (at + 8)) 0))
           ∙ sym (ap added (plan-of (Other raw (wordAt f (at + 8)))
           (is-other (eqb-false kind 1 e) (eqb-false kind 2 g) (eqb-false kind 3 h))))
 
@@ -243,12 +240,6 @@ module _
     {index : List ℕ} {classes rows : List (List ℕ)} {pool : List ℕ} {c : TreeCounts} {f : List ℕ} {bytes token names «end» : ℕ}
     {out : List ℕ} (k : TurnReady index classes rows pool c f bytes token names «end» out)
     {s : ℕ} (e : s ≡ tokensStart c) where
-  pub quiet-inside : s + 12 * token + 12 ≤ length f
-  quiet-inside = omega (arith, k .formed .size, k .inside)
-
-  pub quiet-room : s + 12 * token + 12 ≤ length out
-  quiet-room = omega (arith, k .long, k .inside)
-
   module _
       {n : ℕ} (g : n ≡ added (planAt c f out token)) (h : n ≡ 0) {out₁ : List ℕ}
       (i : out₁ ≡ put out (s + 12 * token) (plainRow f out (s + 12 * token))) where
@@ -264,7 +255,7 @@ module _
     row-size : length out₁ ≡ length out
     row-size =
         let m = row-length p (c .names + names) f (tokensStart c + 12 * token) in
-        let room = quiet-room in
+        let room = turn-row-room k e in
         ap length row-put
         ∙ length-put out (tokensStart c + 12 * token) (rowBy p (c .names + names) f (tokensStart c + 12 * token)) (omega arith)
 
@@ -283,4 +274,4 @@ module _
           };
         }
 
-pub ruleset quiet-turns = (quiet-inside, quiet-room, quiet-turned, needs)
+pub ruleset quiet-turns = (turn-row-inside, turn-row-room, quiet-turned, needs)

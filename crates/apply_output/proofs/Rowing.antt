@@ -16,6 +16,7 @@ use Rattle.tree_rule.specs.declared.TreeCounts.{TreeCounts}
 use Rattle.tree_rule.specs.Words.{wordAt, wordBytes}
 use Rattle.tree_rule.specs.Files.{threeWords, nameRowBytes, countBytes}
 use Rattle.tree_rule.proofs.WordLaws.{bytes-length}
+use Rattle.tree_rule.proofs.ReadWritten.{two-length}
 use Rattle.apply_output.specs.declared.plan.Plan.{Plan}
 use Rattle.apply_output.specs.declared.plan.Plan.the-variants.{Stays, Line, Member, Shown}
 use Rattle.apply_output.specs.inner.Plan.{added, displayBy, rowBy, nameRowBy}
@@ -47,14 +48,11 @@ word-more d at a x n e h = rw (← e) (put-put d at a (wordBytes x) (omega arith
 
 -- The row of a token.
 module _ (d : List ℕ) (at : ℕ) (h : at + 12 ≤ length d) (x y z : ℕ) where
-  two-words : length (wordBytes x ++ wordBytes y) ≡ 8
-  two-words = length-append (wordBytes x) (wordBytes y) ∙ rw (bytes-length x, bytes-length y)
-
   pub three-put : put (put (put d at (wordBytes x)) (at + 4) (wordBytes y)) (at + 8) (wordBytes z) ≡ put d at (threeWords x y z)
   three-put =
       rw (
         word-more d at (wordBytes x) y 4 (bytes-length x) (omega arith),
-        word-more d at (wordBytes x ++ wordBytes y) z 8 two-words (omega arith),
+        word-more d at (wordBytes x ++ wordBytes y) z 8 (two-length x y) (omega arith),
         append-assoc (wordBytes x) (wordBytes y) (wordBytes z),
       )
 

@@ -6,18 +6,18 @@ use Prim.Native.Nat.{ℕ, suc, _+_, _-_, _^_, _≤_, _<_}
 use native.Mathlib.Omega.{arith}
 use lib.Dec.{eqb}
 use lib.ListN.{length, getD, take, drop, length-drop}
-use lib.Seq.{drop-cons, drop-drop, take-add, length-take-le}
+use lib.Seq.{drop-cons, drop-drop, length-take-le}
 use mir.Val.{Fits}
 use mir.Syntax.{w64}
 use borrow.Author.Needs.{needs}
 use Rattle.ground.specs.Choice.{either}
 use Rattle.ground.specs.Look.{Look, known, unknown, isKnown, lookOr, orLook}
 use Rattle.ground.specs.Put.{between}
-use Rattle.ground.proofs.Parts.{take-rest}
+use Rattle.ground.proofs.Parts.{parts-join}
 use Rattle.text_places.specs.declared.find.Place.{Place}
 use Rattle.text_places.specs.declared.find.Place.the-variants as places
 use Rattle.text_places.specs.Places.{firstWhere, starts, same}
-use Rattle.text_places.proofs.PlaceLaws.{first-inside, same-equal}
+use Rattle.text_places.proofs.PlaceLaws.{same-equal, from-here, from-inside}
 use Rattle.text_places.proofs.Holds.{first-holds}
 use Rattle.table_rows.specs.Classes.{shown}
 use Rattle.tables.specs.declared.search.Found.{Found}
@@ -34,26 +34,11 @@ use Rattle.apply_pieces.specs.declared.known.NextPiece.{NextPiece}
 use Rattle.apply_pieces.specs.declared.known.NextPiece.the-variants as pieces
 use Rattle.apply_pieces.specs.inner.Known.{PieceAt, PieceBy, rawOf, displayOf, oneKnown, allShown, KnownAt}
 
--- a part, and the one that follows it
-pub parts-join : (s : List ℕ) (a b c : ℕ) → a ≤ b → b ≤ c → between s a b ++ between s b c ≡ between s a c
-parts-join s a b c h k =
-    let whole : c - a ≡ (b - a) + (c - b) = omega arith in
-    let there : a + (b - a) ≡ b = omega arith in
-    sym (rw whole (take-add (b - a) (c - b) (drop a s) ∙ rw (drop-drop (b - a) a s, there)))
-
--- A byte that is looked for from a place on.
-module _
-    (b : ℕ) (text : List ℕ) (at : ℕ) (i : at ≤ length text) {p : Place}
-    (e : p ≡ firstWhere (starts b) (between text at (length text))) where
-  from-here : p ≡ firstWhere (starts b) (drop at text)
-  from-here = rw (take-rest text at) at e
-
-  module _ {n : ℕ} (f : p ≡ places.At n) where
-    reach : at + n < length text
-    reach = let j = first-inside (starts b) (drop at text) (sym from-here ∙ f) in omega (arith, length-drop at text)
-
-    byte-there : starts b (drop (at + n) text) ≡ true
-    byte-there = ap (starts b) (sym (drop-drop n at text)) ∙ first-holds (starts b) (drop at text) (sym from-here ∙ f)
+-- A byte that is looked for from a place on stands there.
+byte-there : (b : ℕ) (text : List ℕ) (at : ℕ) {p : Place} → p ≡ firstWhere (starts b) (between text at (length text)) →
+    {n : ℕ} → p ≡ places.At n → starts b (drop (at + n) text) ≡ true
+byte-there b text at e {n} f =
+    ap (starts b) (sym (drop-drop n at text)) ∙ first-holds (starts b) (drop at text) (sym (from-here b text at e) ∙ f)
 
 -- an `L` at a place, with a `;` at a distance, and with none
 module _ (look : List ℕ → Look) (text : List ℕ) (start : ℕ) (h : start < length text) (l : starts 0x4C (drop start text) ≡ true) where
@@ -80,11 +65,11 @@ module _
     (text : List ℕ) («from» : ℕ) (i : «from» ≤ length text) {p : Place}
     (e : p ≡ firstWhere (starts 0x4C) (between text «from» (length text))) where
   pub piece-no-l : p ≡ places.Nowhere → (look : List ℕ → Look) → pieceKnown look (partsFrom [] (drop «from» text)) ≡ false
-  piece-no-l f look = unknown-without-l look (drop «from» text) (sym (from-here 0x4C text «from» i e) ∙ f)
+  piece-no-l f look = unknown-without-l look (drop «from» text) (sym (from-here 0x4C text «from» e) ∙ f)
 
   module _ {n : ℕ} (f : p ≡ places.At n) where
     at-l : «from» + n < length text
-    at-l = reach 0x4C text «from» i e f
+    at-l = from-inside 0x4C text «from» i e f
 
     pub l-fits : length text < 2 ^ 64 → Fits w64 («from» + n)
     l-fits z = let a = at-l in omega arith
@@ -93,10 +78,10 @@ module _
     l-inside = let a = at-l in omega arith
 
     first-l : firstWhere (starts 0x4C) (drop «from» text) ≡ places.At n
-    first-l = sym (from-here 0x4C text «from» i e) ∙ f
+    first-l = sym (from-here 0x4C text «from» e) ∙ f
 
     is-there : starts 0x4C (drop («from» + n) text) ≡ true
-    is-there = byte-there 0x4C text «from» i e f
+    is-there = byte-there 0x4C text «from» e f
 
     plain : (look : List ℕ → Look) →
         turn look (drop «from» text) ≡ between text «from» («from» + n) ++ turn look (drop («from» + n) text)
@@ -108,11 +93,11 @@ module _
       pub piece-unclosed : q ≡ places.Nowhere → (look : List ℕ → Look) → pieceKnown look (partsFrom [] (drop «from» text)) ≡ false
       piece-unclosed h look =
           known-past-plain look (drop «from» text) first-l ∙ ap (λ l. pieceKnown look (partsFrom [] l)) (drop-drop n «from» text)
-          ∙ unclosed look text («from» + n) at-l is-there (sym (from-here 0x3B text («from» + n) l-inside g) ∙ h)
+          ∙ unclosed look text («from» + n) at-l is-there (sym (from-here 0x3B text («from» + n) g) ∙ h)
 
       module _ {m : ℕ} (h : q ≡ places.At m) where
         at-end : «from» + n + m < length text
-        at-end = reach 0x3B text («from» + n) l-inside g h
+        at-end = from-inside 0x3B text («from» + n) l-inside g h
 
         pub end-fits : length text < 2 ^ 64 → Fits w64 («from» + n + m)
         end-fits z = let a = at-end in omega arith
@@ -121,7 +106,7 @@ module _
         past-fits z = let a = at-end in omega arith
 
         closes : firstWhere (starts 0x3B) (drop («from» + n) text) ≡ places.At m
-        closes = sym (from-here 0x3B text («from» + n) l-inside g) ∙ h
+        closes = sym (from-here 0x3B text («from» + n) g) ∙ h
 
         here : take (m + 1) (drop («from» + n) text) ≡ between text («from» + n) («from» + n + m + 1)
         here = let z : «from» + n + m + 1 - («from» + n) ≡ m + 1 = omega arith in rw z

@@ -13,7 +13,7 @@ use Rattle.ground.specs.Join.{join}
 use Rattle.ground.specs.Look.{Look}
 use Rattle.ground.specs.Put.{between}
 use Rattle.ground.proofs.Cases.{le-or-lt}
-use Rattle.ground.proofs.Parts.{drop-take}
+use Rattle.ground.proofs.Parts.{drop-take, parts-join}
 use Rattle.text_places.specs.declared.find.Place.the-variants.{At, Nowhere}
 use Rattle.text_places.specs.Places.{firstFrom, firstWhere, starts}
 use Rattle.text_places.specs.inner.Blocks.{Without}
@@ -29,7 +29,7 @@ use Rattle.apply_pieces.specs.declared.known.NextPiece.the-variants as p
 use Rattle.apply_pieces.specs.inner.Known.{PieceAt, rawOf, oneKnown, allShown, KnownAt}
 use Rattle.apply_pieces.specs.inner.Within.{FirstAt}
 use Rattle.apply_pieces.specs.inner.Sought.{NeverKnown, FirstKnown, SoughtSays}
-use Rattle.apply_pieces.proofs.Knowing.{parts-join, unclosed, closed-known, closed-turns}
+use Rattle.apply_pieces.proofs.Knowing.{unclosed, closed-known, closed-turns}
 use Rattle.apply_pieces.proofs.Knowing.{Unknowing, unknowing-starts, seek-on, piece-long, seek-found}
 use Rattle.apply_pieces.proofs.Cuts.{found-none, found-first, without-cut, without-up-to, first-cut}
 

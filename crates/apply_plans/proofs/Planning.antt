@@ -13,7 +13,7 @@ use borrow.Author.Needs.{needs}
 use borrow.Author.Tests.{eqb-true, eq-eqb, ne-eqb}
 use Rattle.ground.specs.Choice.{pick}
 use Rattle.ground.specs.Put.{put}
-use Rattle.ground.proofs.Cases.{clash, le-or-lt}
+use Rattle.ground.proofs.Cases.{clash, le-or-lt, none-either}
 use Rattle.ground.proofs.PutLaws.{length-put}
 use Rattle.tree_rule.specs.declared.TreeCounts.{TreeCounts}
 use Rattle.tree_rule.specs.Words.{wordAt, wordBytes}
@@ -82,14 +82,10 @@ module _ (c : TreeCounts) (f : List ℕ) (node first count : ℕ) (note : NodeNo
           earlier = λ t h. beyond-row (shownAt c t) (omega arith);
           here = λ i h. beyond-row (shownAt c (first + i)) (omega arith)
               ∙ k .blank (first + i) (omega arith) (omega (arith, k .tokens))
-              ∙ sym (ap (λ n. pick (eqb (first + i) (note .member)) n 0) e ∙ never (eqb (first + i) (note .member)));
+              ∙ sym (ap (λ n. pick (eqb (first + i) (note .member)) n 0) e ∙ none-either (eqb (first + i) (note .member)));
           behind = drop-put old (nodesStart + 8 * node) (wordBytes w) context-fits (tokensStart c + 12 * (first + count))
               (omega (arith, bytes-length w, k .there));
         }
-      where
-        never : (b : Bool) → _≡_ {A = ℕ} (pick b 0 0) 0
-        never true = refl
-        never false = refl
 
     module _ (some : 0 < note .named) where
       inside : (first ≤ note .member) × (note .member < first + count)

@@ -3,7 +3,7 @@ use mathlib.Core.Path.{_≡_, refl, sym, _∙_, ap}
 use mathlib.Core.Bool.{Bool, true, false}
 use mathlib.Core.List.{List}
 use mathlib.Core.Logic.{_⊎_, inl, inr}
-use Prim.Native.Nat.{ℕ, zero, suc, _+_, _*_, _-_, _^_, _≤_, _<_}
+use Prim.Native.Nat.{ℕ, _+_, _*_, _-_, _^_, _≤_, _<_}
 use native.Mathlib.Omega.{arith}
 use lib.Dec.{eqb}
 use lib.ListN.{length, drop}
@@ -14,7 +14,7 @@ use borrow.Author.Needs.{needs}
 use borrow.Author.Tests.{eq-eqb, ne-eqb}
 use Rattle.ground.specs.Choice.{pick}
 use Rattle.ground.specs.Put.{put}
-use Rattle.ground.proofs.Cases.{clash, le-or-lt}
+use Rattle.ground.proofs.Cases.{clash, le-or-lt, some}
 use Rattle.ground.proofs.PutLaws.{length-put}
 use Rattle.tree_rule.specs.declared.TreeCounts.{TreeCounts}
 use Rattle.tree_rule.specs.declared.Token.the-variants.{Other, MemberName, Descriptor, SourceLine}
@@ -32,10 +32,6 @@ module _ (c : TreeCounts) (member named : ℕ) (out : List ℕ) where
   member-none e = sym (rw (eq-eqb named 0 e))
 
   module _ (h : named ≡ 0 → ⊥) where
-    some : (n : ℕ) → (n ≡ 0 → ⊥) → 0 < n
-    some zero k = absurd (k refl)
-    some (suc n) k = omega arith
-
     pub member-put : {a : ℕ} → a ≡ tokensStart c → {new : List ℕ} → new ≡ put out (a + 12 * member + 8) (wordBytes named) →
         new ≡ memberPut c member named out
     member-put e g = g ∙ ap (λ x. put out (x + 12 * member + 8) (wordBytes named)) e ∙ sym (rw (ne-eqb named 0 h))

@@ -9,7 +9,7 @@ use lib.ListN.{length, getD}
 use borrow.Author.Tests.{eqb-true, eq-eqb, ne-eqb}
 use Rattle.ground.specs.Choice.{pick}
 use Rattle.ground.specs.Look.{Look, known, unknown}
-use Rattle.ground.proofs.Cases.{clash}
+use Rattle.ground.proofs.Cases.{clash, none-either}
 use Rattle.table_rows.specs.Rows.{unpackMember}
 use Rattle.tables.specs.declared.search.Found.{Found}
 use Rattle.tables.specs.declared.search.Found.the-variants.{Row, Unknown}
@@ -79,11 +79,7 @@ module _ (classes rows : List (List ℕ)) (pool class : List ℕ) (name : ℕ �
 
   member-plan : (first k : ℕ) (s : Signed) (raw display : ℕ) {note : NodeNote} → note ≡ noteSigned classes rows pool class first s →
       Plans (MemberName raw display) (pick (eqb (first + k) (note .member)) (note .named) 0) (memberChange (mappingIn classes rows pool) s k)
-  member-plan first k unsigned raw display e = rw e (rw (never (eqb (first + k) (0 + 0))) refl)
-    where
-      never : (b : Bool) → _≡_ {A = ℕ} (pick b 0 0) 0
-      never true = refl
-      never false = refl
+  member-plan first k unsigned raw display e = rw e (rw (none-either (eqb (first + k) (0 + 0))) refl)
   member-plan first k (signed at key) raw display e = rw (e, same-place first k at) (go (eqb k at))
     where
       go : (b : Bool) → Plans (MemberName raw display) (pick b (memberNote classes rows pool class key .named) 0)

@@ -13,7 +13,7 @@ use Rattle.name_members.specs.declared.names.MemberName.the-variants as name
 use Rattle.name_members.specs.declared.names.MemberLine.{MemberLine}
 use Rattle.name_members.specs.declared.names.MemberLine.the-variants as line
 use Rattle.name_members.specs.MemberAnswers.{fieldAnswer, methodAnswer, lineAnswer, nameNumbers, lineNumbers}
-use Rattle.capi.specs.Answers.{usedBy}
+use Rattle.tables.specs.Check.{usedBy}
 
 module _ {r : MemberName} where
   pub name-found : {i p n : ℕ} → r ≡ name.Found i p n → 0 ∷ 1 ∷ i ∷ p ∷ n ∷ [] ≡ nameNumbers r

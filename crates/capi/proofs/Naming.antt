@@ -8,7 +8,8 @@ use Rattle.tables.specs.declared.check.Used.{Used}
 use Rattle.name_classes.specs.declared.classes.ClassName.{ClassName}
 use Rattle.name_classes.specs.declared.classes.ClassName.the-variants.{Found, Unknown, Malformed}
 use Rattle.name_classes.specs.ClassNames.{displayOfClass, rawOfClass, classNameNumbers}
-use Rattle.capi.specs.Answers.{usedBy, mappedNumbers}
+use Rattle.tables.specs.Check.{usedBy}
+use Rattle.capi.specs.Answers.{mappedNumbers}
 
 module _ {r : ClassName} where
   pub found-numbers : {p n : ℕ} → r ≡ Found p n → 0 ∷ 1 ∷ p ∷ n ∷ [] ≡ classNameNumbers r

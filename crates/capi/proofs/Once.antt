@@ -12,7 +12,8 @@ use Rattle.name_rule.specs.MemberNames.{Key}
 use Rattle.name_classes.specs.ClassNames.{displayOfClass, displayNumbers, rawNumbers}
 use Rattle.name_members.specs.MemberAnswers.{fieldNameNumbers, methodNameNumbers, lineNumbersOf}
 use Rattle.apply_rule.specs.Applying.{applyOutput, applyNumbers}
-use Rattle.capi.specs.Answers.{usedBy, answerNumbers, mappedNumbers}
+use Rattle.tables.specs.Check.{usedBy}
+use Rattle.capi.specs.Answers.{answerNumbers, mappedNumbers}
 
 -- the answer in numbers, and the tables that were lent
 abbrev LoadOutcome : Type 0

@@ -8,7 +8,7 @@ use Rattle.tables.specs.declared.check.Used.{Used}
 use Rattle.apply_rule.specs.declared.Applied.{Applied}
 use Rattle.apply_rule.specs.declared.Applied.the-variants.{Done, Malformed, TooLong, BadTree, NoRoom}
 use Rattle.apply_rule.specs.Applying.{applyAnswer, applyOutput, appliedNumbers}
-use Rattle.capi.specs.Answers.{usedBy}
+use Rattle.tables.specs.Check.{usedBy}
 
 module _ {r : Applied} where
   pub applied-done : {n : ℕ} → r ≡ Done n → 0 ∷ n ∷ [] ≡ appliedNumbers r

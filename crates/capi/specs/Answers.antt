@@ -1,10 +1,9 @@
 -- Answers as numbers.
 use mathlib.Core.List.{List, [], _∷_, _++_}
 use Prim.Native.Nat.{ℕ}
-use lib.ListN.{getD, replicate}
+use lib.ListN.{replicate}
 use Rattle.load_rule.specs.declared.Load.{Load}
 use Rattle.load_rule.specs.Loading.{refusal, loadNumbers}
-use Rattle.tables.specs.declared.check.Used.{Used}
 use Rattle.name_classes.specs.declared.classes.ClassName.{ClassName}
 use Rattle.name_classes.specs.declared.classes.ClassName.the-variants.{Found, Unknown, Malformed}
 
@@ -14,10 +13,6 @@ answerNumbers r = loadNumbers r ++ replicate 12 0
 
 abbrev pub refusalNumbers : ℕ → ℕ → ℕ → List ℕ
 refusalNumbers number place len = refusal number place len ++ replicate 12 0
-
--- "class rows, member rows, pool bytes"
-abbrev pub usedBy : List ℕ → Used
-usedBy n = record { classes = getD n 0 0; members = getD n 1 0; pool = getD n 2 0 }
 
 -- "1 out of the pool or 0 the caller's own, place, length"
 abbrev pub mappedNumbers : ClassName → List ℕ

@@ -1,14 +1,14 @@
 // Applying a mapping to a tree file.
-use crate::names::used_of;
 use apply::apply_to_smali;
 use apply_rule::Applied;
 use table_rows::ClassRow;
 use table_rows::MemberRow;
+use tables::used_of;
 ghost use mathlib.Core.Path.{_≡_};
 ghost use lib.ListN.{length};
 ghost use Rattle.table_rows.specs.Tables.{tables};
 ghost use Rattle.apply_rule.specs.Applying.{applyOutput, appliedNumbers, applyNumbers};
-ghost use Rattle.capi.specs.Answers.{usedBy};
+ghost use Rattle.tables.specs.Check.{usedBy};
 
 fn applied_numbers(applied: Applied) -> [u32; 2]
     ensures { λ r. ⌜ r ≡ appliedNumbers applied ⌝ }

@@ -1,5 +1,4 @@
 // Names and lines of members.
-use crate::names::used_of;
 use name_lines::RawLine;
 use name_members::MemberLine;
 use name_members::MemberName;
@@ -8,12 +7,13 @@ use name_members::display_line;
 use name_members::display_method_name;
 use table_rows::ClassRow;
 use table_rows::MemberRow;
+use tables::used_of;
 ghost use mathlib.Core.Path.{_≡_};
 ghost use Rattle.table_rows.specs.Tables.{tables};
 ghost use Rattle.name_lines.specs.LineNames.{rawLine};
 ghost use Rattle.name_rule.specs.MemberNames.{key};
 ghost use Rattle.name_members.specs.MemberAnswers.{nameNumbers, lineNumbers, fieldNameNumbers, methodNameNumbers, lineNumbersOf};
-ghost use Rattle.capi.specs.Answers.{usedBy};
+ghost use Rattle.tables.specs.Check.{usedBy};
 
 fn name_numbers(name: MemberName) -> [u32; 5]
     ensures { λ r. ⌜ r ≡ nameNumbers name ⌝ }

@@ -4,22 +4,12 @@ use name_classes::display_class_name;
 use name_classes::raw_class_name;
 use table_rows::ClassRow;
 use table_rows::MemberRow;
-use tables::Used;
+use tables::used_of;
 ghost use mathlib.Core.Path.{_≡_};
 ghost use Rattle.table_rows.specs.Tables.{tables};
 ghost use Rattle.name_classes.specs.ClassNames.{displayOfClass, classNameNumbers, displayNumbers, rawNumbers};
-ghost use Rattle.capi.specs.Answers.{usedBy, mappedNumbers};
-
-// How much is used, as C says it.
-pub fn used_of(used: [u32; 3]) -> Used
-    ensures { λ r. ⌜ r ≡ usedBy used ⌝ }
-{
-    Used {
-        classes: used[0],
-        members: used[1],
-        pool: used[2],
-    }
-}
+ghost use Rattle.tables.specs.Check.{usedBy};
+ghost use Rattle.capi.specs.Answers.{mappedNumbers};
 
 fn class_numbers(name: ClassName) -> [u32; 4]
     ensures { λ r. ⌜ r ≡ classNameNumbers name ⌝ }

@@ -32,14 +32,11 @@ use Rattle.table_pool.proofs.Writes.{wrote-then}
 pub ruleset letters = (cases, needs)
 
 -- Whether a raw type is kept.
-module _ (s : List ℕ) where
-  pub raw-empty : length s ≡ 0 → false ≡ rawKept s
-  raw-empty h = go s h
-    where
-      go : (l : List ℕ) → length l ≡ 0 → false ≡ rawKept l
-      go [] e = refl
-      go (x ∷ l) e = absurd (omega arith)
+pub raw-empty : (s : List ℕ) → length s ≡ 0 → false ≡ rawKept s
+raw-empty [] e = refl
+raw-empty (x ∷ l) e = absurd (omega arith)
 
+module _ (s : List ℕ) where
   module _ (n : length s ≡ 0 → ⊥) where
     pub raw-bracket : getD s 0 0 ≡ 0x5B → true ≡ rawKept s
     raw-bracket h = go s n h
@@ -189,22 +186,19 @@ module _ (d : List ℕ) (at «end» : ℕ) (i : at ≤ «end») (h : «end» ≤
     signature-open g = rw (whole g) kept-written
 
     module _ {close : ℕ} (g : p ≡ At close) where
-      inside : at + close + 1 ≤ «end»
-      inside = let n = between-length d at «end» h in let j = last-inside (starts 0x29) (between d at «end») (sym f ∙ g) in omega arith
-
       pub signature-after : at + close + 1 ≤ «end»
-      signature-after = inside
+      signature-after = let n = between-length d at «end» h in let j = last-inside (starts 0x29) (between d at «end») (sym f ∙ g) in omega arith
 
       pub signature-fits : length d < 2 ^ 64 → Fits w64 (at + close + 1)
-      signature-fits z = let j = inside in omega arith
+      signature-fits z = let j = signature-after in omega arith
 
       pub signature-fits-close : length d < 2 ^ 64 → Fits w64 (at + close)
-      signature-fits-close z = let j = inside in omega arith
+      signature-fits-close z = let j = signature-after in omega arith
 
       -- the arguments stay, and what follows is a type
       pub signature-method : (r : Wrote) (d₁ : List ℕ) → WroteBy r d (at + close + 1) (rawType (between d (at + close + 1) «end»)) d₁ → WroteBy r d at (rawSignature m (between d at «end»)) d₁
       signature-method r d₁ w =
-          let j = inside in
+          let j = signature-after in
           let front : take (close + 1) (between d at «end») ≡ take (close + 1) (drop at d) = take-take (close + 1) («end» - at) (drop at d) (omega arith) in
           let n : length (take (close + 1) (drop at d)) ≡ close + 1 = length-take-le (close + 1) (drop at d) (omega (arith, length-drop at d)) in
           let kept : Written (at + close + 1) d at (take (close + 1) (between d at «end»)) d =

@@ -15,7 +15,7 @@ use Rattle.ground.specs.Choice.{pick, both}
 use Rattle.text_places.specs.Places.{same}
 use Rattle.text_places.specs.declared.spans.Span.{Span}
 use Rattle.text_white.specs.Trim.{trimBoth}
-use Rattle.text_white.proofs.TrimLaws.{trim-inside, trim-order}
+use Rattle.text_white.proofs.TrimLaws.{trim-inside, trim-order, trimmed-order, trimmed-inside}
 use Rattle.descriptor.specs.declared.types.Stripped.{Stripped}
 use Rattle.descriptor.specs.declared.types.Base.{Base}
 use Rattle.descriptor.specs.declared.types.Base.the-variants.{Letter, Kept, Named}
@@ -85,14 +85,11 @@ module _ (s : List ℕ) where
 pub ruleset words = (word-void, word-boolean, word-byte, word-char, word-short, word-int, word-long, word-float, word-double, word-none, needs)
 
 -- `L..;`
-module _ (s : List ℕ) where
-  pub kept-empty : length s ≡ 0 → false ≡ keptText s
-  kept-empty e = go s e
-    where
-      go : (l : List ℕ) → length l ≡ 0 → false ≡ keptText l
-      go [] h = refl
-      go (x ∷ l) h = absurd (omega arith)
+pub kept-empty : (s : List ℕ) → length s ≡ 0 → false ≡ keptText s
+kept-empty [] h = refl
+kept-empty (x ∷ l) h = absurd (omega arith)
 
+module _ (s : List ℕ) where
   module _ (n : length s ≡ 0 → ⊥) where
     pub kept-last : length s - 1 < length s
     kept-last = omega arith
@@ -222,12 +219,6 @@ base-le s (suc (suc e)) = go (bracketsAt s e) (base-le s e)
     go false h = omega arith
 
 module _ (s : List ℕ) {p : Span} (e : p ≡ trimBoth s) where
-  pub shape-order : p .start ≤ p .«end»
-  shape-order = rw e (trim-order s)
-
-  pub shape-inside : p .«end» ≤ length s
-  shape-inside = rw e (trim-inside s)
-
   module _ {c : Stripped} (f : c ≡ strippedOf (between s (p .start) (p .«end»))) where
     cut-end : c .«end» ≡ baseEnd (between s (p .start) (p .«end»)) (length (between s (p .start) (p .«end»)))
     cut-end = ap (λ x. x .«end») f
@@ -236,17 +227,17 @@ module _ (s : List ℕ) {p : Span} (e : p ≡ trimBoth s) where
     cut-inside =
         let a = base-le (between s (p .start) (p .«end»)) (length (between s (p .start) (p .«end»))) in
         let b = length-take (p .«end» - p .start) (drop (p .start) s) in
-        let o = shape-order in
+        let o = trimmed-order s e in
         omega (arith, cut-end)
 
     pub base-fits : length s < 2 ^ 64 → Fits w64 (p .start + c .«end»)
-    base-fits b = let i = cut-inside in let w = shape-inside in omega arith
+    base-fits b = let i = cut-inside in let w = trimmed-inside s e in omega arith
 
     pub base-order : p .start ≤ p .start + c .«end»
     base-order = omega arith
 
     pub base-inside : p .start + c .«end» ≤ length s
-    base-inside = let i = cut-inside in let w = shape-inside in omega arith
+    base-inside = let i = cut-inside in let w = trimmed-inside s e in omega arith
 
     pub shape-read : {b : Base} → b ≡ baseOf (between s (p .start) (p .start + c .«end»)) →
         _≡_ {A = TypeShape} (record { brackets = c .brackets; start = p .start; «end» = p .start + c .«end»; base = b }) (shapeOf s)
@@ -263,7 +254,7 @@ module _ (s : List ℕ) {p : Span} (e : p ≡ trimBoth s) where
             ∙ ap (λ x. record { brackets = bracketCount (between s (p .start) (p .«end»)) (length (between s (p .start) (p .«end»))); start = p .start; «end» = p .start + c .«end»; base = x }) h
             ∙ ap (λ x. record { brackets = bracketCount (between s (p .start) (p .«end»)) (length (between s (p .start) (p .«end»))); start = p .start; «end» = p .start + x; base = baseOf (between s (p .start) (p .start + x)) }) j
 
-pub ruleset shaping = (shape-order, shape-inside, base-fits, base-order, base-inside, shape-read, needs)
+pub ruleset shaping = (trimmed-order, trimmed-inside, base-fits, base-order, base-inside, shape-read, needs)
 
 -- a shape lies in its text
 shape-lies : (s : List ℕ) → (shapeOf s .start ≤ shapeOf s .«end») × (shapeOf s .«end» ≤ length s)

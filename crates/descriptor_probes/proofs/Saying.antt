@@ -14,7 +14,7 @@ use Rattle.descriptor.specs.declared.types.TypeShape.{TypeShape}
 use Rattle.descriptor.specs.Types.{shapeOf}
 use Rattle.descriptor.specs.Signatures.{rawSignature}
 use Rattle.table_pool.specs.inner.Wrote.{WroteBy}
-use Rattle.descriptor_probes.specs.Answers.{wroteNumbers, baseNumber, baseLetter, shapeNumbers, Said, SaidWithin}
+use Rattle.descriptor_probes.specs.Answers.{wroteNumbers, baseNumber, baseLetter, shapeNumbers, SaidWithin}
 
 pub done-numbers : (w : Wrote) {q : ℕ} → w ≡ Done q → 1 ∷ q ∷ [] ≡ wroteNumbers w
 done-numbers w e = sym (ap wroteNumbers e)
@@ -33,11 +33,6 @@ shape-numbers s {t} e {n} {l} f g =
     ∙ ap shapeNumbers e
 
 pub ruleset shape-saying = (shape-numbers, needs)
-
-pub said : (d : List ℕ) (at : ℕ) (b d₁ : List ℕ) (w : Wrote) → WroteBy w d at b d₁ → {numbers : List ℕ} → numbers ≡ wroteNumbers w → Said numbers d at b d₁
-said d at b d₁ w k e = record { answer = w; are = e; wrote = k }
-
-pub ruleset saying = (said, needs)
 
 -- A signature in the room.
 module _ (d : List ℕ) (at e method : ℕ) where

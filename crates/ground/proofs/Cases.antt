@@ -6,7 +6,7 @@ use Prim.Native.Nat.{ℕ, _≤_, _<_}
 use native.Mathlib.Omega.{arith}
 use lib.Dec.{leb, eqb}
 use borrow.Author.Tests.{lt-ltb, le-ltb, le-leb, lt-leb, eq-eqb, ne-eqb, leb-true, leb-false, eqb-true, eqb-false}
-use Rattle.ground.specs.Choice.{both, either, within, bit}
+use Rattle.ground.specs.Choice.{both, either, within, bit, pick}
 
 -- for code without a loop: each test of the rule is rewritten by the branch that was taken
 pub ruleset cases = (lt-ltb, le-ltb, le-leb, lt-leb, eq-eqb, ne-eqb, arith)
@@ -51,6 +51,10 @@ pub both-right : (a b : Bool) → both a b ≡ true → b ≡ true
 both-right true b e = e
 both-right false b e = absurd (let z : _≡_ {A = ℕ} 0 1 = cc in omega arith)
 
+pub both-false : (a : Bool) → both a false ≡ false
+both-false true = refl
+both-false false = refl
+
 pub both-more : (a b m : Bool) → both a m ≡ false → both (both a b) m ≡ false
 both-more true true m e = e
 both-more true false m e = refl
@@ -75,6 +79,18 @@ le-or-lt m n = go (leb m n) refl
     go : (b : Bool) → leb m n ≡ b → (m ≤ n) ⊎ (n < m)
     go true e = inl (leb-true m n e)
     go false e = inr (leb-false m n e)
+
+pub some : (n : ℕ) → (n ≡ 0 → ⊥) → 0 < n
+some n h = go (le-or-lt n 0)
+  where
+    go : (n ≤ 0) ⊎ (0 < n) → 0 < n
+    go (inl l) = absurd (h (omega arith))
+    go (inr l) = l
+
+-- nothing, whatever the test says
+pub none-either : (b : Bool) → _≡_ {A = ℕ} (pick b 0 0) 0
+none-either true = refl
+none-either false = refl
 
 -- the number of a test is that of its rule
 pub bit-told : {b x : Bool} {n : ℕ} → b ≡ x → n ≡ bit b → n ≡ bit x

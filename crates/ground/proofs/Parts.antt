@@ -1,10 +1,11 @@
 -- Parts of a list, as the code lends them. Assumes nothing.
-use mathlib.Core.Path.{_≡_, sym}
-use mathlib.Core.List.{List, [], _∷_}
+use mathlib.Core.Path.{_≡_, sym, _∙_}
+use mathlib.Core.List.{List, [], _∷_, _++_}
 use Prim.Native.Nat.{ℕ, zero, suc, _+_, _-_, _≤_, _<_}
+use native.Mathlib.Numerals.{add-one}
 use native.Mathlib.Omega.{arith}
 use lib.ListN.{length, getD, take, drop, length-take, length-drop}
-use lib.Seq.{take-all, take-nil, take-take, drop-drop, getD-take, getD-drop}
+use lib.Seq.{take-all, take-nil, take-take, take-add, drop-cons, drop-drop, getD-take, getD-drop}
 use Rattle.ground.specs.Put.{between}
 
 module _ {A : Type 0} where
@@ -36,6 +37,17 @@ module _ {A : Type 0} where
   -- a part of a part
   pub part-part : (s : List A) (a e x y : ℕ) → y ≤ e - a → between (between s a e) x y ≡ between s (a + x) (a + y)
   part-part s a e x y h = cut-part s a (e - a) x y h
+
+-- A part, and the one that follows it.
+pub parts-join : (s : List ℕ) (a b c : ℕ) → a ≤ b → b ≤ c → between s a b ++ between s b c ≡ between s a c
+parts-join s a b c h k =
+    let whole : c - a ≡ (b - a) + (c - b) = omega arith in
+    let there : a + (b - a) ≡ b = omega arith in
+    sym (rw whole (take-add (b - a) (c - b) (drop a s) ∙ rw (drop-drop (b - a) a s, there)))
+
+-- From a place on: the byte there, and what follows it.
+pub drop-here : (s : List ℕ) (at : ℕ) → at < length s → drop at s ≡ getD s at 0 ∷ drop (at + 1) s
+drop-here s at h = rw add-one (drop-cons s at 0 h)
 
 -- A part of a text: its length, and each of its bytes.
 pub between-length : (s : List ℕ) (a e : ℕ) → e ≤ length s → length (between s a e) ≡ e - a

@@ -10,6 +10,7 @@ use lib.Seq.{drop-cons}
 use borrow.Author.Tests.{eq-eqb, ne-eqb}
 use borrow.Author.Needs.{needs}
 use Rattle.ground.specs.Ascii.{ascii}
+use Rattle.ground.proofs.Parts.{drop-here}
 use Rattle.json_grammar.specs.Grammar.{text, other}
 use Rattle.json_grammar.specs.Reader.{Out, got, bad, andThen, charsFrom, stringOf, pastWord, asText, asOther, flatOf, jsonNumber}
 use Rattle.json_string.specs.declared.after.After.{After}
@@ -70,13 +71,10 @@ unfolding flatOf
 flat-end s at h = rw (drop-of-length-le s h)
 
 module _ (s : List ℕ) (at : ℕ) (h : at < length s) where
-  first : drop at s ≡ getD s at 0 ∷ drop (at + 1) s
-  first = rw add-one (drop-cons s at 0 h)
-
   pub flat-string : getD s at 0 ≡ 0x22 → (r : After) → Means s r (charsFrom 0 (drop (at + 1) s)) → Means s r (flatOf (drop at s))
   unfolding flatOf stringOf
   flat-string e r m =
-      means-as s (asText (charsFrom 0 (drop (at + 1) s))) (flatOf (drop at s)) r (rw (first, eq-eqb (getD s at 0) 0x22 e))
+      means-as s (asText (charsFrom 0 (drop (at + 1) s))) (flatOf (drop at s)) r (rw (drop-here s at h, eq-eqb (getD s at 0) 0x22 e))
       (means-map s (charsFrom 0 (drop (at + 1) s)) text r m)
 
   module _ (n1 : getD s at 0 ≡ 0x22 → ⊥) where
@@ -84,27 +82,27 @@ module _ (s : List ℕ) (at : ℕ) (h : at < length s) where
     unfolding flatOf ascii
     flat-false e r m =
         means-as s (pastWord (0x66 ∷ 0x61 ∷ 0x6C ∷ 0x73 ∷ 0x65 ∷ []) (drop at s)) (flatOf (drop at s)) r
-        (rw (first, ne-eqb (getD s at 0) 0x22 n1, eq-eqb (getD s at 0) 0x66 e)) m
+        (rw (drop-here s at h, ne-eqb (getD s at 0) 0x22 n1, eq-eqb (getD s at 0) 0x66 e)) m
 
     module _ (n2 : getD s at 0 ≡ 0x66 → ⊥) where
       pub flat-null : getD s at 0 ≡ 0x6E → (r : After) → Means s r (pastWord (0x6E ∷ 0x75 ∷ 0x6C ∷ 0x6C ∷ []) (drop at s)) → Means s r (flatOf (drop at s))
       unfolding flatOf ascii
       flat-null e r m =
           means-as s (pastWord (0x6E ∷ 0x75 ∷ 0x6C ∷ 0x6C ∷ []) (drop at s)) (flatOf (drop at s)) r
-          (rw (first, ne-eqb (getD s at 0) 0x22 n1, ne-eqb (getD s at 0) 0x66 n2, eq-eqb (getD s at 0) 0x6E e)) m
+          (rw (drop-here s at h, ne-eqb (getD s at 0) 0x22 n1, ne-eqb (getD s at 0) 0x66 n2, eq-eqb (getD s at 0) 0x6E e)) m
 
       module _ (n3 : getD s at 0 ≡ 0x6E → ⊥) where
         pub flat-true : getD s at 0 ≡ 0x74 → (r : After) → Means s r (pastWord (0x74 ∷ 0x72 ∷ 0x75 ∷ 0x65 ∷ []) (drop at s)) → Means s r (flatOf (drop at s))
         unfolding flatOf ascii
         flat-true e r m =
             means-as s (pastWord (0x74 ∷ 0x72 ∷ 0x75 ∷ 0x65 ∷ []) (drop at s)) (flatOf (drop at s)) r
-            (rw (first, ne-eqb (getD s at 0) 0x22 n1, ne-eqb (getD s at 0) 0x66 n2, ne-eqb (getD s at 0) 0x6E n3, eq-eqb (getD s at 0) 0x74 e)) m
+            (rw (drop-here s at h, ne-eqb (getD s at 0) 0x22 n1, ne-eqb (getD s at 0) 0x66 n2, ne-eqb (getD s at 0) 0x6E n3, eq-eqb (getD s at 0) 0x74 e)) m
 
         pub flat-number : (getD s at 0 ≡ 0x74 → ⊥) → (r : After) → Means s r (jsonNumber (drop at s)) → Means s r (flatOf (drop at s))
         unfolding flatOf
         flat-number n4 r m =
             means-as s (asOther (jsonNumber (drop at s))) (flatOf (drop at s)) r
-            (rw (first, ne-eqb (getD s at 0) 0x22 n1, ne-eqb (getD s at 0) 0x66 n2, ne-eqb (getD s at 0) 0x6E n3, ne-eqb (getD s at 0) 0x74 n4))
+            (rw (drop-here s at h, ne-eqb (getD s at 0) 0x22 n1, ne-eqb (getD s at 0) 0x66 n2, ne-eqb (getD s at 0) 0x6E n3, ne-eqb (getD s at 0) 0x74 n4))
             (means-map s (jsonNumber (drop at s)) (λ v. other) r m)
 
 pub ruleset flats = (flat-end, flat-string, flat-false, flat-null, flat-true, flat-number, needs)

@@ -1,7 +1,7 @@
 -- Numbers, by places. Assumes nothing.
 use mathlib.Core.Path.{_≡_, refl, sym, _∙_, ap}
 use mathlib.Core.Bool.{Bool, true, false}
-use mathlib.Core.List.{List, _∷_}
+use mathlib.Core.List.{List}
 use mathlib.Core.Logic.{_⊎_, inl, inr}
 use Prim.Native.Nat.{ℕ, suc, _+_, _≤_, _<_}
 use native.Mathlib.Numerals.{add-one}
@@ -11,6 +11,7 @@ use lib.Seq.{drop-cons}
 use borrow.Author.Needs.{needs}
 use Rattle.ground.specs.Choice.{pick, within}
 use Rattle.ground.proofs.Cases.{within-yes, within-low, within-high, le-or-lt}
+use Rattle.ground.proofs.Parts.{drop-here}
 use Rattle.json_grammar.specs.Reader.{Out, got, bad, andThen, isDigit, pastDigits, isSign, isMinus, isE, past, optional, digits, int, frac, exp, jsonNumber}
 use Rattle.json_string.specs.declared.after.After.{After}
 use Rattle.json_string.specs.declared.after.After.the-variants.{Next, Unread}
@@ -112,25 +113,22 @@ module _ (s : List ℕ) (at : ℕ) where
   exp-end i h = record { inside = i; value = 0; reads = rw (drop-of-length-le s h) }
 
   module _ (h : at < length s) where
-    here : drop at s ≡ getD s at 0 ∷ drop (at + 1) s
-    here = rw add-one (drop-cons s at 0 h)
-
     pub frac-other : (getD s at 0 ≡ 0x2E → ⊥) → Reached s at (frac (drop at s))
     unfolding optional
-    frac-other n = record { inside = omega arith; value = 0; reads = rw (here, apart 0x2E (getD s at 0) n) }
+    frac-other n = record { inside = omega arith; value = 0; reads = rw (drop-here s at h, apart 0x2E (getD s at 0) n) }
 
     pub frac-goes : getD s at 0 ≡ 0x2E → (r : After) → Means s r (digits (drop (at + 1) s)) → Means s r (frac (drop at s))
     unfolding optional
     frac-goes e r m =
-        means-as s (digits (drop (at + 1) s)) (frac (drop at s)) r (rw (here, within-yes 0x2E 0x2E (getD s at 0) (omega arith) (omega arith))) m
+        means-as s (digits (drop (at + 1) s)) (frac (drop at s)) r (rw (drop-here s at h, within-yes 0x2E 0x2E (getD s at 0) (omega arith) (omega arith))) m
 
     pub exp-other : (getD s at 0 ≡ 0x65 → ⊥) → (getD s at 0 ≡ 0x45 → ⊥) → Reached s at (exp (drop at s))
     unfolding optional
-    exp-other n m = record { inside = omega arith; value = 0; reads = rw (here, apart 0x65 (getD s at 0) n, apart 0x45 (getD s at 0) m) }
+    exp-other n m = record { inside = omega arith; value = 0; reads = rw (drop-here s at h, apart 0x65 (getD s at 0) n, apart 0x45 (getD s at 0) m) }
 
     e-goes : isE (getD s at 0) ≡ true → (p : ℕ) (r : After) → PastOne isSign s (at + 1) p → Means s r (digits (drop p s)) → Means s r (exp (drop at s))
     unfolding optional
-    e-goes e p r q m = means-as s (digits (drop p s)) (exp (drop at s)) r (rw (here, e, q .rest)) m
+    e-goes e p r q m = means-as s (digits (drop p s)) (exp (drop at s)) r (rw (drop-here s at h, e, q .rest)) m
 
     pub exp-small : getD s at 0 ≡ 0x65 → (p : ℕ) (r : After) → PastOne isSign s (at + 1) p → Means s r (digits (drop p s)) → Means s r (exp (drop at s))
     exp-small e = e-goes (ap isE e)
@@ -146,23 +144,23 @@ module _ (s : List ℕ) (at : ℕ) where
   module _ (h : at < length s) where
     pub sign-minus : getD s at 0 ≡ 0x2D → PastOne isSign s at (at + 1)
     unfolding past
-    sign-minus e = record { inside = omega arith; rest = rw (here h, ap isSign e) }
+    sign-minus e = record { inside = omega arith; rest = rw (drop-here s at h, ap isSign e) }
 
     pub sign-plus : getD s at 0 ≡ 0x2B → PastOne isSign s at (at + 1)
     unfolding past
-    sign-plus e = record { inside = omega arith; rest = rw (here h, ap isSign e) }
+    sign-plus e = record { inside = omega arith; rest = rw (drop-here s at h, ap isSign e) }
 
     pub sign-none : (getD s at 0 ≡ 0x2D → ⊥) → (getD s at 0 ≡ 0x2B → ⊥) → PastOne isSign s at at
     unfolding past
-    sign-none n m = record { inside = omega arith; rest = rw (here h, apart 0x2D (getD s at 0) n, apart 0x2B (getD s at 0) m) }
+    sign-none n m = record { inside = omega arith; rest = rw (drop-here s at h, apart 0x2D (getD s at 0) n, apart 0x2B (getD s at 0) m) }
 
     pub minus-here : getD s at 0 ≡ 0x2D → PastOne isMinus s at (at + 1)
     unfolding past
-    minus-here e = record { inside = omega arith; rest = rw (here h, ap isMinus e) }
+    minus-here e = record { inside = omega arith; rest = rw (drop-here s at h, ap isMinus e) }
 
     pub minus-none : (getD s at 0 ≡ 0x2D → ⊥) → PastOne isMinus s at at
     unfolding past
-    minus-none n = record { inside = omega arith; rest = rw (here h, apart 0x2D (getD s at 0) n) }
+    minus-none n = record { inside = omega arith; rest = rw (drop-here s at h, apart 0x2D (getD s at 0) n) }
 
 pub one-inside : (p : ℕ → Bool) (s : List ℕ) (start r : ℕ) → PastOne p s start r → r ≤ length s
 one-inside p s start r q = q .inside

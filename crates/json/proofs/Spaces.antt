@@ -8,10 +8,9 @@ use native.Mathlib.Omega.{arith}
 use lib.Dec.{eqb}
 use lib.ListN.{length, getD, drop, drop-of-length-le}
 use lib.Seq.{drop-cons}
-use borrow.Author.Tests.{eqb-true, eqb-false}
 use borrow.Author.Needs.{needs}
 use Rattle.ground.specs.Choice.{within}
-use Rattle.ground.proofs.Cases.{within-yes, within-both}
+use Rattle.ground.proofs.Cases.{within-yes, within-both, within-one}
 use Rattle.json_grammar.specs.Reader.{got, bad, andThen, pastAll, isWs, skip, oneOf, structural}
 use Rattle.json_string.specs.inner.Means.{Reached}
 use Rattle.json.specs.inner.Runs.{Past}
@@ -34,15 +33,8 @@ apart a x n = go (within a a x) refl
     go true e = absurd (n (let w = within-both a a x e in omega arith))
     go false e = refl
 
-at-point : (a x : ℕ) → within a a x ≡ eqb x a
-at-point a x = go (eqb x a) refl
-  where
-    go : (b : Bool) → eqb x a ≡ b → within a a x ≡ b
-    go true e = let q = eqb-true x a e in within-yes a a x (omega arith) (omega arith)
-    go false e = apart a x (eqb-false x a e)
-
 pub return-is : (b : ℕ) → (b ≡ 0x20 → ⊥) → (b ≡ 0x09 → ⊥) → (b ≡ 0x0A → ⊥) → eqb b 0x0D ≡ isWs b
-return-is b n m k = sym (rw (apart 0x20 b n, apart 0x09 b m, apart 0x0A b k, at-point 0x0D b))
+return-is b n m k = sym (rw (apart 0x20 b n, apart 0x09 b m, apart 0x0A b k, within-one 0x0D b))
 
 pub ruleset spaces = (space-is, tab-is, line-is, return-is, needs)
 

@@ -8,6 +8,7 @@ use lib.ListN.{length, getD, drop, length-drop, drop-of-length-le}
 use lib.Seq.{drop-cons}
 use borrow.Author.Tests.{eq-eqb, ne-eqb}
 use borrow.Author.Needs.{needs}
+use Rattle.ground.proofs.Parts.{drop-here}
 use Rattle.json_grammar.specs.Grammar.{Meaning, other}
 use Rattle.json_grammar.specs.Reader.{Out, got, bad, andThen, isWs, structural, charsFrom, stringOf, asOther, flatOf, enclosedOf, Item, item, memberOf, nestedOf, valueOf}
 use Rattle.json_grammar.proofs.Items.{value-shorter, member-shorter}
@@ -54,14 +55,11 @@ module _ (s : List ℕ) (depth at : ℕ) where
         go zero m = absurd (m refl)
         go (suc d) m = let e : suc d - 1 ≡ d = omega arith in rw (e, add-one, ← drop-cons s at 0 h)
 
-    here : drop at s ≡ getD s at 0 ∷ drop (at + 1) s
-    here = rw add-one (drop-cons s at 0 h)
-
     pub value-object : getD s at 0 ≡ 0x7B → (r : After) → Means s r (enclosedOf (memberOf (valueOf (depth - 1))) 0x7B 0x7D (drop at s)) → Means s r (valueOf depth (drop at s))
     unfolding nestedOf
     value-object e r m =
         means-as s (asOther (enclosedOf (memberOf (valueOf (depth - 1))) 0x7B 0x7D (drop at s))) (valueOf depth (drop at s)) r
-        (nested ∙ rw (eq-eqb (getD s at 0) 0x7B e, ← here))
+        (nested ∙ rw (eq-eqb (getD s at 0) 0x7B e, ← drop-here s at h))
         (means-map s (enclosedOf (memberOf (valueOf (depth - 1))) 0x7B 0x7D (drop at s)) (λ v. other) r m)
 
     module _ (o : getD s at 0 ≡ 0x7B → ⊥) where
@@ -69,14 +67,14 @@ module _ (s : List ℕ) (depth at : ℕ) where
       unfolding nestedOf
       value-array e r m =
           means-as s (asOther (enclosedOf (valueOf (depth - 1)) 0x5B 0x5D (drop at s))) (valueOf depth (drop at s)) r
-          (nested ∙ rw (ne-eqb (getD s at 0) 0x7B o, eq-eqb (getD s at 0) 0x5B e, ← here))
+          (nested ∙ rw (ne-eqb (getD s at 0) 0x7B o, eq-eqb (getD s at 0) 0x5B e, ← drop-here s at h))
           (means-map s (enclosedOf (valueOf (depth - 1)) 0x5B 0x5D (drop at s)) (λ v. other) r m)
 
       pub value-other : (getD s at 0 ≡ 0x5B → ⊥) → (r : After) → Means s r (flatOf (drop at s)) → Means s r (valueOf depth (drop at s))
       unfolding nestedOf
       value-other a r m =
           means-as s (flatOf (drop at s)) (valueOf depth (drop at s)) r
-          (nested ∙ rw (ne-eqb (getD s at 0) 0x7B o, ne-eqb (getD s at 0) 0x5B a, ← here)) m
+          (nested ∙ rw (ne-eqb (getD s at 0) 0x7B o, ne-eqb (getD s at 0) 0x5B a, ← drop-here s at h)) m
 
 pub ruleset valuing = (value-end, value-flat, value-object, value-array, value-other, needs)
 

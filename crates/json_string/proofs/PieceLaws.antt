@@ -14,6 +14,7 @@ use borrow.Author.Tests.{eq-eqb, ne-eqb}
 use borrow.Author.Needs.{needs}
 use Rattle.ground.specs.Choice.{pick, within}
 use Rattle.ground.proofs.Cases.{cases, within-yes, within-low, within-high}
+use Rattle.ground.proofs.Parts.{drop-here}
 use Rattle.json_grammar.specs.Encode.{utf8}
 use Rattle.json_grammar.specs.Reader as Reader
 use Rattle.json_grammar.specs.Reader.{hex4, second, unicode, shortEscape, escape, pieceOf}
@@ -194,28 +195,25 @@ unfolding pieceOf
 piece-end s at h = rw (drop-of-length-le s h)
 
 module _ (s : List ℕ) (at : ℕ) (h : at < length s) where
-  here : drop at s ≡ getD s at 0 ∷ drop (at + 1) s
-  here = rw add-one (drop-cons s at 0 h)
-
   pub piece-closes : getD s at 0 ≡ 0x22 → Closed s at (at + 1) (pieceOf (drop at s))
   unfolding pieceOf
-  piece-closes e = record { is = rw (here, eq-eqb (getD s at 0) 0x22 e); next = refl; inside = omega arith }
+  piece-closes e = record { is = rw (drop-here s at h, eq-eqb (getD s at 0) 0x22 e); next = refl; inside = omega arith }
 
   module _ (n : getD s at 0 ≡ 0x22 → ⊥) where
     pub piece-escape : getD s at 0 ≡ 0x5C → (r : Piece) → PieceMeans s at r (escape (drop (at + 1) s)) → PieceMeans s at r (pieceOf (drop at s))
     unfolding pieceOf
-    piece-escape e r m = piece-as s at r (rw (here, ne-eqb (getD s at 0) 0x22 n, eq-eqb (getD s at 0) 0x5C e)) m
+    piece-escape e r m = piece-as s at r (rw (drop-here s at h, ne-eqb (getD s at 0) 0x22 n, eq-eqb (getD s at 0) 0x5C e)) m
 
     module _ (k : getD s at 0 ≡ 0x5C → ⊥) where
       pub piece-control : getD s at 0 < 0x20 → pieceOf (drop at s) ≡ Reader.wrong
       unfolding pieceOf
-      piece-control l = rw (here, ne-eqb (getD s at 0) 0x22 n, ne-eqb (getD s at 0) 0x5C k, within-low 0x20 0xFF (getD s at 0) l)
+      piece-control l = rw (drop-here s at h, ne-eqb (getD s at 0) 0x22 n, ne-eqb (getD s at 0) 0x5C k, within-low 0x20 0xFF (getD s at 0) l)
 
       pub piece-plain : ((i : ℕ) → Fits w8 (getD s i 0)) → 0x20 ≤ getD s at 0 → Stood s at (at + 1) (getD s at 0 ∷ []) (pieceOf (drop at s))
       unfolding pieceOf
       piece-plain b l = record {
         size = 0;
-        is = rw (here, ne-eqb (getD s at 0) 0x22 n, ne-eqb (getD s at 0) 0x5C k, within-yes 0x20 0xFF (getD s at 0) l (omega (arith, b at)));
+        is = rw (drop-here s at h, ne-eqb (getD s at 0) 0x22 n, ne-eqb (getD s at 0) 0x5C k, within-yes 0x20 0xFF (getD s at 0) l (omega (arith, b at)));
         next = omega arith;
         inside = omega arith;
         room = omega arith;

@@ -25,7 +25,7 @@ use Rattle.line_parts.specs.declared.arguments.NextArgument.the-variants
 use Rattle.text_places.specs.Spans.{isEmpty, partOf}
 use Rattle.line_parts.specs.Arguments.{commaParts, filled, argumentsOf, Splits}
 use Rattle.line_parts.specs.inner.NextArgument.{gap, firstFilled, nextArgument}
-use Rattle.text_white.proofs.TrimLaws.{trim-inside, trim-order}
+use Rattle.text_white.proofs.TrimLaws.{trim-inside, trim-order, trimmed-order, trimmed-inside}
 
 -- The first comma splits.
 record Split (at : ℕ) (l : List ℕ) (i : ℕ) : Type 0 where
@@ -117,10 +117,10 @@ module _ {s : List ℕ} {start at : ℕ} (k : Passing s start at) where
       last-blank i z = sym (last-step l last-is ∙ rw (sym i ∙ z))
 
       reach : at + l .«end» ≤ length s
-      reach = let a : l .«end» ≤ length (drop at s) = rw last-is (trim-inside (drop at s)) in omega (arith, length-drop at s)
+      reach = let a = trimmed-inside (drop at s) last-is in omega (arith, length-drop at s)
 
       pub last-start-fits : length s < 2 ^ 64 → Fits w64 (at + l .start)
-      last-start-fits b = let r = reach in let o : l .start ≤ l .«end» = rw last-is (trim-order (drop at s)) in omega arith
+      last-start-fits b = let r = reach in let o = trimmed-order (drop at s) last-is in omega arith
 
       pub last-end-fits : length s < 2 ^ 64 → Fits w64 (at + l .«end»)
       last-end-fits b = let r = reach in omega arith
@@ -161,10 +161,10 @@ module _ {s : List ℕ} {start at : ℕ} (k : Passing s start at) where
         part-blank i z = record { decides = step l part-is ∙ rw (sym i ∙ z) }
 
         within : at + l .«end» ≤ at + comma
-        within = let a : l .«end» ≤ length (take comma (drop at s)) = rw part-is (trim-inside (take comma (drop at s))) in let z = size in omega arith
+        within = let a = trimmed-inside (take comma (drop at s)) part-is in let z = size in omega arith
 
         pub part-start-fits : length s < 2 ^ 64 → Fits w64 (at + l .start)
-        part-start-fits b = let r = within in let a = ahead in let o : l .start ≤ l .«end» = rw part-is (trim-order (take comma (drop at s))) in omega arith
+        part-start-fits b = let r = within in let a = ahead in let o = trimmed-order (take comma (drop at s)) part-is in omega arith
 
         pub part-end-fits : length s < 2 ^ 64 → Fits w64 (at + l .«end»)
         part-end-fits b = let r = within in let a = ahead in omega arith
@@ -194,9 +194,9 @@ pub arguments-end : (s : List ℕ) (at : ℕ) → nextArgument s at ≡ NoArgume
 arguments-end s at e = splits-none at (commaParts (drop at s)) e
 
 -- nothing but blanks is left at the end of a text
-nothing-filled : argumentsOf [] ≡ []
+pub no-arguments : argumentsOf [] ≡ []
 unfolding commaParts filled
-nothing-filled = rw blank-nothing
+no-arguments = rw blank-nothing
 
 module _ (s : List ℕ) where
   -- by the number of bytes that may be left
@@ -218,7 +218,7 @@ module _ (s : List ℕ) where
           let whole : partOf (drop at s) (trimBoth (drop at s)) ≡ between s a e =
           (let z : e - a ≡ trimBoth (drop at s) .«end» - trimBoth (drop at s) .start = omega arith in rw (z, ← starts-at, drop-drop (trimBoth (drop at s) .start) at s)) in
           let past-all : length s ≤ n = omega arith in
-          let rest : argumentsOf (drop n s) ≡ [] = ap argumentsOf (drop-of-length-le s past-all) ∙ nothing-filled in
+          let rest : argumentsOf (drop n s) ≡ [] = ap argumentsOf (drop-of-length-le s past-all) ∙ no-arguments in
           record {
             order = omega arith;
             ends = omega arith;

@@ -27,7 +27,7 @@ use Rattle.text_places.specs.Spans.{span, shift, partOf, Lies, largest}
 use Rattle.line_parts.specs.Fields.{fieldSplit, fieldOf}
 use Rattle.line_parts.specs.Signatures.{qualifiedAt, qualifiedOf, linesAfter, methodSignatureAt, methodSignature}
 use Rattle.line_parts.specs.inner.Opening.{Opens}
-use Rattle.text_white.proofs.TrimLaws.{trim-inside, trim-order}
+use Rattle.text_white.proofs.TrimLaws.{trimmed-order, trimmed-inside}
 
 -- Fields.
 module _ (s : List ℕ) {p : Place} (e : p ≡ lastWhite s) where
@@ -50,8 +50,8 @@ module _ (s : List ℕ) {p : Place} (e : p ≡ lastWhite s) where
 
       pub field-shift : length s < 2 ^ 64 → Lies (shift i r) largest
       field-shift b =
-          let a : r .«end» ≤ length (drop i s) = rw name (trim-inside (drop i s)) in
-          let o : r .start ≤ r .«end» = rw name (trim-order (drop i s)) in
+          let a = trimmed-inside (drop i s) name in
+          let o = trimmed-order (drop i s) name in
           let d = length-drop i s in
           let c = white in
           record { order = omega arith; within = omega arith }
@@ -77,16 +77,10 @@ pub ruleset naming = (name-plain, name-fits, name-owned, needs)
 
 -- What follows the `)`.
 module _ (s : List ℕ) {p : Span} (e : p ≡ trimBoth s) where
-  pub after-order : p .start ≤ p .«end»
-  after-order = rw e (trim-order s)
-
-  pub after-inside : p .«end» ≤ length s
-  after-inside = rw e (trim-inside s)
-
   pub after-lines : {r : TrailingRange} → r ≡ trailingRange (between s (p .start) (p .«end»)) → r ≡ linesAfter s
   after-lines f = f ∙ ap (λ x. trailingRange (partOf s x)) e
 
-pub ruleset lines-following = (after-order, after-inside, after-lines, needs)
+pub ruleset lines-following = (trimmed-order, trimmed-inside, after-lines, needs)
 
 -- Parentheses.
 module _ (s : List ℕ) {p : Place} (e : p ≡ firstWhere (starts 0x28) s) where

@@ -34,7 +34,7 @@ use Rattle.line_parts.specs.declared.method.MethodParts.the-variants.{Pa
 use Rattle.text_places.specs.Spans.{span, shift, partOf, Lies, largest}
 use Rattle.line_parts.specs.Signatures.{NameIn, methodSignature}
 use Rattle.line_parts.specs.Methods.{shiftName, shiftMethod, MethodIn, settledOf, withSignature, typeAt, methodFrom, methodAfter, methodOf}
-use Rattle.text_white.proofs.TrimLaws.{trim-inside, trim-order}
+use Rattle.text_white.proofs.TrimLaws.{trim-inside, trim-order, trimmed-order, trimmed-inside}
 use Rattle.line_parts.proofs.Lying.{part-length, trim-lies, signature-lies, shift-lies, shift-name-lies}
 
 -- Names.
@@ -95,27 +95,24 @@ module _ (left : List ℕ) (rest : ℕ) (h : rest ≤ length left) {p : Place} (
       part-is : part ≡ trimBoth (drop (rest + white) left)
       part-is = rw (take-rest left (rest + white)) at f
 
-      within : rest + white + part .«end» ≤ length left
-      within =
-          let a : part .«end» ≤ length (drop (rest + white) left) = rw part-is (trim-inside (drop (rest + white) left)) in
+      pub end-inside : rest + white + part .«end» ≤ length left
+      end-inside =
+          let a = trimmed-inside (drop (rest + white) left) part-is in
           let b = length-drop (rest + white) left in
           let r = reach in
           omega arith
 
       order : part .start ≤ part .«end»
-      order = rw part-is (trim-order (drop (rest + white) left))
+      order = trimmed-order (drop (rest + white) left) part-is
 
       pub start-fits : length left < 2 ^ 64 → Fits w64 (rest + white + part .start)
-      start-fits b = let w = within in let o = order in omega arith
+      start-fits b = let w = end-inside in let o = order in omega arith
 
       pub end-fits : length left < 2 ^ 64 → Fits w64 (rest + white + part .«end»)
-      end-fits b = let w = within in omega arith
+      end-fits b = let w = end-inside in omega arith
 
       pub start-before : rest + white + part .start ≤ rest + white + part .«end»
       start-before = let o = order in omega arith
-
-      pub end-inside : rest + white + part .«end» ≤ length left
-      end-inside = within
 
       module _ {t : Signature} (s : t ≡ methodSignature (between left (rest + white + part .start) (rest + white + part .«end»))) where
         text-is : between left (rest + white + part .start) (rest + white + part .«end») ≡ partOf (drop (rest + white) left) part
@@ -142,12 +139,12 @@ module _ (left : List ℕ) (rest : ℕ) (h : rest ≤ length left) {p : Place} (
 
           pub method-name-lies : length left < 2 ^ 64 → NameIn (shiftName (rest + white + part .start) named) largest
           method-name-lies b =
-              let z = size in let w = within in let o = order in
+              let z = size in let w = end-inside in let o = order in
               shift-name-lies (rest + white + part .start) named (length (partOf (drop (rest + white) left) part)) largest (omega arith) (lie .0)
 
           pub method-arguments-lie : length left < 2 ^ 64 → Lies (shift (rest + white + part .start) arguments) largest
           method-arguments-lie b =
-              let z = size in let w = within in let o = order in
+              let z = size in let w = end-inside in let o = order in
               shift-lies (rest + white + part .start) arguments (length (partOf (drop (rest + white) left) part)) largest (omega arith) (lie .1)
 
           pub method-read : (raw : LineRange) {n : Qualified} {a : Span} {m : Method} → n ≡ shiftName (rest + white + part .start) named → a ≡ shift (rest + white + part .start) arguments →

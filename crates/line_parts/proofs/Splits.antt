@@ -16,7 +16,7 @@ use Rattle.text_places.specs.Places.{firstWhere, startsPair}
 use Rattle.text_places.proofs.Holds.{pair-inside}
 use Rattle.text_places.specs.declared.spans.Span.{Span}
 use Rattle.text_white.specs.Trim.{trimBoth}
-use Rattle.text_white.proofs.TrimLaws.{trim-inside, trim-order}
+use Rattle.text_white.proofs.TrimLaws.{trimmed-order, trimmed-inside}
 use Rattle.line_parts.specs.declared.arrow.Arrow.{Arrow}
 use Rattle.line_parts.specs.declared.arrow.Arrow.the-variants.{Sides, NoArrow}
 use Rattle.text_places.specs.Spans.{shift, Lies, largest}
@@ -40,20 +40,17 @@ module _ (s : List ℕ) {p : Place} (e : p ≡ firstWhere (startsPair 0x2D 0x3E)
   arrow-none g = sym (rw (sym e ∙ g))
 
   module _ {i : ℕ} (g : p ≡ At i) where
-    room : i + 2 ≤ length s
-    room = pair-inside 0x2D 0x3E s (sym e ∙ g)
+    pub arrow-after : i + 2 ≤ length s
+    arrow-after = pair-inside 0x2D 0x3E s (sym e ∙ g)
 
     pub arrow-inside : i ≤ length s
-    arrow-inside = let r = room in omega arith
+    arrow-inside = let r = arrow-after in omega arith
 
     pub arrow-prefix : i ≡ length (take i s)
-    arrow-prefix = let r = room in omega (arith, length-take i s)
-
-    pub arrow-after : i + 2 ≤ length s
-    arrow-after = room
+    arrow-prefix = let r = arrow-after in omega (arith, length-take i s)
 
     pub arrow-fits : length s < 2 ^ 64 → Fits w64 (i + 2)
-    arrow-fits b = let r = room in omega arith
+    arrow-fits b = let r = arrow-after in omega arith
 
     at : arrowOf s ≡ sidesOf (trimBoth (take i s)) (i + 2) (trimBoth (drop (i + 2) s))
     at = ap (splitAt s) (sym e ∙ g)
@@ -74,10 +71,10 @@ module _ (s : List ℕ) {p : Place} (e : p ≡ firstWhere (startsPair 0x2D 0x3E)
 
         pub arrow-shift : length s < 2 ^ 64 → Lies (shift (i + 2) r) largest
         arrow-shift b =
-            let a : r .«end» ≤ length (drop (i + 2) s) = rw right (trim-inside (drop (i + 2) s)) in
-            let o : r .start ≤ r .«end» = rw right (trim-order (drop (i + 2) s)) in
+            let a = trimmed-inside (drop (i + 2) s) right in
+            let o = trimmed-order (drop (i + 2) s) right in
             let d = length-drop (i + 2) s in
-            let c = room in
+            let c = arrow-after in
             record { order = omega arith; within = omega arith }
 
         pub arrow-sides : (r .start ≡ r .«end» → ⊥) → {q : Span} → q ≡ shift (i + 2) r → Sides l q ≡ arrowOf s

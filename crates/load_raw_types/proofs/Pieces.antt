@@ -6,7 +6,7 @@ use Prim.Native.Nat.{ℕ, zero, suc, _+_, _-_}
 use native.Mathlib.Numerals.{add-one}
 use native.Mathlib.Omega.{arith}
 use lib.Dec.{eqb}
-use lib.ListN.{length, getD, take, drop, length-append, length-map, List·getD-map}
+use lib.ListN.{length, getD, take, drop, length-append, List·getD-map}
 use lib.Seq.{take-all, take-suc, drop-cons, take-append-le, drop-append-le, drop-length}
 use borrow.Author.Tests.{eqb-true}
 use Rattle.ground.specs.Choice.{pick}
@@ -16,6 +16,7 @@ use Rattle.text_places.proofs.PlaceLaws.{first-inside}
 use Rattle.text_places.proofs.Holds.{first-is}
 use Rattle.table_pool.specs.inner.Named.{slashIf, nameBytes, classPiece}
 use Rattle.table_pool.specs.Names.{slash}
+use Rattle.table_pool.proofs.Naming.{name-length}
 use Rattle.ground.specs.Look.{Look, lookOr}
 use Rattle.descriptor.specs.Pieces.{turn}
 use Rattle.descriptor.proofs.Turning.{turn-end, piece-step, plain-step, stays-step}
@@ -95,9 +96,6 @@ stored-first b p q dots at l = first-map (slashIf dots) b (stored-keeps b p q do
 
 -- The text `s` is what stands between an `L` and the last `;`.
 module _ (look : List ℕ → Look) (dots : Bool) (s : List ℕ) where
-  whole-size : length (nameBytes dots s) ≡ length s
-  whole-size = length-map s (slashIf dots)
-
   -- no `;` in it: one piece
   pub piece-whole : firstWhere (starts 0x3B) s ≡ Nowhere → turn look (classPiece dots s) ≡ lookOr (classPiece dots s) (look (classPiece dots s))
   unfolding firstFrom
@@ -116,7 +114,7 @@ module _ (look : List ℕ → Look) (dots : Bool) (s : List ℕ) where
       let m : firstFrom (starts 0x3B) 1 (nameBytes dots s) ≡ At (suc i) = stored-first 0x3B refl refl dots 1 s ∙ first-later 0x3B 0 s e in
       let f : firstWhere (starts 0x3B) (classPiece dots s) ≡ At (suc i) = first-more 0x3B 1 (nameBytes dots s) (0x3B ∷ []) m in
       let inside = first-inside (starts 0x3B) s e in
-      let size = whole-size in
+      let size = name-length dots s in
       let is : take (suc i) (nameBytes dots s) ≡ nameBytes dots (take i s) ++ (0x3B ∷ []) = cut e in
       let up : suc i + 1 ≡ suc (suc i) = omega arith in
       let down : suc i ≡ i + 1 = omega arith in
@@ -125,18 +123,15 @@ module _ (look : List ℕ → Look) (dots : Bool) (s : List ℕ) where
       drop-append-le (suc i) (nameBytes dots s) (0x3B ∷ []) (omega arith) ∙ ap (λ l. l ++ (0x3B ∷ [])) (map-drop (slashIf dots) (suc i) s ∙ ap (λ n. nameBytes dots (drop n s)) down) in
       piece-step look 0x4C (nameBytes dots s ++ (0x3B ∷ [])) refl f ∙ rw (up, front, back)
     where
-      semicolon : slashIf dots 0x3B ≡ 0x3B
-      semicolon = go dots
-        where
-          go : (b : Bool) → slashIf b 0x3B ≡ 0x3B
-          go true = refl
-          go false = refl
+      semicolon : (b : Bool) → slashIf b 0x3B ≡ 0x3B
+      semicolon true = refl
+      semicolon false = refl
 
       cut : firstWhere (starts 0x3B) s ≡ At i → take (suc i) (nameBytes dots s) ≡ nameBytes dots (take i s) ++ (0x3B ∷ [])
       cut f =
           let inside = first-inside (starts 0x3B) s f in
-          let size = whole-size in
-          let byte : getD (nameBytes dots s) i (slashIf dots 0) ≡ 0x3B = List·getD-map (slashIf dots) s i 0 ∙ ap (slashIf dots) (first-is 0x3B s f) ∙ semicolon in
+          let size = name-length dots s in
+          let byte : getD (nameBytes dots s) i (slashIf dots 0) ≡ 0x3B = List·getD-map (slashIf dots) s i 0 ∙ ap (slashIf dots) (first-is 0x3B s f) ∙ semicolon dots in
           take-suc (nameBytes dots s) i (slashIf dots 0) (omega arith) ∙ rw (map-take (slashIf dots) i s, byte)
 
   -- outside a piece: bytes up to the next `L` stay, or all
@@ -145,7 +140,7 @@ module _ (look : List ℕ → Look) (dots : Bool) (s : List ℕ) where
   plain-first {i} e =
       let m : firstWhere (starts 0x4C) (nameBytes dots s) ≡ At i = stored-first 0x4C refl refl dots 0 s ∙ e in
       let inside = first-inside (starts 0x4C) s e in
-      let size = whole-size in
+      let size = name-length dots s in
       let front : take i (nameBytes dots s ++ (0x3B ∷ [])) ≡ nameBytes dots (take i s) = take-append-le i (nameBytes dots s) (0x3B ∷ []) (omega arith) ∙ map-take (slashIf dots) i s in
       let byte : getD (nameBytes dots s) i 0 ≡ 0x4C = first-is 0x4C (nameBytes dots s) m in
       let rest : drop i (nameBytes dots s) ≡ 0x4C ∷ nameBytes dots (drop (i + 1) s) =

@@ -4,7 +4,7 @@ use mathlib.Core.Bool.{Bool}
 use mathlib.Core.List.{List, [], _∷_, _++_}
 use Prim.Native.Nat.{ℕ, _+_, _-_, _^_, _≤_, _<_}
 use native.Mathlib.Omega.{arith}
-use lib.ListN.{length, getD, take, drop, length-drop}
+use lib.ListN.{length, getD, take, drop}
 use lib.Seq.{drop-drop}
 use mir.Val.{Fits}
 use mir.Syntax.{w64}
@@ -14,7 +14,7 @@ use Rattle.ground.proofs.Parts.{take-rest}
 use Rattle.text_places.specs.declared.find.Place.{Place}
 use Rattle.text_places.specs.declared.find.Place.the-variants.{At, Nowhere}
 use Rattle.text_places.specs.Places.{firstWhere, starts}
-use Rattle.text_places.proofs.PlaceLaws.{first-inside, seeking-starts, seeking-ends, seeking-found, byte-here}
+use Rattle.text_places.proofs.PlaceLaws.{seeking-starts, seeking-ends, seeking-found, byte-here, from-here, from-inside}
 use Rattle.table_pool.specs.declared.write.Wrote.{Wrote}
 use Rattle.table_pool.specs.declared.write.Wrote.the-variants.{Done, NoRoom}
 use Rattle.ground.specs.Look.{Look, lookOr}
@@ -74,27 +74,21 @@ rest-of text at n m e = drop-drop n at text ∙ ap (λ k. drop k text) e
 
 -- A byte that is looked for from a place on.
 module _ (b : ℕ) (text : List ℕ) (start : ℕ) (i : start ≤ length text) {p : Place} (e : p ≡ firstWhere (starts b) (between text start (length text))) where
-  from-here : p ≡ firstWhere (starts b) (drop start text)
-  from-here = rw (take-rest text start) at e
-
   module _ {n : ℕ} (f : p ≡ At n) where
-    reach : start + n < length text
-    reach = let j = first-inside (starts b) (drop start text) (sym from-here ∙ f) in omega (arith, length-drop start text)
-
     pub gap-fits : length text < 2 ^ 64 → Fits w64 (start + n)
-    gap-fits z = let r = reach in omega arith
+    gap-fits z = let r = from-inside b text start i e f in omega arith
 
     pub gap-inside : start + n ≤ length text
-    gap-inside = let r = reach in omega arith
+    gap-inside = let r = from-inside b text start i e f in omega arith
 
     pub gap-fits-past : length text < 2 ^ 64 → Fits w64 (start + n + 1)
-    gap-fits-past z = let r = reach in omega arith
+    gap-fits-past z = let r = from-inside b text start i e f in omega arith
 
 -- The piece that begins before `start`.
 module _ (look : List ℕ → Look) (dots : Bool) (text : List ℕ) (start : ℕ) (i : start ≤ length text) {p : Place} (e : p ≡ firstWhere (starts 0x3B) (between text start (length text))) (r : Wrote) (pool : List ℕ) (at : ℕ) (d : List ℕ) where
   module _ (f : p ≡ Nowhere) (w : WroteBy r pool at (lookOr (classPiece dots (between text start (length text))) (look (classPiece dots (between text start (length text))))) d) where
     all-written : WroteBy r pool at (insidePiece look dots text start) d
-    all-written = wrote-as r pool at d (rw (take-rest text start) (sym (piece-whole look dots (drop start text) (sym (from-here 0x3B text start i e) ∙ f)))) w
+    all-written = wrote-as r pool at d (rw (take-rest text start) (sym (piece-whole look dots (drop start text) (sym (from-here 0x3B text start e) ∙ f)))) w
 
     pub last-piece : {q : ℕ} → r ≡ Done q → Written q pool at (insidePiece look dots text start) d
     last-piece g = wrote-told r pool at (insidePiece look dots text start) d all-written g
@@ -110,14 +104,14 @@ module _ (look : List ℕ → Look) (dots : Bool) (text : List ℕ) (start : ℕ
     unfolding piece
     split =
         let z : start + n - start ≡ n = omega arith in
-        rw z (piece-first look dots (drop start text) (sym (from-here 0x3B text start i e) ∙ f)
+        rw z (piece-first look dots (drop start text) (sym (from-here 0x3B text start e) ∙ f)
         ∙ ap (λ l. lookOr (classPiece dots (take n (drop start text))) (look (classPiece dots (take n (drop start text)))) ++ turn look (nameBytes dots l ++ (0x3B ∷ []))) (rest-of text start (n + 1) (start + n + 1) (omega arith)))
 
     pub first-piece : {q : ℕ} → r ≡ Done q → Stretched q (start + n + 1) start (length text) (insidePiece look dots text start) (outsidePiece look dots text (start + n + 1)) pool at d
     unfolding piece
     first-piece g = record {
       past = omega arith;
-      inside = let j = reach 0x3B text start i e f in omega arith;
+      inside = let j = from-inside 0x3B text start i e f in omega arith;
       done = piece;
       written = wrote-told r pool at piece d w g;
       splits = split;
@@ -133,7 +127,7 @@ pub ruleset first-pieces = (gap-fits, gap-inside, gap-fits-past, last-piece, las
 module _ (dots : Bool) (text : List ℕ) (start : ℕ) (i : start ≤ length text) {p : Place} (e : p ≡ firstWhere (starts 0x4C) (between text start (length text))) (r : Wrote) (pool : List ℕ) (at : ℕ) (d : List ℕ) where
   module _ (f : p ≡ Nowhere) (w : WroteBy r pool at (nameBytes dots (between text start (length text)) ++ (0x3B ∷ [])) d) (look : List ℕ → Look) where
     all-plain : WroteBy r pool at (outsidePiece look dots text start) d
-    all-plain = wrote-as r pool at d (rw (take-rest text start) (sym (plain-all look dots (drop start text) (sym (from-here 0x4C text start i e) ∙ f)))) w
+    all-plain = wrote-as r pool at d (rw (take-rest text start) (sym (plain-all look dots (drop start text) (sym (from-here 0x4C text start e) ∙ f)))) w
 
     pub last-plain : {q : ℕ} → r ≡ Done q → Written q pool at (outsidePiece look dots text start) d
     last-plain g = wrote-told r pool at (outsidePiece look dots text start) d all-plain g
@@ -145,13 +139,13 @@ module _ (dots : Bool) (text : List ℕ) (start : ℕ) (i : start ≤ length tex
     split-plain : outsidePiece look dots text start ≡ nameBytes dots (between text start (start + n)) ++ insidePiece look dots text (start + n + 1)
     split-plain =
         let z : start + n - start ≡ n = omega arith in
-        rw z (plain-first look dots (drop start text) (sym (from-here 0x4C text start i e) ∙ f)
+        rw z (plain-first look dots (drop start text) (sym (from-here 0x4C text start e) ∙ f)
         ∙ ap (λ l. nameBytes dots (take n (drop start text)) ++ turn look (classPiece dots l)) (rest-of text start (n + 1) (start + n + 1) (omega arith)))
 
     pub first-plain : {q : ℕ} → r ≡ Done q → Stretched q (start + n + 1) start (length text) (outsidePiece look dots text start) (insidePiece look dots text (start + n + 1)) pool at d
     first-plain g = record {
       past = omega arith;
-      inside = let j = reach 0x4C text start i e f in omega arith;
+      inside = let j = from-inside 0x4C text start i e f in omega arith;
       done = nameBytes dots (between text start (start + n));
       written = wrote-told r pool at (nameBytes dots (between text start (start + n))) d w g;
       splits = split-plain;

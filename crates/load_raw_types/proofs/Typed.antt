@@ -31,7 +31,8 @@ use Rattle.table_pool.proofs.Writes.{wrote-told, wrote-none, wrote-then, none-t
 use Rattle.descriptor.proofs.Typing.{type-order, type-inside}
 use Rattle.tables.specs.Back.{readBack}
 use Rattle.descriptor.specs.Raw.{rawTypeOf}
-use Rattle.table_pool.specs.inner.Named.{nameBytes, classPiece}
+use Rattle.table_pool.specs.inner.Named.{classPiece}
+use Rattle.table_pool.proofs.Naming.{name-plain}
 use Rattle.load_raw_types.specs.inner.Behind.{Indexed}
 use Rattle.descriptor.proofs.Turning.{stays-step}
 use Rattle.load_raw_types.proofs.Indexing.{indexed-put, read-back-put}
@@ -72,10 +73,6 @@ turn-letter : (look : List ℕ → Look) (x : ℕ) → eqb x 0x4C ≡ false → 
 turn-letter look x e = stays-step look (x ∷ []) (one-nowhere x e)
 
 -- A text that is kept is a piece.
-map-same : (s : List ℕ) → nameBytes false s ≡ s
-map-same [] = refl
-map-same (x ∷ s) = ap (λ l. x ∷ l) (map-same s)
-
 kept-long : (s : List ℕ) → keptText s ≡ true → 2 ≤ length s
 kept-long [] e = clash e refl
 kept-long (x ∷ []) e =
@@ -95,7 +92,7 @@ kept-piece s e = go s e (kept-long s e)
         let b : getD (y ∷ l) (length l) 0 ≡ 0x3B = eqb-true (getD (y ∷ l) (length l) 0) 0x3B (both-right (eqb x 0x4C) (eqb (getD (y ∷ l) (length l) 0) 0x3B) f) in
         let n : length (x ∷ (y ∷ l)) - 1 - 1 ≡ length l = omega arith in
         let c : y ∷ l ≡ take (length l) (y ∷ l) ++ (0x3B ∷ []) = sym (take-length (y ∷ l)) ∙ take-suc (y ∷ l) (length l) 0 (omega arith) ∙ rw b in
-        rw (n, map-same (take (length l) (y ∷ l)), ← c, a)
+        rw (n, name-plain (take (length l) (y ∷ l)), ← c, a)
 
 -- A class name that is one piece.
 module _ (look : List ℕ → Look) (name : List ℕ) (r : Wrote) (d : List ℕ) (at : ℕ) (d₁ : List ℕ) where

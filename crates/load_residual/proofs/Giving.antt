@@ -98,15 +98,6 @@ module _ (l : List ℕ) {brace : Place} where
 pub ruleset giving = (gives-no-brace, json-order, json-inside, gives-json, needs)
 
 -- Whether there is one.
-module _ {r : Residual} where
-  pub given-text : {a e p : ℕ} → r ≡ Text a e p → true ≡ isGiven r
-  given-text f = sym (ap isGiven f)
-
-  pub given-nothing : r ≡ Nothing → false ≡ isGiven r
-  given-nothing f = sym (ap isGiven f)
-
-pub ruleset given = (given-text, given-nothing, needs)
-
 pub given-looks : (s : List ℕ) (r : Residual) → isGiven r ≡ isKnown (residualLook s r)
 given-looks s (Text a e p) = refl
 given-looks s Nothing = refl

@@ -26,11 +26,8 @@ use Rattle.load_residual.proofs.Giving.{nothing-lies}
 
 module _ (s : List ℕ) (hash e : ℕ) where
   pub unheeded : (member : Bool) → not member ≡ true → Gives s Nothing (heeded member (hashGives (between s hash e)))
-  unheeded member n = go member n
-    where
-      go : (b : Bool) → not b ≡ true → Gives s Nothing (heeded b (hashGives (between s hash e)))
-      go false q = record { look = refl; lies = nothing-lies (length s) }
-      go true q = clash q refl
+  unheeded false n = record { look = refl; lies = nothing-lies (length s) }
+  unheeded true n = clash n refl
 
   module _ (o : hash ≤ e) (i : e ≤ length s) {size : ℕ} (f : size ≡ trimEnd (between s hash e)) where
     few : size ≤ e - hash

@@ -8,7 +8,7 @@ use native.Mathlib.Nat.{add-zero}
 use native.Mathlib.Omega.{arith}
 use lib.Dec.{eqb, lit<}
 use lib.ListN.{length, getD, take, drop, length-drop, drop-of-length-le}
-use lib.Seq.{take-add, drop-drop, drop-cons, getD-drop}
+use lib.Seq.{drop-drop, drop-cons, getD-drop}
 use mir.Val.{Fits}
 use mir.Syntax.{w64}
 use borrow.Author.Tests.{ne-eqb, eqb-true}
@@ -16,7 +16,7 @@ use borrow.Author.Needs.{needs}
 use Rattle.ground.specs.Choice.{pick, both}
 use Rattle.ground.specs.Put.{between}
 use Rattle.ground.proofs.Cases.{le-or-lt, both-right, within-yes}
-use Rattle.ground.proofs.Parts.{drop-take, between-length, between-byte}
+use Rattle.ground.proofs.Parts.{drop-take, between-length, between-byte, parts-join}
 use Rattle.text_places.specs.declared.lines.NextLine.the-variants.{Line}
 use Rattle.text_places.specs.Lines.{crEnd, lines, Taken}
 use Rattle.text_places.specs.inner.NextLine.{toLf, nextLine}
@@ -50,13 +50,6 @@ lf-white = refl
 wide-white : isWhite 0x3000 ≡ true
 unfolding isWhite inRanges whiteRanges
 wide-white = refl
-
--- a part and what stands behind it
-pub part-joins : (s : List ℕ) (at i e : ℕ) → at ≤ i → i ≤ e → between s at e ≡ between s at i ++ between s i e
-part-joins s at i e h l =
-    let size : e - at ≡ i - at + (e - i) = omega arith in
-    let there : at + (i - at) ≡ i = omega arith in
-    rw (size, take-add (i - at) (e - i) (drop at s), drop-drop (i - at) at s, there)
 
 -- The bytes from `at` up to `i` are white space, and none of them ends the line.
 pub record Leading (s : List ℕ) (at i : ℕ) : Type 0 where
@@ -100,7 +93,7 @@ module _ {s : List ℕ} {at i : ℕ} (k : Leading s at i) where
         joined r =
             let o = k .lf .past in
             let cut : i + m - i ≡ m = omega arith in
-            let split : between s at (i + m) ≡ between s at i ++ take m (drop i s) = rw (part-joins s at i (i + m) o (omega arith), cut) in
+            let split : between s at (i + m) ≡ between s at i ++ take m (drop i s) = rw (← parts-join s at i (i + m) o (omega arith), cut) in
             let t = white-headed (drop i s) r e w in
             ap (λ l. trimStart (l ++ r)) split ∙ ap trimStart (append-assoc (between s at i) (take m (drop i s)) r) ∙ k .trims (take m (drop i s) ++ r) ∙ omega arith
 
@@ -271,7 +264,7 @@ module _ {s : List ℕ} {at i : ℕ} (k : Leading s at i) (h : i < length s) (z 
       let o = k .lf .past in
       let p = past-here in
       let n = between-length s at i (omega arith) in
-      let e = ap crEnd (part-joins s at i last o (omega arith)) ∙ cr-behind (between s at i) (between s i last) cr-past in
+      let e = ap crEnd (sym (parts-join s at i last o (omega arith))) ∙ cr-behind (between s at i) (between s i last) cr-past in
       omega arith
 
   -- where the line ends, and where the following one starts
@@ -318,7 +311,7 @@ module _ {s : List ℕ} {at i : ℕ} (k : Leading s at i) (h : i < length s) (z 
   dark-trims : (e : ℕ) → i < e → e ≤ length s → trimStart (between s at e) ≡ i - at
   dark-trims e l u =
       let o = k .lf .past in
-      ap trimStart (part-joins s at i e o (omega arith)) ∙ k .trims (between s i e) ∙ ap (λ x. i - at + x) (dark-cut (drop i s) (e - i) z) ∙ add-zero (i - at)
+      ap trimStart (sym (parts-join s at i e o (omega arith))) ∙ k .trims (between s i e) ∙ ap (λ x. i - at + x) (dark-cut (drop i s) (e - i) z) ∙ add-zero (i - at)
 
   other-here : (getD s i 0 ≡ 0x23 → ⊥) → OpensBy Other s at
   unfolding residualIn

@@ -5,18 +5,18 @@ use mathlib.Core.Bool.{Bool, true, false}
 use mathlib.Core.List.{List, [], _∷_, _++_}
 use Prim.Native.Nat.{ℕ, zero, suc, pred, _+_, _*_, _-_, _≤_, _<_}
 use native.Mathlib.Omega.{arith}
-use lib.Dec.{eqb, ltb}
+use lib.Dec.{eqb}
 use lib.ListN.{length, take, drop, length-take, take-append-drop}
 use lib.Seq.{take-take, drop-at, length-take-le}
 use borrow.Author.Tests.{ltb-false}
-use Rattle.ground.specs.Choice.{pick, both, within}
+use Rattle.ground.specs.Choice.{pick, within}
 use Rattle.text_utf8.specs.declared.sequence.Sequence.{Sequence}
 use Rattle.text_utf8.specs.declared.sequence.Sequence.the-variants.{End, Good, Bad}
-use Rattle.text_utf8.specs.Utf8.{Lead, leadOf, tails, afterLead, sequenceOf, pieces}
+use Rattle.text_utf8.specs.Utf8.{leadOf, tails, afterLead, sequenceOf, pieces}
 use Rattle.text_utf8.proofs.Sequences.{good-fits, end-empty, tails-fit, second-good}
 use Rattle.text_utf8.proofs.Pieces.{pieces-good, pieces-bad}
 use Rattle.text_white.specs.White.{isWhite}
-use Rattle.text_white.specs.Trim.{runOf, allWhite, trimStart, trimEnd, startsWhite, whiteSequence}
+use Rattle.text_white.specs.Trim.{runOf, allWhite, trimStart, trimEnd, whiteSequence}
 use Rattle.text_white.specs.inner.Before.{whiteLength, whiteLengthOf}
 use Rattle.text_white.proofs.TrimLaws.{starts-trimmed}
 

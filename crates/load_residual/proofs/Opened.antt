@@ -26,7 +26,7 @@ use Rattle.line_parts.specs.Fields.{fieldOf}
 use Rattle.line_parts.specs.Methods.{methodOf}
 use Rattle.line.specs.Kinds.{placeFrom, classBy, classAt, methodBy, fieldBy, bySide, memberBy, memberAt, lineOf}
 use Rattle.ground.specs.Look.{Look, unknown}
-use Rattle.load_rule.specs.Comments.{signatureOf, signatureAt, residualBy}
+use Rattle.load_rule.specs.Comments.{signatureAt, residualBy}
 use Rattle.line.proofs.Kinding.{line-comment, line-member, line-class}
 use Rattle.load_residual.specs.inner.Residuals.{bracedGives, hashGives}
 

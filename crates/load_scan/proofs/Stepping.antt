@@ -13,7 +13,7 @@ use borrow.Author.Needs.{needs}
 use Rattle.ground.specs.Choice.{pick}
 use Rattle.ground.specs.Put.{between}
 use Rattle.text_places.specs.declared.lines.NextLine.{NextLine}
-use Rattle.text_places.specs.declared.lines.NextLine.the-variants.{Line, NoLine}
+use Rattle.text_places.specs.declared.lines.NextLine.the-variants.{Line}
 use Rattle.text_places.specs.Lines.{lines, Taken}
 use Rattle.text_places.specs.inner.NextLine.{nextLine}
 use Rattle.text_places.proofs.Taking.{line-taken, none-taken, line-order, line-ends}
@@ -120,13 +120,10 @@ module _ (s : List ℕ) (at classes : ℕ) (member : Bool) {a e n : ℕ} (t : Ta
       go false z c i = fault-there (eqb-false (faultOf classes (lineOf (between s a e))) 0 z)
 
 module _ (s : List ℕ) (at classes : ℕ) (member : Bool) {t : NextLine} (b : t ≡ nextLine s at) where
-  pub step-end : t ≡ NoLine → lines (drop at s) ≡ []
-  step-end q = none-taken s at b q
-
   pub step-next : {a e n : ℕ} → t ≡ Line a e n → (r : Step) → r ≡ stepOf (between s a e) a e n classes member → StepBy r s at classes member
   step-next q r w = rw w (step-there s at classes member (line-taken s at b q))
 
-pub ruleset next-stepping = (step-end, line-order, line-ends, step-next, needs)
+pub ruleset next-stepping = (none-taken, line-order, line-ends, step-next, needs)
 
 -- What it said.
 module _ (s : List ℕ) (at classes : ℕ) (member : Bool) where

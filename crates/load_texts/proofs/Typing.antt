@@ -8,13 +8,11 @@ use lib.ListN.{length, drop, length-append, drop-of-length-le}
 use borrow.Author.Needs.{needs}
 use Rattle.ground.specs.Put.{between}
 use Rattle.ground.proofs.PutLaws.{put-nothing}
-use Rattle.text_utf8.specs.Utf8.{piecesFrom}
-use Rattle.text_white.specs.Trim.{runOf, allWhite, trimEnd}
 use Rattle.line_parts.specs.declared.arguments.NextArgument.{NextArgument}
 use Rattle.line_parts.specs.declared.arguments.NextArgument.the-variants.{Argument, NoArgument}
-use Rattle.line_parts.specs.Arguments.{commaParts, filled, argumentsOf, Splits}
+use Rattle.line_parts.specs.Arguments.{argumentsOf, Splits}
 use Rattle.line_parts.specs.inner.NextArgument.{nextArgument}
-use Rattle.line_parts.proofs.Listed.{arguments-split, arguments-end}
+use Rattle.line_parts.proofs.Listed.{no-arguments, arguments-split, arguments-end}
 use Rattle.table_pool.specs.declared.write.Wrote.{Wrote}
 use Rattle.table_pool.specs.declared.write.Wrote.the-variants.{Done, NoRoom}
 use Rattle.ground.specs.Join.{join}
@@ -53,10 +51,6 @@ pub record Arguing (rows : List (List ℕ)) (index d : List ℕ) (at : ℕ) (s :
 pub arguing-starts : (rows : List (List ℕ)) (index d : List ℕ) (at : ℕ) (s : List ℕ) → Indexed rows d index at → Arguing rows index d at s at 0 d
 unfolding join
 arguing-starts rows index d at s x = record { done = []; split = refl; written = written-nothing d at (x .below .room); indexed = x; same = refl; size = refl }
-
-no-arguments : argumentsOf [] ≡ []
-unfolding commaParts filled runOf trimEnd allWhite piecesFrom
-no-arguments = refl
 
 module _ {rows : List (List ℕ)} {index d : List ℕ} {at : ℕ} {s : List ℕ} {to «from» : ℕ} {d₁ : List ℕ} (k : Arguing rows index d at s to «from» d₁) where
   pub arguing-indexed : Indexed rows d₁ index to

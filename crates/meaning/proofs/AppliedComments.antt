@@ -14,7 +14,6 @@ use Rattle.line.specs.declared.line.Line.{Line}
 use Rattle.line.specs.declared.line.Line.the-variants.{Blank, Comment, Class, Field, Method, Refused}
 use Rattle.line.specs.Kinds.{lineOf}
 use Rattle.tables.specs.Check.{allOf}
-use Rattle.load_rule.specs.declared.Fate.{Fate}
 use Rattle.load_rule.specs.declared.Fate.the-variants as fate
 use Rattle.load_rule.specs.Comments.{signatureAt, residualBy, residualIn}
 use Rattle.load_rule.specs.Fates.{fateNumber, fateOf, memberAfter}

@@ -2,10 +2,9 @@
 use mathlib.Core.Path.{_≡_, sym, _∙_, ap}
 use mathlib.Core.Bool.{Bool, true, false, not}
 use mathlib.Core.List.{List, []}
-use Prim.Native.Nat.{ℕ, _≤_, _<_}
-use native.Mathlib.Omega.{arith}
+use Prim.Native.Nat.{ℕ, _<_}
 use lib.ListN.{length, getD, take}
-use borrow.Author.Tests.{not-true, not-false}
+use borrow.Author.Tests.{not-true}
 use borrow.Author.Needs.{needs}
 use Rattle.ground.proofs.Parts.{prefix-whole}
 use Rattle.table_rows.specs.declared.rows.Class.{Class}
@@ -17,7 +16,7 @@ use Rattle.tables.specs.declared.search.Found.the-variants as row
 use Rattle.tables.specs.Back.{textIn}
 use Rattle.tables.specs.Check.{wellFormed}
 use Rattle.tables.specs.Search.{lastRaw, lastDisplay}
-use Rattle.tables.proofs.Checking.{formed}
+use Rattle.tables.proofs.Checking.{tested-formed, class-rows-lent}
 use Rattle.tables.proofs.Searching.{raw-found, raw-unknown, display-found}
 use Rattle.name_classes.specs.declared.classes.ClassName.{ClassName}
 use Rattle.name_classes.specs.declared.classes.ClassName.the-variants.{Unknown, Malformed}
@@ -38,21 +37,15 @@ module _ (c m : List (List ℕ)) (p : List ℕ) (used : Used) {b : Bool} (w : b 
     mapped-malformed = sym (rw malformed)
 
   module _ (n : not b ≡ false) where
-    well : wellFormed c m p used ≡ true
-    well = sym w ∙ not-false b n
-
-    pub rows-lent : used .classes ≤ length c
-    rows-lent = let k = formed c m p used well .counts .class-rows in omega arith
-
     abbrev rows : List (List ℕ)
     rows = take (used .classes) c
 
     module _ (name : List ℕ) {o : Found} (f : o ≡ lastRaw rows p name) where
       pub display-unknown : o ≡ row.Unknown → Unknown ≡ displayOfClass (tables c m p) used name
-      display-unknown e = sym (rw (well, ← f, e))
+      display-unknown e = sym (rw (tested-formed c m p used w n, ← f, e))
 
       pub mapped-unknown : o ≡ row.Unknown → name ≡ mappedClass (tables c m p) used name
-      mapped-unknown e = sym (rw (well, raw-unknown rows p name (sym f ∙ e)))
+      mapped-unknown e = sym (rw (tested-formed c m p used w n, raw-unknown rows p name (sym f ∙ e)))
 
       module _ {i : ℕ} (e : o ≡ row.Row i) where
         pub raw-inside : i < length rows
@@ -60,24 +53,24 @@ module _ (c m : List (List ℕ)) (p : List ℕ) (used : Used) {b : Bool} (w : b 
 
         module _ {d : Class} (g : d ≡ unpackClass (getD rows i [])) where
           pub display-row : {r : ClassName} → r ≡ foundAt (d .display) → r ≡ displayOfClass (tables c m p) used name
-          display-row h = h ∙ ap (λ x. foundAt (x .display)) g ∙ sym (rw (well, ← f, e))
+          display-row h = h ∙ ap (λ x. foundAt (x .display)) g ∙ sym (rw (tested-formed c m p used w n, ← f, e))
 
           pub mapped-row : {r : List ℕ} → r ≡ textIn p (d .display) → r ≡ mappedClass (tables c m p) used name
-          mapped-row h = h ∙ ap (λ x. textIn p (x .display)) g ∙ sym (rw (well, raw-found rows p name (sym f ∙ e) .1))
+          mapped-row h = h ∙ ap (λ x. textIn p (x .display)) g ∙ sym (rw (tested-formed c m p used w n, raw-found rows p name (sym f ∙ e) .1))
 
     module _ (name : List ℕ) {o : Found} (f : o ≡ lastDisplay rows p name) where
       pub turned-unknown : o ≡ row.Unknown → Unknown ≡ rawOfClass (tables c m p) used name
-      turned-unknown e = sym (rw (well, ← f, e))
+      turned-unknown e = sym (rw (tested-formed c m p used w n, ← f, e))
 
       module _ {i : ℕ} (e : o ≡ row.Row i) where
         pub display-inside : i < length rows
         display-inside = display-found rows p name (sym f ∙ e) .0
 
         pub turned-row : {d : Class} → d ≡ unpackClass (getD rows i []) → {r : ClassName} → r ≡ foundAt (d .raw) → r ≡ rawOfClass (tables c m p) used name
-        turned-row g h = h ∙ ap (λ x. foundAt (x .raw)) g ∙ sym (rw (well, ← f, e))
+        turned-row g h = h ∙ ap (λ x. foundAt (x .raw)) g ∙ sym (rw (tested-formed c m p used w n, ← f, e))
 
-pub ruleset displaying = (prefix-whole, display-malformed, rows-lent, display-unknown, raw-inside, display-row, needs)
+pub ruleset displaying = (prefix-whole, display-malformed, class-rows-lent, display-unknown, raw-inside, display-row, needs)
 
-pub ruleset turning = (prefix-whole, raw-malformed, rows-lent, turned-unknown, display-inside, turned-row, needs)
+pub ruleset turning = (prefix-whole, raw-malformed, class-rows-lent, turned-unknown, display-inside, turned-row, needs)
 
-pub ruleset mapping = (prefix-whole, mapped-malformed, rows-lent, mapped-unknown, raw-inside, mapped-row, needs)
+pub ruleset mapping = (prefix-whole, mapped-malformed, class-rows-lent, mapped-unknown, raw-inside, mapped-row, needs)

@@ -2,12 +2,12 @@
 use mathlib.Core.Path.{_≡_, sym, _∙_, ap}
 use mathlib.Core.Bool.{Bool, true, false, not}
 use mathlib.Core.List.{List, []}
-use Prim.Native.Nat.{ℕ, _≤_, _<_}
+use Prim.Native.Nat.{ℕ, _<_}
 use native.Mathlib.Omega.{arith}
 use lib.ListN.{length, getD, take, length-take}
 use mir.Val.{Fits}
 use mir.Syntax.{w32}
-use borrow.Author.Tests.{not-true, not-false}
+use borrow.Author.Tests.{not-true}
 use borrow.Author.Needs.{needs}
 use Rattle.ground.specs.Choice.{pick}
 use Rattle.ground.proofs.Parts.{prefix-whole}
@@ -22,7 +22,7 @@ use Rattle.tables.specs.declared.search.Found.{Found}
 use Rattle.tables.specs.declared.search.Found.the-variants as row
 use Rattle.tables.specs.Back.{readBack}
 use Rattle.tables.specs.Check.{wellFormed}
-use Rattle.tables.proofs.Checking.{formed}
+use Rattle.tables.proofs.Checking.{tested-formed, class-rows-lent, member-rows-lent}
 use Rattle.name_lines.specs.declared.lines.RawLine.{RawLine}
 use Rattle.name_lines.specs.declared.lines.DisplayLine.{DisplayLine}
 use Rattle.name_lines.specs.declared.lines.LineName.{LineName}
@@ -52,18 +52,9 @@ module _ (a : Asked) (c m : List (List ℕ)) (p : List ℕ) (used : Used) (k : K
   answering-malformed n = sym (rw (sym w ∙ not-true b n))
 
   module _ (n : not b ≡ false) where
-    well : wellFormed c m p used ≡ true
-    well = sym w ∙ not-false b n
-
-    pub class-rows-lent : used .classes ≤ length c
-    class-rows-lent = let h = formed c m p used well .counts .class-rows in omega arith
-
-    pub member-rows-lent : used .members ≤ length m
-    member-rows-lent = let h = formed c m p used well .counts .member-rows in omega arith
-
     module _ {o : Found} (f : o ≡ rowAsked a (readBack (take (used .classes) c) p) k (take (used .members) m) p) where
       pub answering-row : {i : ℕ} → o ≡ row.Row i → answer.Row i ≡ answering a (tables c m p) used k
-      answering-row e = sym (rw (well, sym f ∙ e))
+      answering-row e = sym (rw (tested-formed c m p used w n, sym f ∙ e))
 
       -- a row's number is below a count of 32 bits
       pub row-fits : Fits w32 (used .members) → {i : ℕ} → o ≡ row.Row i → Fits w32 i
@@ -72,7 +63,7 @@ module _ (a : Asked) (c m : List (List ℕ)) (p : List ℕ) (used : Used) (k : K
           omega (arith, length-take (used .members) m)
 
       pub answering-unknown : o ≡ row.Unknown → answer.Unknown ≡ answering a (tables c m p) used k
-      answering-unknown e = sym (rw (well, sym f ∙ e))
+      answering-unknown e = sym (rw (tested-formed c m p used w n, sym f ∙ e))
 
 pub ruleset answers = (prefix-whole, answering-malformed, class-rows-lent, member-rows-lent, answering-row, row-fits, answering-unknown, needs)
 

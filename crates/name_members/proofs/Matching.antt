@@ -8,6 +8,7 @@ use borrow.Author.Tests.{not-true, not-false, eq-eqb, ne-eqb}
 use borrow.Author.Needs.{needs}
 use Rattle.ground.specs.Choice.{both}
 use Rattle.ground.specs.Look.{Look, known}
+use Rattle.ground.proofs.Cases.{both-false}
 use Rattle.text_places.specs.Places.{same}
 use Rattle.table_rows.specs.declared.rows.Class.{Class}
 use Rattle.table_rows.specs.declared.rows.Member.{Member}
@@ -70,10 +71,6 @@ field-sought Field d = refl
 field-sought Method d = refl
 field-sought Own d = refl
 field-sought (OwnLine n) d = refl
-
-both-false : (a : Bool) → both a false ≡ false
-both-false true = refl
-both-false false = refl
 
 both-true : (a : Bool) → both a true ≡ a
 both-true true = refl

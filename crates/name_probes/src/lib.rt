@@ -6,8 +6,8 @@ use name_members::Asked;
 use table_rows::ClassRow;
 use table_rows::MemberRow;
 use tables::Found;
-use tables::Used;
 use tables::last_with_raw;
+use tables::used_of;
 use tables::well_formed;
 ghost use mathlib.Core.Path.{_≡_};
 ghost use Prim.Native.Nat.{_≤_};
@@ -15,20 +15,11 @@ ghost use lib.ListN.{length};
 ghost use Rattle.table_rows.specs.Rows.{mostMembers};
 ghost use Rattle.table_rows.specs.Tables.{tables};
 ghost use Rattle.tables.specs.Back.{readBack};
+ghost use Rattle.tables.specs.Check.{usedBy};
 ghost use Rattle.name_rule.specs.MemberNames.{key};
 ghost use Rattle.name_members.specs.declared.rows.Asked.the-variants.{Method};
 ghost use Rattle.name_members.specs.MemberAnswers.{rowAsked, answering};
-ghost use Rattle.name_probes.specs.Answers.{countsBy, rowNumber, answerNumber};
-
-fn counts_of(used: [u32; 3]) -> Used
-    ensures { λ r. ⌜ r ≡ countsBy used ⌝ }
-{
-    Used {
-        classes: used[0],
-        members: used[1],
-        pool: used[2],
-    }
-}
+ghost use Rattle.name_probes.specs.Answers.{rowNumber, answerNumber};
 
 fn row_number(found: Found) -> u64
     ensures { λ r. ⌜ r ≡ rowNumber found ⌝ }
@@ -85,9 +76,9 @@ pub extern "C" fn clumarief_probe_method_row(
     ensures { λ r.
         let lent = tables (now (classes .entry)) (now (members .entry)) (now (pool .entry)) in
         let k = key (now (owner .entry)) (now (name .entry)) (now (descriptor .entry)) in
-        ⌜ r ≡ answerNumber (answering Method lent (countsBy (now (used .entry))) k) ⌝ }
+        ⌜ r ≡ answerNumber (answering Method lent (usedBy (now (used .entry))) k) ⌝ }
 {
-    let counts = counts_of(*used);
+    let counts = used_of(*used);
     if !well_formed(classes, members, pool, counts) {
         return 0;
     }

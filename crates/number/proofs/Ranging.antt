@@ -31,14 +31,14 @@ module _ (s : List ℕ) {p : Place} (e : p ≡ firstColon s) where
   lead-no-colon g = sym (rw (sym e ∙ g))
 
   module _ {first : ℕ} (g : p ≡ At first) where
-    pub lead-inside : first < length s
-    lead-inside = first-inside (starts 0x3A) s (sym e ∙ g)
+    pub colon-inside : first < length s
+    colon-inside = first-inside (starts 0x3A) s (sym e ∙ g)
 
     pub lead-after-fits : length s < 2 ^ 64 → Fits w64 (first + 1)
-    lead-after-fits b = let i = lead-inside in omega arith
+    lead-after-fits b = let i = colon-inside in omega arith
 
     pub lead-after : first + 1 ≤ length s
-    lead-after = let i = lead-inside in omega arith
+    lead-after = let i = colon-inside in omega arith
 
     module _ {q : Place} (f : q ≡ firstColon (between s (first + 1) (length s))) where
       second : q ≡ firstColon (drop (first + 1) s)
@@ -78,7 +78,7 @@ module _ (s : List ℕ) {p : Place} (e : p ≡ firstColon s) where
             lead-taken w = sym (whole ∙ rw (sym a ∙ y, sym other ∙ w))
 
 pub ruleset leading =
-    (lead-no-colon, lead-inside, prefix-size, lead-after-fits, lead-after, lead-one-colon, lead-reaches, lead-fits, lead-rest-fits, lead-first-unread, lead-second-unread, lead-taken, needs)
+    (lead-no-colon, colon-inside, prefix-size, lead-after-fits, lead-after, lead-one-colon, lead-reaches, lead-fits, lead-rest-fits, lead-first-unread, lead-second-unread, lead-taken, needs)
 
 -- What is left starts right behind a colon.
 pub record Behind (s : List ℕ) (rest : ℕ) : Type 0 where
@@ -122,9 +122,6 @@ module _ (s : List ℕ) {p : Place} (e : p ≡ firstColon s) where
   module _ {i : ℕ} (g : p ≡ At i) where
     pub colon-cut : take i s ≡ toColon s
     colon-cut = sym (rw (sym e ∙ g))
-
-    pub colon-inside : i < length s
-    colon-inside = first-inside (starts 0x3A) s (sym e ∙ g)
 
 pub ruleset to-colon = (colon-none, colon-cut, colon-inside, prefix-size, needs)
 

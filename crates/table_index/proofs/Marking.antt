@@ -1,7 +1,7 @@
 -- Marks of descriptors, and the code that computes them. Assumes nothing.
 use mathlib.Core.Path.{_≡_, refl, sym, _∙_, ap}
 use mathlib.Core.Bool.{Bool, true, false}
-use mathlib.Core.List.{List, [], _∷_, map-id}
+use mathlib.Core.List.{List, [], _∷_}
 use Prim.Native.Nat.{ℕ, _+_, _*_, _/_, _%_, _-_, _≤_, _<_}
 use native.Mathlib.Nat.{mod-lt, zero-add}
 use native.Mathlib.Omega.{arith}
@@ -17,12 +17,9 @@ use Rattle.table_index.specs.declared.forms.NameForm.{NameForm}
 use Rattle.table_index.specs.declared.forms.NameForm.the-variants.{Whole, Piece}
 use Rattle.table_index.specs.inner.Forms.{spelled}
 use Rattle.table_index.specs.inner.Marks.{markCount, fourAt, fewBytes, mixed, manyMark, markFrom, markOf, marksOf}
-use Rattle.table_pool.proofs.Naming.{name-byte, name-length}
+use Rattle.table_pool.proofs.Naming.{name-byte, name-length, name-plain}
 
 -- a byte of a name
-plain-name : (s : List ℕ) → nameBytes false s ≡ s
-plain-name s = map-id s
-
 pub four-told : (dots : Bool) (s : List ℕ) (at : ℕ) {w x y z : ℕ} →
     w ≡ slashIf dots (getD s at 0) → x ≡ slashIf dots (getD s (at + 1) 0) →
     y ≡ slashIf dots (getD s (at + 2) 0) → z ≡ slashIf dots (getD s (at + 3) 0) →
@@ -83,7 +80,7 @@ module _ (start : ℕ) (s : List ℕ) where
   pub plain-short : length s < 4 → {x y : ℕ} → x ≡ fewBytes (nameBytes false s) → y ≡ mixed (start + length s % markCount) x 0 0 0 →
       y ≡ markFrom start s
   plain-short h e f =
-      f ∙ ap (λ x. mixed (start + length s % markCount) x 0 0 0) (e ∙ ap fewBytes (plain-name s)) ∙ short-text h
+      f ∙ ap (λ x. mixed (start + length s % markCount) x 0 0 0) (e ∙ ap fewBytes (name-plain s)) ∙ short-text h
 
   pub plain-long : 4 ≤ length s → {n a b c d y : ℕ} → n ≡ length s - 4 - 8 →
       a ≡ fourAt s 0 → b ≡ fourAt s n → c ≡ fourAt s ((n + (length s - 4)) / 2) → d ≡ fourAt s (length s - 4) →

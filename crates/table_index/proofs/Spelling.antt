@@ -14,7 +14,7 @@ use borrow.Author.Tests.{le-leb, lt-leb, leb-true, leb-false}
 use borrow.Author.Needs.{needs}
 use Rattle.ground.proofs.Cases.{le-or-lt}
 use Rattle.text_places.specs.Places.{same}
-use Rattle.text_places.proofs.PlaceLaws.{matching-uneven, same-equal, same-refl}
+use Rattle.text_places.proofs.PlaceLaws.{matching-uneven, unlike-at, same-refl}
 use Rattle.table_pool.specs.inner.Named.{slashIf, nameBytes, classPiece}
 use Rattle.table_pool.proofs.Naming.{name-length, name-byte}
 use Rattle.table_index.specs.declared.texts.Order.{Order}
@@ -142,14 +142,6 @@ module _ (a name : List ℕ) {form : NameForm} {o : Order} where
 
 pub ruleset naming = (named-whole, named-piece, needs)
 
--- Texts that differ at a place.
-differs-at : (s t : List ℕ) (i : ℕ) → (getD s i 0 ≡ getD t i 0 → ⊥) → false ≡ same s t
-differs-at s t i n = go (same s t) refl
-  where
-    go : (b : Bool) → same s t ≡ b → false ≡ b
-    go true e = absurd (n (ap (λ l. getD l i 0) (same-equal s t e)))
-    go false e = refl
-
 module _ (text name : List ℕ) (dots : Bool) where
   pub is-short : length text < 2 → false ≡ same text (classPiece dots name)
   is-short h = matching-uneven text (classPiece dots name) (λ e. let b = piece-length dots name in omega arith)
@@ -184,7 +176,7 @@ module _ (text name : List ℕ) (dots : Bool) where
               let up : 1 + k ≡ suc k = omega arith in
               let here : getD (classPiece dots name) (1 + k) 0 ≡ x =
               ap (λ j. getD (classPiece dots name) j 0) up ∙ inner-byte dots name k h ∙ sym f in
-              differs-at text (classPiece dots name) (1 + k) (λ g. n (g ∙ here))
+              unlike-at text (classPiece dots name) (1 + k) (λ g. n (g ∙ here))
 
           pub alike-more : getD text (1 + k) 0 ≡ x → AlikeTo text 1 name dots (k + 1)
           alike-more g = record { in-text = omega arith; in-name = omega arith; each = λ j l. go j l (le-or-lt k j) }
@@ -195,13 +187,13 @@ module _ (text name : List ℕ) (dots : Bool) where
 
         module _ (z : length name ≤ k) where
           pub other-letter : (getD text 0 0 ≡ 0x4C → ⊥) → false ≡ same text (classPiece dots name)
-          other-letter n = differs-at text (classPiece dots name) 0 n
+          other-letter n = unlike-at text (classPiece dots name) 0 n
 
           last-is : getD (classPiece dots name) (length name + 1) 0 ≡ 0x3B
           last-is = let up : length name + 1 ≡ suc (length name) = omega arith in rw up (last-byte dots name)
 
           pub other-end : (getD text (length name + 1) 0 ≡ 0x3B → ⊥) → false ≡ same text (classPiece dots name)
-          other-end n = differs-at text (classPiece dots name) (length name + 1) (λ g. n (g ∙ last-is))
+          other-end n = unlike-at text (classPiece dots name) (length name + 1) (λ g. n (g ∙ last-is))
 
           pub is-same : getD text 0 0 ≡ 0x4C → getD text (length name + 1) 0 ≡ 0x3B → true ≡ same text (classPiece dots name)
           is-same f l = sym (ap (λ t. same t (classPiece dots name)) equal ∙ same-refl (classPiece dots name))

@@ -1,7 +1,7 @@
 -- Names and class pieces, written into the pool. Assumes nothing.
 use mathlib.Core.Path.{_≡_, refl, sym, _∙_, ap}
 use mathlib.Core.Bool.{Bool, true, false}
-use mathlib.Core.List.{List, [], _∷_, _++_}
+use mathlib.Core.List.{List, [], _∷_, _++_, map-id}
 use Prim.Native.Nat.{ℕ, _+_, _-_, _^_, _≤_, _<_}
 use native.Mathlib.Omega.{arith}
 use lib.ListN.{length, getD, set, replicate, length-map, List·getD-map}
@@ -40,6 +40,9 @@ pub ruleset storing = (stored-slash, stored-plain, needs)
 
 pub name-length : (dots : Bool) (s : List ℕ) → length (nameBytes dots s) ≡ length s
 name-length dots s = length-map s (slashIf dots)
+
+pub name-plain : (s : List ℕ) → nameBytes false s ≡ s
+name-plain s = map-id s
 
 pub name-byte : (dots : Bool) (s : List ℕ) (k : ℕ) → getD (nameBytes dots s) k 0 ≡ slashIf dots (getD s k 0)
 name-byte dots s k = ap (getD (nameBytes dots s) k) (sym (zero-stays dots)) ∙ List·getD-map (slashIf dots) s k 0

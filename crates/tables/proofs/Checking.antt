@@ -1,6 +1,6 @@
 -- What the check for 14 says, as plain facts, and the other way: rows that are fine are well formed. Assumes nothing.
 use mathlib.Core.Path.{_≡_, refl, sym, _∙_, ap}
-use mathlib.Core.Bool.{Bool, true}
+use mathlib.Core.Bool.{Bool, true, false, not}
 use mathlib.Core.List.{List, [], _∷_, _++_}
 use Prim.Native.Nat.{ℕ, zero, suc, _+_, _≤_, _<_, min}
 use native.Mathlib.Nat.{le-of-suc-le-suc, not-suc-le-zero}
@@ -8,10 +8,9 @@ use native.Mathlib.Omega.{arith}
 use lib.Dec.{leb, ltb}
 use lib.ListN.{length, getD, take}
 use lib.Seq.{getD-take, length-take-le, take-at}
-use borrow.Author.Tests.{le-leb, lt-ltb, leb-true, ltb-true}
+use borrow.Author.Tests.{le-leb, lt-ltb, leb-true, ltb-true, not-false}
 use Rattle.ground.specs.Choice.{both}
 use Rattle.ground.proofs.Cases.{both-left, both-right}
-use Rattle.text_utf8.specs.declared.check.Check.{Check}
 use Rattle.text_utf8.specs.declared.check.Check.the-variants.{Valid}
 use Rattle.text_utf8.specs.Utf8.{checkOf, isUtf8}
 use Rattle.text_utf8.proofs.Checking.{valid-told}
@@ -190,3 +189,14 @@ pub well-formed-rows : (cs c′ ms m′ : List (List ℕ)) (pool : List ℕ) (us
     wellFormed (cs ++ c′) (ms ++ m′) pool used ≡ true
 well-formed-rows cs c′ ms m′ pool used e f k c m =
     well-formed (cs ++ c′) (ms ++ m′) pool used k (rw (take-at cs c′ (used .classes) e) c) (rw (take-at ms m′ (used .members) f) m)
+
+-- after the code's own test: the rows that are counted are lent
+module _ (classes members : List (List ℕ)) (pool : List ℕ) (used : Used) {b : Bool} (e : b ≡ wellFormed classes members pool used) (n : not b ≡ false) where
+  pub tested-formed : wellFormed classes members pool used ≡ true
+  tested-formed = sym e ∙ not-false b n
+
+  pub class-rows-lent : used .classes ≤ length classes
+  class-rows-lent = let k = formed classes members pool used tested-formed .counts .class-rows in omega arith
+
+  pub member-rows-lent : used .members ≤ length members
+  member-rows-lent = let k = formed classes members pool used tested-formed .counts .member-rows in omega arith

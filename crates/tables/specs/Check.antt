@@ -4,7 +4,7 @@ use mathlib.Core.Bool.{Bool, true}
 use mathlib.Core.List.{List, [], _∷_}
 use Prim.Native.Nat.{ℕ, _+_, min}
 use lib.Dec.{leb, ltb}
-use lib.ListN.{length, take}
+use lib.ListN.{length, getD, take}
 use Rattle.ground.specs.Choice.{both}
 use Rattle.text_utf8.specs.Utf8.{isUtf8}
 use Rattle.table_rows.specs.declared.rows.Text.{Text}
@@ -12,6 +12,10 @@ use Rattle.table_rows.specs.declared.rows.Member.{Member}
 use Rattle.tables.specs.declared.check.Used.{Used}
 use Rattle.table_rows.specs.Rows.{unpackClass, unpackMember, flagOf, mostClasses, mostMembers, mostPool}
 use Rattle.tables.specs.Back.{textIn}
+
+-- what is used, as C lends it: "class rows, member rows, pool bytes"
+abbrev pub usedBy : List ℕ → Used
+usedBy n = record { classes = getD n 0 0; members = getD n 1 0; pool = getD n 2 0 }
 
 -- a test holds of every element
 unfoldable pub allOf : {A : Type 0} → (A → Bool) → List A → Bool

@@ -15,13 +15,24 @@ use text_utf8::ascii_start;
 use text_utf8::is_utf8;
 ghost use mathlib.Core.Path.{_≡_};
 ghost use Rattle.text_utf8.specs.inner.Runs.{AsciiTo};
-ghost use Rattle.tables.specs.Check.{textFine, classFine, numbersFine, textsFine, memberFine, allOf, countsFine, wellFormed};
+ghost use Rattle.tables.specs.Check.{usedBy, textFine, classFine, numbersFine, textsFine, memberFine, allOf, countsFine, wellFormed};
 
 // How many class rows, member rows and pool bytes are used.
 pub struct Used {
     pub classes: u32,
     pub members: u32,
     pub pool: u32,
+}
+
+// The same, as C lends it.
+pub fn used_of(used: [u32; 3]) -> Used
+    ensures { λ r. ⌜ r ≡ usedBy used ⌝ }
+{
+    Used {
+        classes: used[0],
+        members: used[1],
+        pool: used[2],
+    }
 }
 
 // A text does not reach past the used pool, and is UTF-8. The pool is ASCII up to the place `ascii`: a text that ends there is not read.

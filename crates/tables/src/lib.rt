@@ -4,6 +4,7 @@ mod search;
 mod texts;
 
 pub use check::Used;
+pub use check::used_of;
 pub use check::well_formed;
 pub use search::Found;
 pub use search::Side;

@@ -149,8 +149,3 @@ module _ (s reach : List ℕ) (start e : ℕ) (r : Reached s reach) (p : LongPar
               y ∙ ap (λ i. endsWell s i e) (q ∙ told) ∙ sym (ends-told s (valid-extends s fresh fresh-inside) e fresh-before part-inside) ∙ rest
 
 pub ruleset long-parts = (place-inside, part-order, part-inside, group-fits, place-fits, group-inside, four-tails, fresh-order, fresh-inside, fresh-fits, start-broken, reach-inside, by-table, needs)
-
-pub long-part : (s : List ℕ) (start e : ℕ) → e ≤ length s → 256 < e - start → LongPart s start e
-long-part s start e i l = record { long = l; inside = i }
-
-pub ruleset parts = (long-part, needs)

@@ -6,12 +6,12 @@ use mathlib.Core.Logic.{_⊎_, inl, inr}
 use Prim.Native.Nat.{ℕ, zero, suc, _+_, _-_, _≤_, _<_}
 use native.Mathlib.Omega.{arith}
 use lib.ListN.{length, getD, take, drop, length-take, length-drop, take-append-drop}
-use lib.Seq.{drop-drop, take-add, take-nil, drop-cons}
+use lib.Seq.{drop-drop, take-nil, drop-cons}
 use borrow.Author.Tests.{lt-ltb, le-ltb, eq-eqb, ne-eqb}
 use Rattle.ground.specs.Abnf.{none, more}
 use Rattle.ground.specs.Put.{between}
 use Rattle.ground.proofs.Cases.{le-or-lt, clash}
-use Rattle.ground.proofs.Parts.{take-rest}
+use Rattle.ground.proofs.Parts.{take-rest, parts-join}
 use Rattle.text_utf8.specs.declared.check.Check.{Check}
 use Rattle.text_utf8.specs.declared.check.Check.the-variants.{Valid, Broken}
 use Rattle.text_utf8.specs.Grammar.{UTF8-char, UTF8-octets}
@@ -31,12 +31,6 @@ utf8-no s n = go (isUtf8 s) refl
 
 -- Parts of a text.
 module _ (s : List ℕ) where
-  pub between-split : (a m e : ℕ) → a ≤ m → m ≤ e → between s a e ≡ between s a m ++ between s m e
-  between-split a m e h k =
-      let n : e - a ≡ (m - a) + (e - m) = omega arith in
-      let z : a + (m - a) ≡ m = omega arith in
-      rw n (take-add (m - a) (e - m) (drop a s) ∙ ap (λ l. take (m - a) (drop a s) ++ take (e - m) l) (drop-drop (m - a) a s ∙ ap (λ i. drop i s) z))
-
   -- a part that is not empty begins as the text does there
   first-taken : (l : List ℕ) (n : ℕ) → 0 < n → Fresh l → Fresh (take n l)
   first-taken [] n h f = fresh-as (sym (take-nil n)) at-end
@@ -55,13 +49,13 @@ module _ (s : List ℕ) where
 
   -- it may be cut where a sequence may begin
   pub part-cut : (a m e : ℕ) → a ≤ m → m ≤ e → Fresh (drop m s) → UTF8-octets (between s a e) → UTF8-octets (between s a m) × UTF8-octets (between s m e)
-  part-cut a m e h k f o = cut-octets (between s a m) (between s m e) (part-fresh m e k f) (octets-as (between-split a m e h k) o)
+  part-cut a m e h k f o = cut-octets (between s a m) (between s m e) (part-fresh m e k f) (octets-as (sym (parts-join s a m e h k)) o)
 
   pub part-join : (a m e : ℕ) → a ≤ m → m ≤ e → UTF8-octets (between s a m) → UTF8-octets (between s m e) → UTF8-octets (between s a e)
-  part-join a m e h k o w = octets-as (sym (between-split a m e h k)) (append-octets o w)
+  part-join a m e h k o w = octets-as (parts-join s a m e h k) (append-octets o w)
 
   part-rest : (a m e : ℕ) → a ≤ m → m ≤ e → UTF8-octets (between s a m) → UTF8-octets (between s a e) → UTF8-octets (between s m e)
-  part-rest a m e h k o w = rest-octets o (between s m e) (octets-as (between-split a m e h k) w)
+  part-rest a m e h k o w = rest-octets o (between s m e) (octets-as (sym (parts-join s a m e h k)) w)
 
   part-size : (m e : ℕ) → m ≤ e → e ≤ length s → length (between s m e) ≡ e - m
   part-size m e h k = omega (arith, length-take (e - m) (drop m s), length-drop m s)

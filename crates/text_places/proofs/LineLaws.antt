@@ -101,14 +101,14 @@ module _ {l : List ℕ} {«end» : ℕ} (k : CrEnd l «end») where
   cr-all h = let z : «end» ≡ 0 = omega arith in z ∙ (rw z at (k .decides))
 
   module _ (h : 0 < «end») where
-    last-inside : «end» - 1 < length l
-    last-inside = let i = k .inside in omega arith
+    pub cr-inside : «end» - 1 < length l
+    cr-inside = let i = k .inside in omega arith
 
     by-last : crEnd l ≡ pick (eqb (getD l («end» - 1) 0) 0x0D) (crEnd (take («end» - 1) l)) «end»
     by-last =
         let up : «end» ≡ suc («end» - 1) = omega arith in
         let size : suc (length (take («end» - 1) l)) ≡ «end» = rw length-take (let i = k .inside in omega arith) in
-        let cut : take «end» l ≡ take («end» - 1) l ++ (getD l («end» - 1) 0 ∷ []) = ap (λ n. take n l) up ∙ take-suc l («end» - 1) 0 last-inside in
+        let cut : take «end» l ≡ take («end» - 1) l ++ (getD l («end» - 1) 0 ∷ []) = ap (λ n. take n l) up ∙ take-suc l («end» - 1) 0 cr-inside in
         sym (k .decides) ∙ ap crEnd cut ∙ cr-last (take («end» - 1) l) (getD l («end» - 1) 0)
         ∙ ap (λ n. pick (eqb (getD l («end» - 1) 0) 0x0D) (crEnd (take («end» - 1) l)) n) size
 
@@ -120,9 +120,6 @@ module _ {l : List ℕ} {«end» : ℕ} (k : CrEnd l «end») where
       inside = let i = k .inside in omega arith;
       decides = sym (rw (eq-eqb (getD l («end» - 1) 0) 0x0D e) at by-last);
     }
-
-    pub cr-inside : «end» - 1 < length l
-    cr-inside = last-inside
 
 pub ruleset cr-ending = (cr-starts, cr-all, cr-other, cr-more, cr-inside, needs)
 

@@ -1,5 +1,5 @@
 -- First and last places, and texts that are the same. Assumes nothing.
-use mathlib.Core.Path.{_≡_, refl, sym}
+use mathlib.Core.Path.{_≡_, refl, sym, _∙_, ap}
 use mathlib.Core.Bool.{Bool, true, false}
 use mathlib.Core.List.{List, [], _∷_}
 use Prim.Native.Nat.{ℕ, zero, suc, _+_, _-_, _^_, _≤_, _<_}
@@ -14,7 +14,9 @@ use mir.Val.{Fits}
 use mir.Syntax.{w64}
 use mathlib.Core.Logic.{_⊎_, inl, inr}
 use Rattle.ground.specs.Choice.{pick, both}
-use Rattle.ground.proofs.Cases.{clash, both-left, both-right, le-or-lt}
+use Rattle.ground.specs.Put.{between}
+use Rattle.ground.proofs.Cases.{clash, both-left, both-right, le-or-lt, both-false}
+use Rattle.ground.proofs.Parts.{take-rest}
 use Rattle.text_places.specs.declared.find.Place.{Place}
 use Rattle.text_places.specs.declared.find.Place.the-variants.{At, Nowhere}
 use Rattle.text_places.specs.Places.{placeNumber, firstFrom, firstWhere, lastFrom, lastWhere, orElse, starts, startsPair, same}
@@ -160,11 +162,7 @@ module _ (a b : ℕ) (s : List ℕ) (at : ℕ) (h : at + 1 < length s) where
 
 pub no-pair : (a b : ℕ) (l : List ℕ) → length l ≤ 1 → startsPair a b l ≡ false
 no-pair a b [] h = refl
-no-pair a b (x ∷ []) h = go (eqb x a)
-  where
-    go : (t : Bool) → both t false ≡ false
-    go true = refl
-    go false = refl
+no-pair a b (x ∷ []) h = both-false (eqb x a)
 no-pair a b (x ∷ (y ∷ l)) h = absurd (omega arith)
 
 module _ {a b : ℕ} {s : List ℕ} {at : ℕ} (k : Seeking (startsPair a b) s at) where
@@ -183,55 +181,15 @@ module _ {a b : ℕ} {s : List ℕ} {at : ℕ} (k : Seeking (startsPair a b) s a
 
 pub ruleset pairing = (seeking-starts, pair-ends, pair-more, pair-found, pair-here, pair-first-other, pair-second-other, needs)
 
--- The same bytes.
-pub record Matching (s t : List ℕ) (i : ℕ) : Type 0 where
-  pub even : length s ≡ length t
-  pub inside : i ≤ length s
-  pub decides : same (drop i s) (drop i t) ≡ same s t
+-- A byte that is looked for from a place on.
+module _ (b : ℕ) (text : List ℕ) (at : ℕ) where
+  pub from-here : {p : Place} → p ≡ firstWhere (starts b) (between text at (length text)) → p ≡ firstWhere (starts b) (drop at text)
+  from-here e = rw (take-rest text at) at e
 
-pub matching-starts : {s t : List ℕ} → length s ≡ length t → Matching s t 0
-matching-starts e = record { even = e; inside = omega arith; decides = refl }
-
-same-length : (s t : List ℕ) → same s t ≡ true → length s ≡ length t
-unfolding same
-same-length [] [] e = refl
-same-length [] (y ∷ t) e = clash e refl
-same-length (x ∷ s) [] e = clash e refl
-same-length (x ∷ s) (y ∷ t) e = rw (same-length s t (both-right (eqb x y) (same s t) e))
-
-pub matching-uneven : (s t : List ℕ) → (length s ≡ length t → ⊥) → false ≡ same s t
-matching-uneven s t n = go (same s t) refl
-  where
-    go : (b : Bool) → same s t ≡ b → false ≡ b
-    go true e = absurd (n (same-length s t e))
-    go false e = refl
-
-module _ {s t : List ℕ} {i : ℕ} (k : Matching s t i) where
-  pub matching-ends : length s ≤ i → true ≡ same s t
-  unfolding same
-  matching-ends h =
-      let g : length t ≤ i = let e = k .even in omega arith in
-      rw (drop-of-length-le s h, drop-of-length-le t g) at (k .decides)
-
-  module _ (h : i < length s) where
-    both-here : same (drop i s) (drop i t) ≡ both (eqb (getD s i 0) (getD t i 0)) (same (drop (suc i) s) (drop (suc i) t))
-    unfolding same
-    both-here = rw (drop-cons s i 0 h, drop-cons t i 0 (let e = k .even in omega arith))
-
-    pub matching-differs : (getD s i 0 ≡ getD t i 0 → ⊥) → false ≡ same s t
-    matching-differs n = rw (both-here, ne-eqb (getD s i 0) (getD t i 0) n) at (k .decides)
-
-    pub matching-more : getD s i 0 ≡ getD t i 0 → Matching s t (i + 1)
-    matching-more e = record {
-      even = k .even;
-      inside = omega arith;
-      decides = rw add-one (rw (both-here, eq-eqb (getD s i 0) (getD t i 0) e) at (k .decides));
-    }
-
-    pub matching-inside : i < length t
-    matching-inside = let e = k .even in omega arith
-
-pub ruleset matching = (matching-starts, matching-uneven, matching-ends, matching-differs, matching-more, matching-inside, needs)
+  pub from-inside : at ≤ length text → {p : Place} → p ≡ firstWhere (starts b) (between text at (length text)) →
+      {n : ℕ} → p ≡ At n → at + n < length text
+  from-inside i e f =
+      let j = first-inside (starts b) (drop at text) (sym (from-here e) ∙ f) in omega (arith, length-drop at text)
 
 -- two texts are the same exactly where they are equal
 pub same-equal : (s t : List ℕ) → same s t ≡ true → s ≡ t
@@ -248,6 +206,55 @@ pub same-refl : (s : List ℕ) → same s s ≡ true
 unfolding same
 same-refl [] = refl
 same-refl (x ∷ s) = rw (eq-eqb x x refl) (same-refl s)
+
+pub unlike : (s t : List ℕ) → (s ≡ t → ⊥) → false ≡ same s t
+unlike s t n = go (same s t) refl
+  where
+    go : (b : Bool) → same s t ≡ b → false ≡ b
+    go true e = absurd (n (same-equal s t e))
+    go false e = refl
+
+pub unlike-at : (s t : List ℕ) (i : ℕ) → (getD s i 0 ≡ getD t i 0 → ⊥) → false ≡ same s t
+unlike-at s t i n = unlike s t (λ e. n (ap (λ l. getD l i 0) e))
+
+-- The same bytes.
+pub record Matching (s t : List ℕ) (i : ℕ) : Type 0 where
+  pub even : length s ≡ length t
+  pub inside : i ≤ length s
+  pub decides : same (drop i s) (drop i t) ≡ same s t
+
+pub matching-starts : {s t : List ℕ} → length s ≡ length t → Matching s t 0
+matching-starts e = record { even = e; inside = omega arith; decides = refl }
+
+pub matching-uneven : (s t : List ℕ) → (length s ≡ length t → ⊥) → false ≡ same s t
+matching-uneven s t n = unlike s t (λ e. n (ap length e))
+
+module _ {s t : List ℕ} {i : ℕ} (k : Matching s t i) where
+  pub matching-ends : length s ≤ i → true ≡ same s t
+  unfolding same
+  matching-ends h =
+      let g : length t ≤ i = let e = k .even in omega arith in
+      rw (drop-of-length-le s h, drop-of-length-le t g) at (k .decides)
+
+  module _ (h : i < length s) where
+    both-here : same (drop i s) (drop i t) ≡ both (eqb (getD s i 0) (getD t i 0)) (same (drop (suc i) s) (drop (suc i) t))
+    unfolding same
+    both-here = rw (drop-cons s i 0 h, drop-cons t i 0 (let e = k .even in omega arith))
+
+    pub matching-differs : (getD s i 0 ≡ getD t i 0 → ⊥) → false ≡ same s t
+    matching-differs n = unlike-at s t i n
+
+    pub matching-more : getD s i 0 ≡ getD t i 0 → Matching s t (i + 1)
+    matching-more e = record {
+      even = k .even;
+      inside = omega arith;
+      decides = rw add-one (rw (both-here, eq-eqb (getD s i 0) (getD t i 0) e) at (k .decides));
+    }
+
+    pub matching-inside : i < length t
+    matching-inside = let e = k .even in omega arith
+
+pub ruleset matching = (matching-starts, matching-uneven, matching-ends, matching-differs, matching-more, matching-inside, needs)
 
 -- The number of a place: one more than the place.
 pub place-fits : {o : Place} {i : ℕ} → o ≡ At i → placeNumber o < 2 ^ 64 → Fits w64 (i + 1)

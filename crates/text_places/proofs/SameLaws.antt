@@ -14,7 +14,7 @@ use Rattle.ground.specs.Choice.{pick}
 use Rattle.ground.proofs.Cases.{le-or-lt, clash}
 use Rattle.text_places.specs.Places.{same}
 use Rattle.text_places.specs.inner.Differing.{differs}
-use Rattle.text_places.proofs.PlaceLaws.{same-equal, matching-uneven}
+use Rattle.text_places.proofs.PlaceLaws.{unlike, matching-uneven}
 
 -- One byte more.
 module _ (b : Bool) (x y : ℕ) where
@@ -85,14 +85,8 @@ pub agreeing-starts : {s t : List ℕ} → length s ≡ length t → Agreeing s 
 agreeing-starts e = record { even = e; each = λ k h. absurd (omega arith) }
 
 pub block-unlike : (s t : List ℕ) (at size : ℕ) {d : Bool} → d ≡ differs s t at size → d ≡ true → false ≡ same s t
-block-unlike s t at size e f = go (same s t) refl
-  where
-    go : (b : Bool) → same s t ≡ b → false ≡ b
-    go true q =
-        let z : s ≡ t = same-equal s t q in
-        let none : differs s t at size ≡ false = ap (λ x. differs s x at size) (sym z) ∙ differs-self s at size in
-        clash (sym e ∙ f) none
-    go false q = refl
+block-unlike s t at size e f =
+    unlike s t (λ z. clash (sym e ∙ f) (ap (λ x. differs s x at size) (sym z) ∙ differs-self s at size))
 
 module _ {s t : List ℕ} {at : ℕ} (a : Agreeing s t at) where
   -- a block from a place that is passed or just reached

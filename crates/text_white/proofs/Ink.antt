@@ -59,11 +59,8 @@ module _ (s : List ℕ) (at : ℕ) where
     pub ink-reads : ink (getD s at 0) ≡ true → sequenceOf (drop at s) ≡ Good (getD s at 0) 1
     ink-reads i = let w = within-both 0x21 0x7F (getD s at 0) i .1 in sym (sequence-ascii s at h (omega arith))
 
-    pub white-ink : {r : Bool} → r ≡ ink (getD s at 0) → r ≡ true → false ≡ startsWhite (drop at s)
-    white-ink i t = let y = sym i ∙ t in rw (ink-reads y, ink-dark (getD s at 0) y)
-
     pub ink-passed : {r : Bool} → r ≡ ink (getD s at 0) → r ≡ true → startsWhite (drop at s) ≡ false
-    ink-passed i t = sym (white-ink i t)
+    ink-passed i t = let y = sym i ∙ t in rw (ink-reads y, ink-dark (getD s at 0) y)
 
     pub run-ink : {r : Bool} → Running isWhite s at → r ≡ ink (getD s at 0) → r ≡ true → at ≡ runOf isWhite (pieces s)
     run-ink k i t = let y = sym i ∙ t in run-stops k (sym (ink-reads y)) refl (ink-dark (getD s at 0) y)
@@ -75,7 +72,7 @@ module _ (s : List ℕ) (at : ℕ) where
     pub run-space : Running isWhite s at → getD s at 0 ≡ 0x20 → Running isWhite s (at + 1)
     run-space k e = run-more k (space-reads e) refl (space-white (getD s at 0) e)
 
-pub ruleset white-or-ink = (white-past, white-ink, white-none, white-some, needs)
+pub ruleset white-or-ink = (white-past, ink-passed, white-none, white-some, needs)
 
 pub ruleset first-past-ink = (ink-passed, first-white)
 

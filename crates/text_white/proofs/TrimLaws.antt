@@ -23,6 +23,7 @@ use Rattle.text_white.specs.Trim.{runOf, allWhite, trimStart, trimEnd, t
 use Rattle.text_white.specs.inner.Before.{whiteLengthOf, whiteLength}
 use Rattle.text_utf8.proofs.Sequences.{end-empty, good-fits}
 use Rattle.text_utf8.proofs.Threes.{three-here}
+use Rattle.text_places.specs.declared.spans.Span.{Span}
 use Rattle.text_places.proofs.PlaceLaws.{seeking, backing}
 use Rattle.text_utf8.proofs.Pieces.{pieces-none, pieces-good, pieces-past, pieces-on, pieces-bad, good-inside, good-past-fits, good-past-falls}
 
@@ -221,3 +222,11 @@ trim-inside s =
 
 pub trim-order : (s : List ℕ) → trimBoth s .start ≤ trimBoth s .«end»
 trim-order s = omega arith
+
+-- a span that is told to be the trimmed one
+module _ (s : List ℕ) {p : Span} (e : p ≡ trimBoth s) where
+  pub trimmed-order : p .start ≤ p .«end»
+  trimmed-order = rw e (trim-order s)
+
+  pub trimmed-inside : p .«end» ≤ length s
+  trimmed-inside = rw e (trim-inside s)

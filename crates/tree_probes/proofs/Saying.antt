@@ -5,7 +5,6 @@ use mathlib.Core.List.{List, [], _∷_}
 use Prim.Native.Nat.{ℕ, _+_, _-_, _≤_, _<_}
 use native.Mathlib.Omega.{arith}
 use lib.Dec.{leb}
-use lib.ListN.{length}
 use borrow.Author.Tests.{lt-leb, le-leb, not-true, not-false}
 use borrow.Author.Needs.{needs}
 use Rattle.ground.proofs.Cases.{bit-told}
@@ -20,7 +19,7 @@ use Rattle.tree_rule.specs.Files.{countsIn, tokenAt, treeBy}
 use Rattle.tree_rule.specs.Checks.{wellFormedFile}
 use Rattle.tree_rule.specs.Signatures.{nodeSignature, signatureFrom}
 use Rattle.tree_rule.specs.Theorems.{FormedBy}
-use Rattle.tree_rule.proofs.Formed.{formed-by}
+use Rattle.tree_rule.proofs.Formed.{formed-by, head-inside}
 use Rattle.tree_probes.specs.Answers.{presentNumbers, noNumbers, signatureNumbers, askedNumbers}
 
 pub given-numbers : (m d : ℕ) (o : Owner) → o ≡ Given → 1 ∷ m ∷ d ∷ 0 ∷ 0 ∷ [] ≡ presentNumbers m d o
@@ -49,9 +48,6 @@ module _ (f : List ℕ) {b : Bool} (e : b ≡ wellFormedFile f) where
     formed : FormedBy (countsIn f) f
     formed = formed-by (countsIn f) f fine
 
-    pub counts-there : 16 ≤ length f
-    counts-there = let s = formed .size in omega arith
-
     pub formed-there : {c : TreeCounts} → c ≡ countsIn f → FormedBy c f
     formed-there g = subst (λ x. FormedBy x f) (sym g) formed
 
@@ -79,4 +75,4 @@ module _ (f : List ℕ) {b : Bool} (e : b ≡ wellFormedFile f) where
               (signatureFrom first (nodeSignature (nameIn (treeBy x f)) (listFrom (tokenAt x f) first count)))) g
               ∙ sym (rw (fine, ap (λ x. leb (first + count) (x .tokens)) (sym g) ∙ le-leb (first + count) (c .tokens) (omega arith)))
 
-pub ruleset saying = (bit-told, asked-malformed, counts-there, asked-after, asked-past, formed-there, tokens-there, asked-signature, needs)
+pub ruleset saying = (bit-told, asked-malformed, head-inside, asked-after, asked-past, formed-there, tokens-there, asked-signature, needs)

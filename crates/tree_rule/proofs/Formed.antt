@@ -1,5 +1,5 @@
 -- What the checks of a tree file say, as plain facts, and the other way. Nothing else opens `wellFormedFile`. Assumes nothing.
-use mathlib.Core.Path.{_≡_, refl, sym, _∙_}
+use mathlib.Core.Path.{_≡_, refl, sym, _∙_, ap}
 use mathlib.Core.Bool.{Bool, true, false, not}
 use mathlib.Core.List.{List}
 use Prim.Native.Nat.{ℕ, _+_, _*_, _-_, _≤_, _<_}
@@ -10,9 +10,10 @@ use borrow.Author.Tests.{le-leb, lt-ltb, eq-eqb, leb-true, ltb-true, eqb-true, e
 use Rattle.ground.specs.Choice.{both}
 use Rattle.ground.proofs.Cases.{both-left, both-right, clash}
 use Rattle.tree_rule.specs.declared.TreeCounts.{TreeCounts}
+use Rattle.tree_rule.specs.declared.Token.{Token}
 use Rattle.tree_rule.specs.declared.RowCheck.the-variants.{Fine}
 use Rattle.tree_rule.specs.Words.{wordAt, sumFrom}
-use Rattle.tree_rule.specs.Files.{countsIn, fileLength, tokensStart, parentAt, tokenCountAt, tokenBy, tokenAt, nameAt}
+use Rattle.tree_rule.specs.Files.{countsIn, fileLength, tokensStart, parentAt, tokenCountAt, tokenBy, tokenRow, tokenAt, nameAt}
 use Rattle.tree_rule.specs.Checks.{
   allFine,
   lengthAgrees,
@@ -147,3 +148,16 @@ module _ (f : List ℕ) {b : Bool} (e : b ≡ wellFormedFile f) (n : not b ≡ f
 
   pub head-inside : 16 ≤ length f
   head-inside = let k = formed-told in omega (arith, k .size)
+
+-- a token, as it is read from its row
+pub token-read : (c : TreeCounts) (f : List ℕ) (i : ℕ) {a : ℕ} → a ≡ tokensStart c → {t : Token} →
+    t ≡ tokenRow f (a + 12 * i) → tokenAt c f i ≡ t
+token-read c f i e g = sym (g ∙ ap (λ x. tokenRow f (x + 12 * i)) e)
+
+-- its row lies in the file
+pub row-inside : (c : TreeCounts) (f : List ℕ) (i : ℕ) {a : ℕ} → a ≡ tokensStart c → FormedBy c f → i < c .tokens →
+    a + 12 * i + 12 ≤ length f
+row-inside c f i e k h = omega (arith, k .size)
+
+pub names-inside : (c : TreeCounts) (f : List ℕ) → FormedBy c f → fileLength c ≤ length f
+names-inside c f k = omega (arith, k .size)

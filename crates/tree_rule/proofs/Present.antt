@@ -13,7 +13,6 @@ use Rattle.tree_rule.specs.declared.Token.{Token}
 use Rattle.tree_rule.specs.declared.Token.the-variants.{Other}
 use Rattle.tree_rule.specs.declared.Owner.{Owner}
 use Rattle.tree_rule.specs.declared.Owner.the-variants.{Given, At as TokenAt}
-use Rattle.tree_rule.specs.declared.NodeSignature.{NodeSignature}
 use Rattle.tree_rule.specs.declared.NodeSignature.the-variants.{Present}
 use Rattle.tree_rule.specs.Signatures.{
   firstToken,

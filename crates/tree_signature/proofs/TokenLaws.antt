@@ -12,9 +12,10 @@ use Rattle.tree_rule.specs.declared.TreeCounts.{TreeCounts}
 use Rattle.tree_rule.specs.declared.Token.{Token}
 use Rattle.tree_rule.specs.declared.Token.the-variants.{Other, MemberName, Descriptor, SourceLine}
 use Rattle.tree_rule.specs.Trees.{nameIn}
-use Rattle.tree_rule.specs.Files.{fileLength, tokensStart, tokenRow, tokenAt, textAt, treeBy}
+use Rattle.tree_rule.specs.Files.{tokensStart, tokenRow, tokenAt, textAt, treeBy}
 use Rattle.tree_rule.specs.Signatures.{opens, isOwner, namesMethod}
 use Rattle.tree_rule.specs.Theorems.{FormedBy, NamesBelow}
+use Rattle.tree_rule.proofs.Formed.{token-read, row-inside, names-inside}
 use Rattle.tree_rule.proofs.Reading.{raw-text}
 use Rattle.tree_signature.specs.inner.Tokens.{startsAs, describedAs}
 
@@ -37,43 +38,32 @@ pub ruleset openings = (starts-none, starts-open, starts-other, needs)
 -- A token.
 module _ (opening : Bool) (c : TreeCounts) (f : List ℕ) (i : ℕ) {a : ℕ} (e : a ≡ tokensStart c) {t : Token}
     (g : t ≡ tokenRow f (a + 12 * i)) where
-  here : tokenAt c f i ≡ t
-  here = sym (g ∙ ap (λ x. tokenRow f (x + 12 * i)) e)
-
   abbrev name : ℕ → List ℕ
   name n = nameIn (treeBy c f) n
 
   module _ {x y : ℕ} where
     pub of-other : t ≡ Other x y → false ≡ describedAs opening name (tokenAt c f i)
-    of-other h = ap (describedAs opening name) (sym (here ∙ h))
+    of-other h = ap (describedAs opening name) (sym (token-read c f i e g ∙ h))
 
     pub of-member : t ≡ MemberName x y → false ≡ describedAs opening name (tokenAt c f i)
-    of-member h = ap (describedAs opening name) (sym (here ∙ h))
+    of-member h = ap (describedAs opening name) (sym (token-read c f i e g ∙ h))
 
     pub of-line : t ≡ SourceLine x y → false ≡ describedAs opening name (tokenAt c f i)
-    of-line h = ap (describedAs opening name) (sym (here ∙ h))
+    of-line h = ap (describedAs opening name) (sym (token-read c f i e g ∙ h))
 
     module _ (h : t ≡ Descriptor x y) (k : FormedBy c f) (l : i < c .tokens) where
       pub of-descriptor : {s : List ℕ} → s ≡ textAt c f x → {b : Bool} → b ≡ startsAs opening s →
           b ≡ describedAs opening name (tokenAt c f i)
-      of-descriptor w o = o ∙ ap (startsAs opening) (w ∙ sym (raw-text c f k i l (here ∙ h)))
-          ∙ ap (describedAs opening name) (sym (here ∙ h))
+      of-descriptor w o = o ∙ ap (startsAs opening) (w ∙ sym (raw-text c f k i l (token-read c f i e g ∙ h)))
+          ∙ ap (describedAs opening name) (sym (token-read c f i e g ∙ h))
 
 pub raw-there : (c : TreeCounts) (f : List ℕ) (i : ℕ) {a : ℕ} → a ≡ tokensStart c → {t : Token} →
     t ≡ tokenRow f (a + 12 * i) →
     {x y : ℕ} → t ≡ Descriptor x y → FormedBy c f → i < c .tokens → x < c .names
 raw-there c f i e g {x} {y} h k l =
-    let same : tokenAt c f i ≡ Descriptor x y = sym (g ∙ ap (λ n. tokenRow f (n + 12 * i)) e) ∙ h in
+    let same : tokenAt c f i ≡ Descriptor x y = token-read c f i e g ∙ h in
     let below : NamesBelow (c .names) (Descriptor x y) = rw same at (k .tokens i l) in
     below .0
-
--- its row lies in the file
-pub row-inside : (c : TreeCounts) (f : List ℕ) (i : ℕ) {a : ℕ} → a ≡ tokensStart c → FormedBy c f → i < c .tokens →
-    a + 12 * i + 12 ≤ length f
-row-inside c f i e k h = omega (arith, k .size)
-
-pub names-inside : (c : TreeCounts) (f : List ℕ) → FormedBy c f → fileLength c ≤ length f
-names-inside c f k = omega (arith, k .size)
 
 pub ruleset token-tests = (of-other, of-member, of-line, of-descriptor, raw-there, row-inside, names-inside, needs)
 

@@ -3,8 +3,8 @@ use Rattle.name_probes.proofs.Probing.{probing}
 use Rattle.name_probes.proofs.clumarief_probe_method_row.Statement.{statement}
 use Rattle.name_probes.proofs.clumarief_probe_method_row.Tie as tie
 
-counts-of-requires : tie.Need-counts-of-requires
-counts-of-requires c κs = search probing
+used-of-requires : tie.Need-used-of-requires
+used-of-requires c κs = search probing
 
 well-formed-requires : tie.Need-well-formed-requires
 well-formed-requires c κs = search probing
@@ -37,7 +37,7 @@ pub clumarief-probe-method-row-spec : {M : Type 1} → statement M
 clumarief-probe-method-row-spec =
     tie.close
     (tie.spec
-    counts-of-requires
+    used-of-requires
     well-formed-requires
     returns
     cast-class-count

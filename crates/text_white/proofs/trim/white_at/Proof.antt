@@ -1,4 +1,5 @@
 -- `text_white::trim::white_at` meets its contract, by the laws of Ink.
+use mathlib.Core.Path.{sym}
 use Rattle.text_white.proofs.Ink.{white-or-ink}
 use Rattle.text_white.proofs.trim.white_at.Statement.{statement}
 use Rattle.text_white.proofs.trim.white_at.Tie as tie
@@ -13,7 +14,7 @@ is-ink-requires : tie.Need-is-ink-requires
 is-ink-requires c κs = search white-or-ink
 
 returns-2 : tie.Need-returns-2
-returns-2 c = search white-or-ink
+returns-2 c = sym (search white-or-ink)
 
 white-length-requires : tie.Need-white-length-requires
 white-length-requires c κs = search white-or-ink
