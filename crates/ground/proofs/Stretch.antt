@@ -1,5 +1,6 @@
 -- Stretches that grow by a byte, or by a block of 16. Assumes nothing.
 use mathlib.Core.Path.{_≡_}
+use mathlib.Core.Bool.{Bool}
 use mathlib.Core.List.{List}
 use mathlib.Core.Logic.{_⊎_, inl, inr}
 use Prim.Native.Nat.{ℕ, _+_, _-_, _≤_, _<_}
@@ -27,3 +28,10 @@ module _ {P : ℕ → Type 0} {s : List ℕ} {«from» to : ℕ} (w : Along P s 
 
   pub along-block : 16 ≤ length s - to → ((k : ℕ) → k < 16 → P (getD s (to + k) 0)) → Along P s «from» (to + 16)
   along-block h f = along-more 16 (block-inside h) f
+
+  -- as the code's own test tells it
+  pub along-told : 16 ≤ length s - to → {r v : Bool} → (r ≡ v → (k : ℕ) → k < 16 → P (getD s (to + k) 0)) → r ≡ v → Along P s «from» (to + 16)
+  along-told h n f = along-block h (n f)
+
+  pub along-in-block : 16 ≤ length s - to → (r : ℕ) → r ≤ 16 → ((k : ℕ) → k < r → P (getD s (to + k) 0)) → Along P s «from» (to + r)
+  along-in-block h r l n = along-more r (omega (arith, w .inside)) n

@@ -10,25 +10,26 @@ use native.Mathlib.Omega.{arith}
 use lib.Dec.{eqb, leb}
 use lib.ListN.{length, getD, drop, drop-of-length-le}
 use lib.Seq.{drop-cons}
-use borrow.Author.Tests.{ne-eqb, le-leb, leb-true}
+use borrow.Author.Tests.{le-leb, leb-true}
 use borrow.Author.Needs.{needs}
 use Rattle.ground.specs.Choice.{pick}
 use Rattle.ground.proofs.Cases.{le-or-lt, clash}
-use Rattle.ground.proofs.Stretch.{along-none, along-block, block-inside}
-use Rattle.text_places.proofs.BlockLaws.{Passed, passed-none, passed-more, passed-all}
+use Rattle.ground.proofs.Stretch.{along-none, block-inside, along-told}
+use Rattle.text_places.specs.inner.Blocks.{isByte}
+use Rattle.text_places.proofs.MaskLaws.{Passed, passed-none, passed-more, passed-all}
 use Rattle.json_string.specs.inner.Plain.{isPlain, PlainTo, plainRun}
 
 -- what was passed of a block: none is a quotation mark, none a reverse solidus, where nothing was marked; and no byte is below the least
 pub record Looked (s : List ℕ) (at : ℕ) (ends escapes : Bool) (least i : ℕ) : Type 0 where
-  pub quotes : Passed 0x22 s at ends i
-  pub solidi : Passed 0x5C s at escapes i
+  pub quotes : Passed (isByte 0x22) s at ends i
+  pub solidi : Passed (isByte 0x5C) s at escapes i
   pub small : least < 256
   pub bounds : (k : ℕ) → k < i → least ≤ getD s (at + k) 0
 
 pub looked-none : (s : List ℕ) (at : ℕ) → Looked s at false false 0xFF 0
 looked-none s at = record {
-  quotes = passed-none 0x22 s at;
-  solidi = passed-none 0x5C s at;
+  quotes = passed-none (isByte 0x22) s at;
+  solidi = passed-none (isByte 0x5C) s at;
   small = omega arith;
   bounds = λ k h. absurd (omega arith);
 }
@@ -51,7 +52,7 @@ module _ {s : List ℕ} {at : ℕ} {ends escapes : Bool} {least i : ℕ} (p : Lo
   looked-all h a b c k l =
       let q = p .bounds k (omega arith) in
       let low = leb-true 0x20 least c in
-      rw (ne-eqb (getD s (at + k) 0) 0x22 (passed-all (p .quotes) h a k l), ne-eqb (getD s (at + k) 0) 0x5C (passed-all (p .solidi) h b k l))
+      rw (passed-all (p .quotes) h a k l, passed-all (p .solidi) h b k l)
       (le-leb 0x20 (getD s (at + k) 0) (omega arith))
 
 pub looked-not : (s : List ℕ) (at : ℕ) → false ≡ true → (k : ℕ) → k < 16 → isPlain (getD s (at + k) 0) ≡ true
@@ -59,17 +60,7 @@ looked-not s at e k l = clash e refl
 
 pub ruleset looking = (looked-none, looked-more, looked-all, looked-not, needs)
 
-pub plain-none : (s : List ℕ) («from» : ℕ) → «from» ≤ length s → PlainTo s «from» «from»
-plain-none s f h = along-none (λ x. isPlain x ≡ true) s f h
-
-module _ {s : List ℕ} {«from» to : ℕ} (w : PlainTo s «from» to) (h : 16 ≤ length s - to) where
-  pub plain-room : to + 16 ≤ length s
-  plain-room = block-inside w h
-
-  pub plain-block : {r : Bool} → (r ≡ true → (k : ℕ) → k < 16 → isPlain (getD s (to + k) 0) ≡ true) → r ≡ true → PlainTo s «from» (to + 16)
-  plain-block n e = along-block w h (n e)
-
-pub ruleset blocks = (plain-none, plain-room, plain-block, needs)
+pub ruleset blocks = (along-none, block-inside, along-told, needs)
 
 -- The run of plain bytes: where it ends from here on is where it ends from the start on.
 pub record Running (s : List ℕ) (start at : ℕ) : Type 0 where

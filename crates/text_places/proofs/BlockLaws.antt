@@ -1,48 +1,31 @@
 -- Blocks that do not hold a byte, and the searches that pass them. Assumes nothing.
-use mathlib.Core.Path.{_≡_, refl, sym, ap, ap₂, _∙_}
-use mathlib.Core.Bool.{Bool, true, false}
+use mathlib.Core.Path.{_≡_, refl}
+use mathlib.Core.Bool.{Bool, false}
 use mathlib.Core.List.{List}
 use mathlib.Core.Logic.{_⊎_, inl, inr}
-use Prim.Native.Nat.{ℕ, zero, suc, _+_, _-_, _*_, _/_, _%_, _^_, _≤_, _<_}
-use native.Mathlib.Nat.{add-zero, pow-suc, mul-assoc, mul-comm}
+use Prim.Native.Nat.{ℕ, zero, suc, _+_, _-_, _*_, _≤_, _<_}
+use native.Mathlib.Nat.{add-zero}
 use native.Mathlib.Omega.{arith}
-use mir.Val.{Fits}
-use mir.Syntax.{w16, w64}
-use lib.Dec.{eqb, lit<}
-use lib.Count.{trailingZeros, trailing-le, under}
-use lib.Pow.{high, low}
+use lib.Dec.{eqb}
+use lib.Count.{trailingZeros}
 use lib.ListN.{length, getD, drop, length-drop}
 use borrow.Author.Tests.{eqb-false, eq-eqb, ne-eqb}
 use borrow.Author.Needs.{needs}
-use Rattle.ground.specs.Choice.{pick, bit}
-use Rattle.ground.proofs.Cases.{le-or-lt, clash}
-use Rattle.ground.proofs.Stretch.{along-none, along-more, along-block, block-inside}
+use Rattle.ground.specs.Choice.{bit}
+use Rattle.ground.proofs.Cases.{le-or-lt}
+use Rattle.ground.proofs.Stretch.{along-none, block-inside, along-told, along-in-block}
 use Rattle.text_places.specs.Places.{starts, startsPair}
-use Rattle.text_places.specs.inner.Blocks.{maskOf, Without}
+use Rattle.text_places.specs.inner.Blocks.{isByte, maskOf, Without}
+use Rattle.text_places.proofs.MaskLaws.{Passed, passed-none, passed-more, passed-all, whole-zeros, masking}
 use Rattle.text_places.proofs.PlaceLaws.{Seeking, seeking-starts, seeking-more, seeking, pairing, byte-other, pair-first-other, no-pair}
 use Rattle.text_places.proofs.LineLaws.{ToLf, lf-starts, lf-more, to-lf}
 
--- what was passed of a block: where nothing was marked, none of it is `b`
-pub record Passed (b : ℕ) (s : List ℕ) (at : ℕ) (holds : Bool) (i : ℕ) : Type 0 where
-  pub few : i ≤ 16
-  pub none : holds ≡ false → (k : ℕ) → k < i → getD s (at + k) 0 ≡ b → ⊥
+-- A block that does not hold a byte.
+pub passed-bytes : {b : ℕ} {s : List ℕ} {at i : ℕ} {holds : Bool} → Passed (isByte b) s at holds i → 16 ≤ i → holds ≡ false →
+    (k : ℕ) → k < 16 → getD s (at + k) 0 ≡ b → ⊥
+passed-bytes {b = b} {s = s} {at = at} w h f k l = eqb-false (getD s (at + k) 0) b (passed-all w h f k l)
 
-pub passed-none : (b : ℕ) (s : List ℕ) (at : ℕ) → Passed b s at false 0
-passed-none b s at = record { few = omega arith; none = λ f k h. absurd (omega arith) }
-
-module _ {b : ℕ} {s : List ℕ} {at i : ℕ} {holds : Bool} (p : Passed b s at holds i) where
-  pub passed-more : i < 16 → {r : Bool} → r ≡ pick (eqb (getD s (at + i) 0) b) true holds → Passed b s at r (i + 1)
-  passed-more h {r} e = record { few = omega arith; none = λ f k l. go (eqb (getD s (at + i) 0) b) refl (sym e ∙ f) k l (le-or-lt i k) }
-    where
-      go : (t : Bool) → eqb (getD s (at + i) 0) b ≡ t → pick t true holds ≡ false → (k : ℕ) → k < i + 1 → (i ≤ k) ⊎ (k < i) → getD s (at + k) 0 ≡ b → ⊥
-      go true q f k l o = clash refl f
-      go false q f k l (inl g) = let j : k ≡ i = omega arith in rw j (eqb-false (getD s (at + i) 0) b q)
-      go false q f k l (inr g) = p .none f k g
-
-  pub passed-all : 16 ≤ i → holds ≡ false → (k : ℕ) → k < 16 → getD s (at + k) 0 ≡ b → ⊥
-  passed-all h f k l = p .none f k (omega arith)
-
-pub ruleset passing = (passed-none, passed-more, passed-all, needs)
+pub ruleset passing = (passed-none, passed-more, passed-bytes, needs)
 
 -- The mask of a block.
 module _ {x b : ℕ} where
@@ -52,115 +35,9 @@ module _ {x b : ℕ} where
   pub digit-other : (x ≡ b → ⊥) → 0 ≡ bit (eqb x b)
   digit-other n = rw (ne-eqb x b n) refl
 
--- a number with one more digit below it
-bit-below : (m : ℕ) (t : Bool) → ((m * 2 + bit t) % 2 ≡ bit t) × ((m * 2 + bit t) / 2 ≡ m)
-bit-below m true = (low m 1 {lo = 1} (lit< tt), high m 1 {lo = 1} (lit< tt))
-bit-below m false = (low m 1 {lo = 0} (lit< tt), high m 1 {lo = 0} (lit< tt))
-
-zeros-below : (d m : ℕ) (t : Bool) → trailingZeros (suc d) (m * 2 + bit t) ≡ under (bit t) (trailingZeros d m)
-unfolding trailingZeros
-zeros-below d m t = ap₂ (λ (x y : ℕ). under x (trailingZeros d y)) (bit-below m t .0) (bit-below m t .1)
-
-module _ (b : ℕ) (s : List ℕ) where
-  -- it is made of two parts
-  join : (n m at : ℕ) → maskOf b s at (n + m) ≡ maskOf b s at n + 2 ^ n * maskOf b s (at + n) m
-  unfolding maskOf
-  join zero m at = let z : 0 + m ≡ m = omega arith in rw (z, add-zero at) (omega arith)
-  join (suc n) m at =
-      let z : suc n + m ≡ suc (n + m) = omega arith in
-      let e : at + suc n ≡ at + 1 + n = omega arith in
-      let p : 2 ^ n * 2 * maskOf b s (at + 1 + n) m ≡ 2 ^ n * maskOf b s (at + 1 + n) m * 2 =
-      mul-assoc (2 ^ n) 2 (maskOf b s (at + 1 + n) m) ∙ ap (λ x. 2 ^ n * x) (mul-comm 2 (maskOf b s (at + 1 + n) m))
-      ∙ sym (mul-assoc (2 ^ n) (maskOf b s (at + 1 + n) m) 2) in
-      rw (z, e, pow-suc 2 n, p) (omega (arith, join n m (at + 1)))
-
-  mask-small : (at n : ℕ) → maskOf b s at n < 2 ^ n
-  unfolding maskOf
-  mask-small at zero = lit< tt
-  mask-small at (suc n) = rw (pow-suc 2 n) (go (eqb (getD s at 0) b) (mask-small (at + 1) n))
-    where
-      go : (t : Bool) → maskOf b s (at + 1) n < 2 ^ n → maskOf b s (at + 1) n * 2 + bit t < 2 ^ n * 2
-      go true z = omega arith
-      go false z = omega arith
-
-  -- as many bytes as it has zeros at its end are not `b`
-  mask-zeros : (n d at k : ℕ) → k < trailingZeros d (maskOf b s at n) → k < n → getD s (at + k) 0 ≡ b → ⊥
-  unfolding maskOf
-  mask-zeros zero d at k l u = absurd (omega arith)
-  mask-zeros (suc n) zero at k l u = absurd (let z = trailing-le 0 (maskOf b s (at + 1) n * 2 + bit (eqb (getD s at 0) b)) in omega arith)
-  mask-zeros (suc n) (suc d) at k l u =
-      past k (eqb (getD s at 0) b) refl (rw (zeros-below d (maskOf b s (at + 1) n) (eqb (getD s at 0) b)) at l) u (λ j. mask-zeros n d (at + 1) j)
-    where
-      past : (k : ℕ) (t : Bool) → eqb (getD s at 0) b ≡ t → k < under (bit t) (trailingZeros d (maskOf b s (at + 1) n)) → k < suc n →
-          ((j : ℕ) → j < trailingZeros d (maskOf b s (at + 1) n) → j < n → getD s (at + 1 + j) 0 ≡ b → ⊥) → getD s (at + k) 0 ≡ b → ⊥
-      past k true q l u m v = absurd (omega arith)
-      past zero false q l u m v = eqb-false (getD s at 0) b q (rw (add-zero at) at v)
-      past (suc k) false q l u m v =
-          let w : at + suc k ≡ at + 1 + k = omega arith in
-          m k (omega arith) (omega arith) (rw w at v)
-
-  module _ (at : ℕ) {l h : ℕ} where
-    module _ (e : l ≡ bit (eqb (getD s at 0) b)) (f : h ≡ bit (eqb (getD s (at + 1) 0) b)) where
-      pub two-joined : l + 2 * h ≡ maskOf b s at 2
-      unfolding maskOf
-      two-joined = rw (e, f) (omega arith)
-
-      pub two-high : Fits w16 (2 * h)
-      two-high = let z = mask-small at 2 in let j = two-joined in omega arith
-
-      pub two-fits : Fits w16 (l + 2 * h)
-      two-fits = let z = mask-small at 2 in let j = two-joined in omega arith
-
-    -- of halves of so many bytes each
-    module _ (n : ℕ) (e : l ≡ maskOf b s at n) (f : h ≡ maskOf b s (at + n) n) where
-      halves : l + 2 ^ n * h ≡ maskOf b s at (n + n)
-      halves = rw (e, f) (sym (join n n at))
-
-      halves-small : l + 2 ^ n * h < 2 ^ (n + n)
-      halves-small = rw halves (mask-small at (n + n))
-
-    module _ (e : l ≡ maskOf b s at 2) (f : h ≡ maskOf b s (at + 2) 2) where
-      pub four-joined : l + 4 * h ≡ maskOf b s at 4
-      four-joined = halves 2 e f
-
-      pub four-high : Fits w16 (4 * h)
-      four-high = let z = halves-small 2 e f in omega arith
-
-      pub four-fits : Fits w16 (l + 4 * h)
-      four-fits = let z = halves-small 2 e f in omega arith
-
-    module _ (e : l ≡ maskOf b s at 4) (f : h ≡ maskOf b s (at + 4) 4) where
-      pub eight-joined : l + 16 * h ≡ maskOf b s at 8
-      eight-joined = halves 4 e f
-
-      pub eight-high : Fits w16 (16 * h)
-      eight-high = let z = halves-small 4 e f in omega arith
-
-      pub eight-fits : Fits w16 (l + 16 * h)
-      eight-fits = let z = halves-small 4 e f in omega arith
-
-    module _ (e : l ≡ maskOf b s at 8) (f : h ≡ maskOf b s (at + 8) 8) where
-      pub whole-high : Fits w16 (256 * h)
-      whole-high = let z = halves-small 8 e f in omega arith
-
-      pub whole-fits : Fits w16 (l + 256 * h)
-      whole-fits = let z = halves-small 8 e f in omega arith
-
-      pub whole-zeros : (k : ℕ) → k < trailingZeros 16 (l + 256 * h) → getD s (at + k) 0 ≡ b → ⊥
-      whole-zeros k u = mask-zeros 16 16 at k (rw (halves 8 e f) at u) (omega (arith, trailing-le 16 (l + 256 * h)))
-
-pub without-none : (b : ℕ) (s : List ℕ) («from» : ℕ) → «from» ≤ length s → Without b s «from» «from»
-without-none b s f h = along-none (λ x. x ≡ b → ⊥) s f h
-
-module _ {b : ℕ} {s : List ℕ} {«from» to : ℕ} (w : Without b s «from» to) (h : 16 ≤ length s - to) where
-  pub without-room : to + 16 ≤ length s
-  without-room = block-inside w h
-
-  pub without-block : {r : Bool} → (r ≡ false → (k : ℕ) → k < 16 → getD s (to + k) 0 ≡ b → ⊥) → r ≡ false → Without b s «from» (to + 16)
-  without-block n f = along-block w h (n f)
-
-  pub without-in-block : (r : ℕ) → r ≤ 16 → ((k : ℕ) → k < r → getD s (to + k) 0 ≡ b → ⊥) → Without b s «from» (to + r)
-  without-in-block r l n = along-more w r (omega (arith, w .inside)) n
+pub byte-zeros : (b : ℕ) (s : List ℕ) (at : ℕ) {l h : ℕ} → l ≡ maskOf (isByte b) s at 8 → h ≡ maskOf (isByte b) s (at + 8) 8 →
+    (k : ℕ) → k < trailingZeros 16 (l + 256 * h) → getD s (at + k) 0 ≡ b → ⊥
+byte-zeros b s at e f k u = eqb-false (getD s (at + k) 0) b (whole-zeros (isByte b) s at e f k u)
 
 -- the last block, where fewer bytes than a block are left
 module _ {b : ℕ} {s : List ℕ} {«from» to : ℕ} (w : Without b s «from» to) (h : length s - to < 16) (l : 16 ≤ length s - «from») where
@@ -177,15 +54,11 @@ module _ {b : ℕ} {s : List ℕ} {«from» to : ℕ} (w : Without b s «from» 
   pub last-none : {r : Bool} → (r ≡ false → (k : ℕ) → k < 16 → getD s (length s - 16 + k) 0 ≡ b → ⊥) → r ≡ false → Without b s «from» (length s)
   last-none n f = let e : length s - 16 + 16 ≡ length s = omega arith in rw e at (last-in-block 16 (omega arith) (n f))
 
-pub zeros-fit : (mask : ℕ) → Fits w64 (trailingZeros 16 mask)
-zeros-fit mask = record { fits = omega (arith, trailing-le 16 mask) }
-
 pub ruleset digits = (digit-same, digit-other, needs)
 
-pub ruleset masking =
-    (two-joined, two-high, two-fits, four-joined, four-high, four-fits, eight-joined, eight-high, eight-fits, whole-high, whole-fits, whole-zeros, zeros-fit, trailing-le, needs)
+pub ruleset byte-masking = (byte-zeros, masking)
 
-pub ruleset blocks = (without-none, without-room, without-block, without-in-block, last-room, last-in-block, last-none, needs)
+pub ruleset blocks = (along-none, block-inside, along-told, along-in-block, last-room, last-in-block, last-none, needs)
 
 -- A search that passes a stretch in which nothing is found.
 pub seek-past : (p : List ℕ → Bool) (s : List ℕ) (n at : ℕ) → Seeking p s at → at + n ≤ length s →

@@ -1,6 +1,7 @@
 -- Laws of the rules, one file a subject.
 pub mod PlaceLaws
 pub mod LineLaws
+pub mod MaskLaws
 pub mod BlockLaws
 pub mod SameLaws
 pub mod Holds

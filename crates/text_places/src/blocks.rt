@@ -5,7 +5,7 @@ ghost use Prim.Native.Nat.{ℕ, _+_, _≤_, _<_};
 ghost use lib.Dec.{eqb};
 ghost use lib.ListN.{length, getD};
 ghost use Rattle.ground.specs.Choice.{pick, bit};
-ghost use Rattle.text_places.specs.inner.Blocks.{maskOf, Without};
+ghost use Rattle.text_places.specs.inner.Blocks.{isByte, maskOf, Without};
 
 // One byte more: whether it or one before it is `b`.
 pub fn marked(holds: bool, x: u8, b: u8) -> bool
@@ -45,7 +45,7 @@ fn mask_digit(x: u8, b: u8) -> u16
 // The mask of the two bytes from a place on: its lowest digit tells whether the first of them is `b`.
 fn mask_of_two(s: &[u8], at: usize, b: u8) -> u16
     requires { ⌜ at + 2 ≤ length (now s) ⌝ }
-    ensures { λ r. ⌜ r ≡ maskOf b (now (s .entry)) at 2 ⌝ }
+    ensures { λ r. ⌜ r ≡ maskOf (isByte b) (now (s .entry)) at 2 ⌝ }
 {
     let low = mask_digit(s[at], b);
     let high = mask_digit(s[at + 1], b);
@@ -54,7 +54,7 @@ fn mask_of_two(s: &[u8], at: usize, b: u8) -> u16
 
 fn mask_of_four(s: &[u8], at: usize, b: u8) -> u16
     requires { ⌜ at + 4 ≤ length (now s) ⌝ }
-    ensures { λ r. ⌜ r ≡ maskOf b (now (s .entry)) at 4 ⌝ }
+    ensures { λ r. ⌜ r ≡ maskOf (isByte b) (now (s .entry)) at 4 ⌝ }
 {
     let low = mask_of_two(s, at, b);
     let high = mask_of_two(s, at + 2, b);
@@ -63,7 +63,7 @@ fn mask_of_four(s: &[u8], at: usize, b: u8) -> u16
 
 fn mask_of_eight(s: &[u8], at: usize, b: u8) -> u16
     requires { ⌜ at + 8 ≤ length (now s) ⌝ }
-    ensures { λ r. ⌜ r ≡ maskOf b (now (s .entry)) at 8 ⌝ }
+    ensures { λ r. ⌜ r ≡ maskOf (isByte b) (now (s .entry)) at 8 ⌝ }
 {
     let low = mask_of_four(s, at, b);
     let high = mask_of_four(s, at + 4, b);

@@ -6,17 +6,14 @@ use Prim.Native.Nat.{ℕ, _+_, _≤_, _<_}
 use native.Mathlib.Omega.{arith}
 use lib.ListN.{length, getD, drop}
 use borrow.Author.Needs.{needs}
-use Rattle.ground.specs.Choice.{within}
 use Rattle.ground.proofs.Cases.{within-both, within-yes, within-low, within-high}
 use Rattle.text_utf8.specs.declared.sequence.Sequence.the-variants.{Good}
 use Rattle.text_utf8.specs.Utf8.{sequenceOf, pieces}
 use Rattle.text_utf8.proofs.Sequences.{sequence-ascii, sequence-end}
 use Rattle.text_white.specs.White.{whiteRanges, inRanges, isWhite}
 use Rattle.text_white.specs.Trim.{runOf, startsWhite}
-use Rattle.text_white.proofs.TrimLaws.{Running, run-stops, run-more, white-none, white-some, first-white, last-white}
-
-abbrev pub ink : ℕ → Bool
-ink b = within 0x21 0x7F b
+use Rattle.text_white.specs.inner.Inked.{ink}
+use Rattle.text_white.proofs.TrimLaws.{Running, run-stops, run-more, white-none, white-some, last-white}
 
 pub ink-low : (b : ℕ) → b < 0x21 → false ≡ ink b
 ink-low b h = sym (within-low 0x21 0x7F b h)
@@ -73,7 +70,5 @@ module _ (s : List ℕ) (at : ℕ) where
     run-space k e = run-more k (space-reads e) refl (space-white (getD s at 0) e)
 
 pub ruleset white-or-ink = (white-past, ink-passed, white-none, white-some, needs)
-
-pub ruleset first-past-ink = (ink-passed, first-white)
 
 pub ruleset last-past-ink = (ink-passed, last-white)

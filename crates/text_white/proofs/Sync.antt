@@ -19,7 +19,8 @@ use Rattle.text_places.specs.declared.spans.Span.{Span}
 use Rattle.text_white.specs.White.{isWhite}
 use Rattle.text_white.specs.Trim.{allWhite, trimStart, trimEnd, trimBoth}
 use Rattle.text_white.specs.inner.Before.{whiteLength, Before}
-use Rattle.text_white.proofs.Ink.{ink, ink-reads, ink-dark, run-ink, space-white, space-reads}
+use Rattle.text_white.specs.inner.Inked.{ink}
+use Rattle.text_white.proofs.Ink.{ink-reads, ink-dark, run-ink, space-white, space-reads}
 use Rattle.text_white.proofs.TrimLaws.{run-starts, both-part, both-fits, both-trimmed}
 use Rattle.text_utf8.proofs.Leads.{lead-low-none}
 use Rattle.text_utf8.proofs.Sequences.{good-fits, end-empty, tails-fit, first-good, second-good, went-on}

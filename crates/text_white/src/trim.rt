@@ -1,4 +1,6 @@
 // White space at the ends of a text and in it.
+use crate::inks::is_ink;
+use crate::inks::past_ink;
 use crate::white::is_white;
 use text_places::Place;
 use text_places::Span;
@@ -7,24 +9,10 @@ use text_utf8::sequence_at;
 ghost use mathlib.Core.Path.{_≡_};
 ghost use mathlib.Core.Bool.{true};
 ghost use lib.ListN.{drop};
-ghost use Rattle.ground.specs.Choice.{within};
 ghost use Rattle.text_utf8.specs.declared.sequence.Sequence.the-variants.{Good};
 ghost use Rattle.text_utf8.specs.Utf8.{sequenceOf};
 ghost use Rattle.text_white.specs.Trim.{trimStart, trimEnd, trimBoth, afterMarks, startsWhite, firstWhite, lastWhite};
 ghost use Rattle.text_white.specs.inner.Before.{whiteLength, Before};
-
-// Whether a byte alone tells that no white space stands there, and that none ends there: an ASCII character above the space.
-fn is_ink(b: u8) -> bool
-    ensures { λ r. ⌜ r ≡ within 0x21 0x7F b ⌝ }
-{
-    if b < 0x21 {
-        return false;
-    }
-    if b < 0x80 {
-        return true;
-    }
-    false
-}
 
 // Whether a white space character stands at a place.
 pub fn white_at(s: &[u8], at: usize) -> bool
@@ -218,25 +206,12 @@ pub fn trim_ends(s: &[u8]) -> Span
 pub fn first_white(s: &[u8]) -> Place
     ensures { λ r. ⌜ r ≡ firstWhite (now (s .entry)) ⌝ }
 {
-    let mut at = 0;
+    let mut at = past_ink(s);
     while at < s.len() {
-        if is_ink(s[at]) {
-            // up to two bytes a turn: what follows a loop of one the compiler counts along with it
-            let next = at + 1;
-            if next < s.len() {
-                if is_ink(s[next]) {
-                    at = next + 1;
-                    continue;
-                }
-            }
-            at = next;
-            continue;
-        }
         if white_at(s, at) {
             return Place::At(at);
         }
         at += 1;
-        continue;
     }
     Place::Nowhere
 }

@@ -1,11 +1,13 @@
 -- `text_places::blocks::block_holds` meets its contract, by the laws of BlockLaws and an invariant that says: the rest decides as the whole does.
-use Rattle.text_places.proofs.BlockLaws.{passing, Passed}
+use Rattle.text_places.specs.inner.Blocks.{isByte}
+use Rattle.text_places.proofs.BlockLaws.{passing}
+use Rattle.text_places.proofs.MaskLaws.{Passed}
 use Prim.Native.Nat.{_-_}
 use Rattle.text_places.proofs.blocks.block_holds.Statement.{statement}
 use Rattle.text_places.proofs.blocks.block_holds.Tie as tie
 
 abbrev Inv-loop : tie.InvT-loop
-Inv-loop s at b holds₀ i₀ holds i = Passed b s at holds i
+Inv-loop s at b holds₀ i₀ holds i = Passed (isByte b) s at holds i
 
 abbrev μ-loop : tie.MeasureT-loop
 μ-loop s at b holds₀ i₀ holds i = 16 - i

@@ -1,7 +1,7 @@
--- `text_white::trim::is_ink` meets its contract, by the laws of Ink.
+-- `text_white::inks::is_ink` meets its contract, by the laws of Ink.
 use Rattle.text_white.proofs.Ink.{ink-byte}
-use Rattle.text_white.proofs.trim.is_ink.Statement.{statement}
-use Rattle.text_white.proofs.trim.is_ink.Tie as tie
+use Rattle.text_white.proofs.inks.is_ink.Statement.{statement}
+use Rattle.text_white.proofs.inks.is_ink.Tie as tie
 
 returns : tie.Need-returns
 returns c = search ink-byte
