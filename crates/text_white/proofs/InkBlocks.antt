@@ -5,13 +5,13 @@ use mathlib.Core.List.{List}
 use Prim.Native.Nat.{ℕ, _+_, _*_, _≤_, _<_}
 use native.Mathlib.Omega.{arith}
 use lib.Count.{trailingZeros}
-use lib.ListN.{getD}
+use lib.ListN.{length, getD}
 use borrow.Author.Needs.{needs}
 use borrow.Author.Tests.{not-false}
 use Rattle.ground.specs.Choice.{pick, bit}
 use Rattle.ground.proofs.Stretch.{along-none, block-inside, along-told, along-in-block}
 use Rattle.text_places.specs.inner.Blocks.{maskOf}
-use Rattle.text_places.proofs.PlaceLaws.{Seeking, seeking-starts}
+use Rattle.text_places.proofs.PlaceLaws.{Seeking, seeking-starts, seeking-more}
 use Rattle.text_places.proofs.BlockLaws.{seek-past}
 use Rattle.text_places.proofs.MaskLaws.{Passed, passed-none, passed-more, passed-all, whole-zeros, masking}
 use Rattle.text_white.specs.Trim.{startsWhite}
@@ -58,4 +58,10 @@ seek-ink {s} {to} w =
     rw q at (seek-past startsWhite s to 0 (seeking-starts startsWhite s) (omega (arith, w .inside))
     (λ i l. ink-passed s i (omega (arith, w .inside)) refl (not-false (ink (getD s i 0)) (w .each i (omega arith) (omega arith)))))
 
-pub ruleset first-past-blocks = (seek-ink, first-white)
+-- two bytes of ink
+pub seek-two : {s : List ℕ} {at : ℕ} → Seeking startsWhite s at → at + 1 < length s →
+    {r : Bool} → r ≡ ink (getD s at 0) → r ≡ true → {t : Bool} → t ≡ ink (getD s (at + 1) 0) → t ≡ true → Seeking startsWhite s (at + 1 + 1)
+seek-two {s} {at} k h e f g i =
+    seeking-more (seeking-more k (omega arith) (ink-passed s at (omega arith) e f)) h (ink-passed s (at + 1) h g i)
+
+pub ruleset first-past-blocks = (seek-ink, ink-passed, first-white)

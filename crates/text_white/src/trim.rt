@@ -208,10 +208,23 @@ pub fn first_white(s: &[u8]) -> Place
 {
     let mut at = past_ink(s);
     while at < s.len() {
+        if is_ink(s[at]) {
+            // up to two bytes a turn: what follows a loop of one the compiler counts along with it
+            let next = at + 1;
+            if next < s.len() {
+                if is_ink(s[next]) {
+                    at = next + 1;
+                    continue;
+                }
+            }
+            at = next;
+            continue;
+        }
         if white_at(s, at) {
             return Place::At(at);
         }
         at += 1;
+        continue;
     }
     Place::Nowhere
 }
