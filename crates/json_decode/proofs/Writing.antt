@@ -1,6 +1,6 @@
 -- A string's bytes in a lent slice: what was passed has been written. Assumes nothing.
 use mathlib.Core.Path.{_≡_, refl, sym, _∙_, ap}
-use mathlib.Core.Bool.{true, false}
+use mathlib.Core.Bool.{Bool, true, false}
 use mathlib.Core.List.{List, [], _∷_, append-nil}
 use Prim.Native.Nat.{ℕ, _+_, _-_, _^_, _≤_, _<_}
 use native.Mathlib.Nat.{add-assoc, add-zero}
@@ -9,8 +9,9 @@ use lib.Dec.{leb}
 use lib.ListN.{length, drop, set, length-append}
 use mir.Val.{Fits}
 use mir.Syntax.{w64}
-use borrow.Author.Tests.{le-leb, lt-leb}
+use borrow.Author.Tests.{le-leb, lt-leb, leb-true}
 use borrow.Author.Needs.{needs}
+use Rattle.ground.specs.Choice.{pick}
 use Rattle.ground.specs.Put.{put}
 use Rattle.ground.proofs.PutLaws.{put-nothing, put-one, put-put, length-put}
 use Rattle.json_grammar.specs.Encode.{utf8}
@@ -23,6 +24,7 @@ use Rattle.json_string.specs.inner.Pieces.{Stood, PieceMeans}
 use Rattle.json_string.proofs.Strings.{Stringing, coded-told, string-starts, starts-passed, string-cut, stood-on, stood-passed, closed-value, string-closed, string-wrong, byte-falls, code-falls}
 use Rattle.json_decode.specs.declared.length.Decoded.{Decoded}
 use Rattle.json_decode.specs.declared.length.Decoded.the-variants.{Bytes, NoString}
+use Rattle.json_decode.specs.declared.write.Written.{Written}
 use Rattle.json_decode.specs.declared.write.Written.the-variants as written
 use Rattle.json_decode.specs.Decoded.{decodedLength, decoded, writtenOf, roomOf}
 use Rattle.json_decode.specs.inner.Octets.{Fitting}
@@ -161,3 +163,20 @@ module _ (o : Out (List ℕ)) (at : ℕ) (d : List ℕ) {b : Decoded} {m : ℕ} 
     end-fits z = omega arith
 
 pub ruleset deciding = (no-string, no-string-room, beyond, beyond-room, short, short-room, has-room, done, done-room, end-fits, needs)
+
+-- what is written ends inside the room
+ends-inside : (o : Out (List ℕ)) (at : ℕ) (d : List ℕ) {n : ℕ} → writtenOf o at (length d) ≡ written.Done n → n ≤ length (roomOf o at d)
+ends-inside (got v r) at d {n} = go (leb (at + length v) (length d)) refl
+  where
+    go : (b : Bool) → leb (at + length v) (length d) ≡ b → pick b (written.Done (at + length v)) written.NoRoom ≡ written.Done n →
+        n ≤ length (pick b (put d at v) d)
+    go true p e =
+        let h = leb-true (at + length v) (length d) p in
+        let same : at + length v ≡ n = cc in
+        rw (length-put d at v h) (omega arith)
+    go false p e = absurd (let z : _≡_ {A = ℕ} 0 1 = cc in omega arith)
+ends-inside bad at d = λ e. absurd (let z : _≡_ {A = ℕ} 0 1 = cc in omega arith)
+
+pub decoded-inside : (o : Out (List ℕ)) (at : ℕ) (d : List ℕ) {n : ℕ} {t : Written} {after : List ℕ} →
+    t ≡ writtenOf o at (length d) → after ≡ roomOf o at d → t ≡ written.Done n → n ≤ length after
+decoded-inside o at d e f g = rw f (ends-inside o at d (sym e ∙ g))

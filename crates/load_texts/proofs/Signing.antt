@@ -22,6 +22,7 @@ use Rattle.json_decode.specs.declared.write.Written.the-variants as decodes
 use Rattle.json_decode.specs.Decoded.{decoded, writtenOf, roomOf}
 use Rattle.json_decode.specs.inner.Plain.{plainString}
 use Rattle.json_decode.proofs.OwnLaws.{own-bytes}
+use Rattle.json_decode.proofs.Writing.{decoded-inside}
 use Rattle.table_pool.specs.declared.write.Wrote.{Wrote}
 use Rattle.table_pool.specs.declared.write.Wrote.the-variants.{Done, NoRoom}
 use Rattle.table_pool.specs.Names.{slashed, classDescriptor}
@@ -83,17 +84,14 @@ module _ (d : List ℕ) (at : ℕ) (v d₁ : List ℕ) (u : Wrote) (k : WroteBy 
   copied-over m g = omega (arith, wrote-none u d at v d₁ k g, signature-longer m v)
 
   module _ {q : ℕ} (g : u ≡ Done q) where
-    copied : Written q d at v d₁
-    copied = wrote-told u d at v d₁ k g
-
     pub copied-order : at ≤ q
-    copied-order = written-order copied
+    copied-order = written-order (wrote-told u d at v d₁ k g)
 
     pub copied-inside : q ≤ length d₁
-    copied-inside = written-inside copied
+    copied-inside = written-inside (wrote-told u d at v d₁ k g)
 
     pub copied-done : (m : Bool) (r : Wrote) (d₂ : List ℕ) → WroteBy r d₁ at (rawSignature m (between d₁ at q)) d₂ → WroteBy r d at (rawSignature m v) d₂
-    copied-done m r d₂ l = written-settled copied m r d₂ l
+    copied-done m r d₂ l = written-settled (wrote-told u d at v d₁ k g) m r d₂ l
 
 pub ruleset copying = (copied-over, copied-order, copied-inside, copied-done, needs)
 
@@ -147,9 +145,6 @@ module _ (o : Out (List ℕ)) (at : ℕ) (d d₁ : List ℕ) (m : Bool) {w : dec
     pub signature-order : at ≤ q
     signature-order = written-order it
 
-    pub signature-inside : q ≤ length d₁
-    signature-inside = written-inside it
-
     pub signature-done : (r : Wrote) (d₂ : List ℕ) → WroteBy r d₁ at (rawSignature m (between d₁ at q)) d₂ → WroteBy r d at (rawSignature m (decoded o)) d₂
     signature-done r d₂ k = written-settled it m r d₂ k
 
@@ -164,4 +159,4 @@ module _ (o : Out (List ℕ)) (at : ℕ) (d d₁ : List ℕ) (m : Bool) {w : dec
         let k₁ : WroteBy r d₁ at (rawSignature m (decoded o)) d₂ = rw nothing at k in
         rw (g ∙ none o at d (sym e ∙ h) .1) at k₁
 
-pub ruleset signing = (signature-over, signature-order, signature-inside, signature-done, signature-none-inside, signature-none, needs)
+pub ruleset signing = (signature-over, signature-order, decoded-inside, signature-done, signature-none-inside, signature-none, needs)
