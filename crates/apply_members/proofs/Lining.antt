@@ -5,7 +5,7 @@ use Prim.Native.Nat.{ℕ, zero, suc, _-_, _≤_, _<_}
 use native.Mathlib.Omega.{arith}
 use lib.ListN.{getD}
 use borrow.Author.Needs.{needs}
-use Rattle.ground.proofs.Cases.{some}
+use Rattle.ground.proofs.Cases.{above-zero}
 use Rattle.table_rows.specs.Rows.{unpackClass}
 use Rattle.tables.specs.declared.search.Found.the-variants.{Row}
 use Rattle.tables.specs.Back.{textIn, readBack}
@@ -25,19 +25,19 @@ module _ (classes rows : List (List ℕ)) (pool : List ℕ) (home : ℕ) {contex
 
   module _ (h : context ≡ 0 → ⊥) where
     pub context-some : 1 ≤ context
-    context-some = some context h
+    context-some = above-zero context h
 
     module _ (k : MeantBy classes rows pool home context) where
       pub context-class : lastRaw classes pool (textIn pool (unpackClass (getD classes home []) .raw)) ≡ Row home
-      context-class = k .meant (some context h) .class-row
+      context-class = k .meant (above-zero context h) .class-row
 
       pub context-own : ownRow classes rows pool (keyOfRow classes rows pool home (context - 1)) ≡ Row (context - 1)
-      context-own = k .meant (some context h) .own-row
+      context-own = k .meant (above-zero context h) .own-row
 
     module _ (n : RawLine) (display : ℕ) {l : LineName}
         (e : l ≡ lineOfMethod (mapping (readBack classes pool) (entriesBack rows pool)) (keyOfRow classes rows pool home (context - 1)) n) where
       is : lineBy classes rows pool home context n ≡ l
-      is = go context (some context h) ∙ sym e
+      is = go context (above-zero context h) ∙ sym e
         where
           go : (x : ℕ) → 0 < x → lineBy classes rows pool home x n ≡ lineOfMethod (mapping (readBack classes pool) (entriesBack rows pool)) (keyOfRow classes rows pool home (x - 1)) n
           go zero q = absurd (omega arith)

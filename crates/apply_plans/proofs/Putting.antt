@@ -14,7 +14,7 @@ use borrow.Author.Needs.{needs}
 use borrow.Author.Tests.{eq-eqb, ne-eqb}
 use Rattle.ground.specs.Choice.{pick}
 use Rattle.ground.specs.Put.{put}
-use Rattle.ground.proofs.Cases.{clash, le-or-lt, some}
+use Rattle.ground.proofs.Cases.{clash, le-or-lt, above-zero}
 use Rattle.ground.proofs.PutLaws.{length-put}
 use Rattle.tree_rule.specs.declared.TreeCounts.{TreeCounts}
 use Rattle.tree_rule.specs.declared.Token.the-variants.{Other, MemberName, Descriptor, SourceLine}
@@ -38,7 +38,7 @@ module _ (c : TreeCounts) (member named : ℕ) (out : List ℕ) where
 
     module _ (k : MemberInside c member named) (l : fileLength c ≤ length out) {a : ℕ} (e : a ≡ tokensStart c) where
       pub member-row-inside : a + 12 * member + 8 + 4 ≤ length out
-      member-row-inside = let i = k .inside (some named h) in omega arith
+      member-row-inside = let i = k .inside (above-zero named h) in omega arith
 
       module _ (m : length out < 2 ^ 64) where
         pub member-row-fits : Fits w64 (a + 12 * member)

@@ -80,8 +80,8 @@ le-or-lt m n = go (leb m n) refl
     go true e = inl (leb-true m n e)
     go false e = inr (leb-false m n e)
 
-pub some : (n : ℕ) → (n ≡ 0 → ⊥) → 0 < n
-some n h = go (le-or-lt n 0)
+pub above-zero : (n : ℕ) → (n ≡ 0 → ⊥) → 0 < n
+above-zero n h = go (le-or-lt n 0)
   where
     go : (n ≤ 0) ⊎ (0 < n) → 0 < n
     go (inl l) = absurd (h (omega arith))

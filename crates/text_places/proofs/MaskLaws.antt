@@ -37,9 +37,7 @@ module _ {p : ℕ → Bool} {s : List ℕ} {at i : ℕ} {holds : Bool} (w : Pass
   pub passed-all : 16 ≤ i → holds ≡ false → (k : ℕ) → k < 16 → p (getD s (at + k) 0) ≡ false
   passed-all h f k l = w .none f k (omega arith)
 
--- The mask of a block.
-
--- a number with one more digit below it
+-- The mask of a block: a number with one more digit below it.
 bit-below : (m : ℕ) (t : Bool) → ((m * 2 + bit t) % 2 ≡ bit t) × ((m * 2 + bit t) / 2 ≡ m)
 bit-below m true = (low m 1 {lo = 1} (lit< tt), high m 1 {lo = 1} (lit< tt))
 bit-below m false = (low m 1 {lo = 0} (lit< tt), high m 1 {lo = 0} (lit< tt))
@@ -67,10 +65,10 @@ module _ (p : ℕ → Bool) (s : List ℕ) where
   join (suc n) m at =
       let z : suc n + m ≡ suc (n + m) = omega arith in
       let e : at + suc n ≡ at + 1 + n = omega arith in
-      let p : 2 ^ n * 2 * maskOf p s (at + 1 + n) m ≡ 2 ^ n * maskOf p s (at + 1 + n) m * 2 =
+      let swapped : 2 ^ n * 2 * maskOf p s (at + 1 + n) m ≡ 2 ^ n * maskOf p s (at + 1 + n) m * 2 =
       mul-assoc (2 ^ n) 2 (maskOf p s (at + 1 + n) m) ∙ ap (λ x. 2 ^ n * x) (mul-comm 2 (maskOf p s (at + 1 + n) m))
       ∙ sym (mul-assoc (2 ^ n) (maskOf p s (at + 1 + n) m) 2) in
-      rw (z, e, pow-suc 2 n, p) (omega (arith, join n m (at + 1)))
+      rw (z, e, pow-suc 2 n, swapped) (omega (arith, join n m (at + 1)))
 
   mask-small : (at n : ℕ) → maskOf p s at n < 2 ^ n
   unfolding maskOf

@@ -15,36 +15,36 @@ use Rattle.text_places.proofs.PlaceLaws.{Seeking, seeking-starts, seeking-more}
 use Rattle.text_places.proofs.BlockLaws.{seek-past}
 use Rattle.text_places.proofs.MaskLaws.{Passed, passed-none, passed-more, passed-all, whole-zeros, masking}
 use Rattle.text_white.specs.Trim.{startsWhite}
-use Rattle.text_white.specs.inner.Inked.{ink, gap, Inked}
+use Rattle.text_white.specs.inner.Inked.{ink, noInk, Inked}
 use Rattle.text_white.proofs.TrimLaws.{first-white}
 use Rattle.text_white.proofs.Ink.{ink-passed}
 
 -- One byte.
 module _ (b : ℕ) {r : Bool} (e : r ≡ ink b) where
-  pub no-gap-more : r ≡ true → (h : Bool) → h ≡ pick (gap b) true h
+  pub no-gap-more : r ≡ true → (h : Bool) → h ≡ pick (noInk b) true h
   no-gap-more f h = sym (ap (λ t. pick (not t) true h) (sym e ∙ f))
 
-  pub gap-more : r ≡ false → (h : Bool) → true ≡ pick (gap b) true h
+  pub gap-more : r ≡ false → (h : Bool) → true ≡ pick (noInk b) true h
   gap-more f h = sym (ap (λ t. pick (not t) true h) (sym e ∙ f))
 
-  pub no-gap-digit : r ≡ true → 0 ≡ bit (gap b)
+  pub no-gap-digit : r ≡ true → 0 ≡ bit (noInk b)
   no-gap-digit f = sym (ap (λ t. bit (not t)) (sym e ∙ f))
 
-  pub gap-digit : r ≡ false → 1 ≡ bit (gap b)
+  pub gap-digit : r ≡ false → 1 ≡ bit (noInk b)
   gap-digit f = sym (ap (λ t. bit (not t)) (sym e ∙ f))
 
 pub ruleset gaps = (no-gap-more, gap-more, no-gap-digit, gap-digit, needs)
 
 -- A block.
-pub passed-gaps : {s : List ℕ} {at i : ℕ} {holds : Bool} → Passed gap s at holds i → 16 ≤ i → holds ≡ false →
-    (k : ℕ) → k < 16 → gap (getD s (at + k) 0) ≡ false
+pub passed-gaps : {s : List ℕ} {at i : ℕ} {holds : Bool} → Passed noInk s at holds i → 16 ≤ i → holds ≡ false →
+    (k : ℕ) → k < 16 → noInk (getD s (at + k) 0) ≡ false
 passed-gaps w h f k l = passed-all w h f k l
 
 pub ruleset gaps-passing = (passed-none, passed-more, passed-gaps, needs)
 
-pub gap-zeros : (s : List ℕ) (at : ℕ) {l h : ℕ} → l ≡ maskOf gap s at 8 → h ≡ maskOf gap s (at + 8) 8 →
-    (k : ℕ) → k < trailingZeros 16 (l + 256 * h) → gap (getD s (at + k) 0) ≡ false
-gap-zeros s at e f k u = whole-zeros gap s at e f k u
+pub gap-zeros : (s : List ℕ) (at : ℕ) {l h : ℕ} → l ≡ maskOf noInk s at 8 → h ≡ maskOf noInk s (at + 8) 8 →
+    (k : ℕ) → k < trailingZeros 16 (l + 256 * h) → noInk (getD s (at + k) 0) ≡ false
+gap-zeros s at e f k u = whole-zeros noInk s at e f k u
 
 pub ruleset gap-masking = (gap-zeros, masking)
 

@@ -10,9 +10,9 @@ use Rattle.ground.specs.inner.Along.{Along}
 abbrev pub ink : ℕ → Bool
 ink b = within 0x21 0x7F b
 
-abbrev pub gap : ℕ → Bool
-gap b = not (ink b)
+abbrev pub noInk : ℕ → Bool
+noInk b = not (ink b)
 
 -- every byte up to a place is ink
 abbrev pub Inked : List ℕ → ℕ → Type 0
-Inked s to = Along (λ x. gap x ≡ false) s 0 to
+Inked s to = Along (λ x. noInk x ≡ false) s 0 to

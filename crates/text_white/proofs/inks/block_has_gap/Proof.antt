@@ -2,12 +2,12 @@
 use Rattle.text_white.proofs.InkBlocks.{gaps-passing}
 use Prim.Native.Nat.{_-_}
 use Rattle.text_places.proofs.MaskLaws.{Passed}
-use Rattle.text_white.specs.inner.Inked.{gap}
+use Rattle.text_white.specs.inner.Inked.{noInk}
 use Rattle.text_white.proofs.inks.block_has_gap.Statement.{statement}
 use Rattle.text_white.proofs.inks.block_has_gap.Tie as tie
 
 abbrev Inv-loop : tie.InvT-loop
-Inv-loop s at holds₀ i₀ holds i = Passed gap s at holds i
+Inv-loop s at holds₀ i₀ holds i = Passed noInk s at holds i
 
 abbrev μ-loop : tie.MeasureT-loop
 μ-loop s at holds₀ i₀ holds i = 16 - i
