@@ -39,6 +39,7 @@ module _ (classes rows : List (List ℕ)) (f out : List ℕ) (k : AcceptReady cl
         zero = ap (take room) (k .zero) ∙ zero-take room (length out) (omega arith) ∙ ap (λ n. replicate n 0) (sym part-length);
         few-classes = k .few-classes;
         few-members = k .few-members;
+        low = k .low;
       }
 
   pub room-inside : room ≤ length out

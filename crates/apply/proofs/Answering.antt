@@ -1,10 +1,11 @@
 -- The answer of each way through the entry point. Assumes nothing.
 use mathlib.Core.Path.{_≡_, sym, _∙_, ap}
 use mathlib.Core.Bool.{Bool, true, false, not}
-use mathlib.Core.List.{List}
+use mathlib.Core.List.{List, []}
 use Prim.Native.Nat.{ℕ, _≤_, _<_}
 use native.Mathlib.Omega.{arith}
 use lib.ListN.{length, take, replicate, length-take, length-replicate}
+use lib.Seq.{getD-take}
 use borrow.Author.Needs.{needs}
 use borrow.Author.Tests.{le-leb, lt-leb, not-true, not-false}
 use Rattle.ground.proofs.Parts.{prefix-whole}
@@ -17,6 +18,7 @@ use Rattle.apply_rule.specs.declared.Applied.{Applied}
 use Rattle.apply_rule.specs.declared.Applied.the-variants.{Malformed, TooLong, BadTree}
 use Rattle.apply_rule.specs.Applying.{appliedFile, mostTree, applyAnswer, applyOutput}
 use Rattle.apply_rule.specs.inner.Plans.{mappingIn}
+use Rattle.apply_plans.specs.inner.Plan.{TextsLow}
 use Rattle.apply.specs.inner.Filled.{AcceptReady, fittingAnswer, fittingOutput}
 
 module _ (c m : List (List ℕ)) (p class f : List ℕ) (used : Used) (room : ℕ) {b : Bool} (w : b ≡ wellFormed c m p used) where
@@ -63,6 +65,22 @@ module _ (c m : List (List ℕ)) (p class f : List ℕ) (used : Used) (room : �
               q ∙ ap (λ n. fittingOutput n (appliedFile (mappingIn (take (used .classes) c) (take (used .members) m) p) class f)) size
               ∙ sym (rw (tested-formed c m p used w h, le-leb (length f) mostTree l, good))
 
+-- texts of the tables stand in the pool, so that their places are low
+texts-low : (c m : List (List ℕ)) (p : List ℕ) (used : Used) → wellFormed c m p used ≡ true → TextsLow (take (used .classes) c) (take (used .members) m)
+texts-low c m p used fine =
+    let k = formed c m p used fine in
+    let most = k .counts .pool-bytes in
+    record {
+      displays = λ i h.
+          let l : i < used .classes = omega (arith, length-take (used .classes) c) in
+          let t = k .class-rows i l .display .inside in
+          rw (getD-take (used .classes) c i [] l) (omega arith, omega arith);
+      names = λ i h.
+          let l : i < used .members = omega (arith, length-take (used .members) m) in
+          let t = k .member-rows i l .name .inside in
+          rw (getD-take (used .members) m i [] l) (omega arith, omega arith);
+    }
+
 pub accept-ready : (c m : List (List ℕ)) (p f : List ℕ) (used : Used) {b : Bool} → b ≡ wellFormed c m p used → not b ≡ false →
     length f ≤ mostTree → {t : Bool} → t ≡ wellFormedFile f → not t ≡ false →
     {out : List ℕ} (n : ℕ) → out ≡ replicate n 0 → AcceptReady (take (used .classes) c) (take (used .members) m) f out
@@ -76,6 +94,7 @@ accept-ready c m p f used {b} w h l {t} v g {out} n e =
       zero = e ∙ ap (λ x. replicate x 0) (sym (ap length e ∙ length-replicate n 0));
       few-classes = omega (arith, length-take (used .classes) c);
       few-members = omega (arith, length-take (used .members) m);
+      low = texts-low c m p used fine;
     }
 
 pub ruleset applying = (

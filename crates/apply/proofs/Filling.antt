@@ -1,7 +1,7 @@
 -- The passes, one after the other. Assumes nothing.
 use mathlib.Core.Path.{_≡_, refl, sym, _∙_, ap, subst}
-use mathlib.Core.List.{List, _++_}
-use Prim.Native.Nat.{ℕ, zero, suc, _+_, _-_, _≤_, _<_}
+use mathlib.Core.List.{List, _++_, map}
+use Prim.Native.Nat.{ℕ, zero, suc, _+_, _*_, _-_, _≤_, _<_}
 use native.Mathlib.Omega.{arith}
 use lib.ListN.{length, getD, drop, replicate}
 use lib.Seq.{drop-drop}
@@ -13,22 +13,28 @@ use Rattle.table_pool.specs.declared.write.Wrote.the-variants.{Done, NoRoom}
 use Rattle.tables.specs.declared.search.Side.the-variants.{Raw}
 use Rattle.table_index.specs.inner.Index.{IndexBy}
 use Rattle.tree_rule.specs.declared.TreeCounts.{TreeCounts}
-use Rattle.tree_rule.specs.Words.{wordAt}
-use Rattle.tree_rule.specs.Files.{countsIn, namesStart, fileLength}
+use Rattle.tree_rule.specs.Files.{countsIn, namesStart, bytesStart, fileLength, tokenRowBytes}
 use Rattle.tree_rule.specs.Theorems.{FormedBy}
+use Rattle.ground.proofs.Joins.{joined-length}
 use Rattle.tree_rule.proofs.Formed.{formed-tree}
-use Rattle.tree_rule.proofs.PutWords.{word-take}
-use Rattle.apply_rule.specs.Applying.{appliedFile}
-use Rattle.apply_rule.specs.inner.Plans.{mappingIn, changesIn, shownAt, Planned, plannedChanges, laidOut}
+use Rattle.tree_rule.proofs.ReadWritten.{token-length}
+use Rattle.tree_rule.proofs.RowLaws.{list-length}
+use Rattle.apply_rule.specs.Changes.{Changed}
+use Rattle.apply_rule.specs.Applying.{appliedFile, newNames, numbered}
+use Rattle.apply_rule.specs.inner.Plans.{mappingIn, changesIn, laidFrom, laidOut}
 use Rattle.apply_rule.proofs.Laid.{laid-applied}
-use Rattle.apply_rule.proofs.Planned.{planned-rows, planned-same, changes-length}
+use Rattle.apply_rule.proofs.Numbering.{numbered-length}
+use Rattle.apply_rule.proofs.NodeChanges.{changes-length}
 use Rattle.apply_pieces.specs.inner.Notes.{Noted}
-use Rattle.apply_plans.specs.inner.Noted.{Blank}
-use Rattle.apply_plans.specs.inner.Passed.{PlansMade}
+use Rattle.apply_plans.specs.declared.rows.Planned.{Planned}
+use Rattle.apply_plans.specs.declared.rows.Planned.the-variants as plans
+use Rattle.apply_plans.specs.inner.Entries.{entryAt, plannedText, plannedNames}
+use Rattle.apply_plans.specs.inner.Passed.{PlansReady, PlansMade, PlansBy}
+use Rattle.apply_plans.specs.inner.Put.{NoRow}
 use Rattle.apply_output.proofs.Listing.{laid-length}
-use Rattle.apply_output.specs.inner.Output.{Ready, OutputIs, OutputOver, OutputBy}
+use Rattle.apply_output.specs.inner.Output.{Ready, outputFrom, OutputIs, OutputBy}
 use Rattle.apply.specs.inner.Filled.{PassReady, FillReady, FilledTo, NoneFilled, OutputFilledBy}
-use Rattle.ground.proofs.Fill.{zero-at}
+use Rattle.ground.specs.Join.{join}
 
 -- Zeros.
 pub zero-drop : (k n : ℕ) → _≡_ {A = List ℕ} (drop k (replicate n 0)) (replicate (n - k) 0)
@@ -36,87 +42,96 @@ zero-drop zero n = let z : n - 0 ≡ n = omega arith in rw z
 zero-drop (suc k) zero = let z : 0 - suc k ≡ 0 = omega arith in rw z
 zero-drop (suc k) (suc n) = let z : suc n - suc k ≡ n - k = omega arith in rw z (zero-drop k n)
 
-zero-word : (n p : ℕ) → wordAt (replicate n 0) p ≡ 0
-unfolding wordAt
-zero-word n p = rw (zero-at n p, zero-at n (p + 1), zero-at n (p + 2), zero-at n (p + 3))
+-- what is laid out with the changes of a file
+module _ (classes rows : List (List ℕ)) (pool class : List ℕ) (c : TreeCounts) (f : List ℕ) (k : FormedBy c f) where
+  abbrev changes : List Changed
+  changes = changesIn classes rows pool class c f
 
--- a file never gets shorter
-longer : (classes rows : List (List ℕ)) (pool class : List ℕ) (c : TreeCounts) (f : List ℕ) → FormedBy c f →
-    fileLength c ≤ length (laidOut c f (changesIn classes rows pool class c f))
-longer classes rows pool class c f k =
-    omega (arith, laid-length c f (changesIn classes rows pool class c f) (k .size) (changes-length classes rows pool class c f k))
+  abbrev laid : List ℕ
+  laid = laidOut c f changes
 
-module _ (classes rows : List (List ℕ)) (pool class : List ℕ) (c : TreeCounts) (f : List ℕ) (old : List ℕ) (k : PassReady classes c f old) where
-  pub pass-blank : Blank old
-  pass-blank = record { words = λ p. ap (λ l. wordAt l p) (k .zero) ∙ zero-word (length old) p }
+  laid-size : length laid ≡ bytesStart c + 8 * length (newNames changes) + c .bytes + length (join (newNames changes))
+  laid-size =
+      laid-length c f (join (map tokenRowBytes (numbered (c .names) changes))) (newNames changes) (k .size)
+      (joined-length tokenRowBytes 12 token-length (numbered (c .names) changes)
+      ∙ ap (λ n. 12 * n) (numbered-length (c .names) changes ∙ changes-length classes rows pool class c f k))
 
+  -- a file never gets shorter
+  longer : fileLength c ≤ length laid
+  longer = omega (arith, laid-size)
+
+module _ (classes rows : List (List ℕ)) (pool class : List ℕ) (c : TreeCounts) (f : List ℕ) (old : List ℕ) (k : PassReady classes rows c f old) where
   pub pass-file : fileLength c ≤ length f
   pass-file = omega (arith, k .formed .size)
 
-  module _ {mid : List ℕ} (p : PlansMade classes rows pool class c f old mid) where
-    pub pass-room : fileLength c ≤ length mid
-    pass-room = omega (arith, k .room, p .size)
+  module _ {noted : List ℕ} (n : Noted c f classes pool old noted) where
+    pub pass-plans : PlansReady classes rows pool c f noted
+    pass-plans = record {
+      formed = k .formed;
+      file = k .file;
+      told = record { room = omega (arith, k .room, n .size); says = n .notes };
+      low = k .low;
+      most = omega (arith, k .most, n .size);
+    }
 
-    module _ {noted : List ℕ} (n : Noted c f classes pool mid noted) where
-      same-words : (q : ℕ) → q + 4 ≤ namesStart c → wordAt noted q ≡ wordAt mid q
-      same-words q h =
-          sym (word-take noted (namesStart c) q h) ∙ ap (λ l. wordAt l q) (n .before) ∙ word-take mid (namesStart c) q h
+    module _ (r : Planned) (mid : List ℕ) (p : PlansBy r classes rows pool class c f noted mid) where
+      -- no room for the plan of a name
+      pub pass-none : r ≡ plans.NoRoom → NoneFilled (laidOut c f (changesIn classes rows pool class c f)) old
+      pass-none e =
+          let none : NoRow c (length (newNames (changesIn classes rows pool class c f))) noted = rw e at p in
+          record { over = omega (arith, none .over, laid-size classes rows pool class c f (k .formed), n .size) }
 
-      -- plans stand before the notes
-      still-planned : Planned (c .tokens) classes rows pool c f noted (changesIn classes rows pool class c f)
-      still-planned =
-          record {
-            tokens = p .planned .tokens;
-            plans = λ i h. rw (same-words (shownAt c i) (omega arith)) (p .planned .plans i h);
-          }
+      module _ {count : ℕ} (e : r ≡ plans.Done count) where
+        made : PlansMade count classes rows pool class c f noted mid
+        made = rw e at p
 
-      pub pass-ready : {index : List ℕ} → IndexBy Raw classes pool index → Ready index classes rows pool c f noted
-      pass-ready x =
-          record {
-            formed = k .formed;
-            room = omega (arith, k .room, p .size, n .size);
-            most = omega (arith, k .most, p .size, n .size);
-            indexed = x;
-            members = planned-rows still-planned;
-            notes = n .notes;
-          }
+        pub pass-ready : {index : List ℕ} → IndexBy Raw classes pool index → Ready index classes pool c f count mid
+        pass-ready x = record {
+          formed = k .formed;
+          room = omega (arith, k .room, made .size, n .size);
+          most = omega (arith, k .most, made .size, n .size);
+          rows = omega (arith, made .room, made .size);
+          indexed = x;
+          notes = λ i h. rw (made .kept (namesStart c + 8 * i) (omega arith) (omega arith), made .kept (namesStart c + 8 * i + 4) (omega arith) (omega arith)) (n .notes i h);
+          plans = made .fits;
+        }
 
-      same-file : laidOut c f (plannedChanges classes rows pool c f noted) ≡ laidOut c f (changesIn classes rows pool class c f)
-      same-file = planned-same still-planned (changes-length classes rows pool class c f (k .formed))
+        same-file : outputFrom classes pool c f count mid ≡ laidOut c f (changesIn classes rows pool class c f)
+        same-file = ap (λ t. laidFrom c f t (plannedNames classes pool c f mid count)) (made .tokens)
+            ∙ ap (laidFrom c f (join (map tokenRowBytes (numbered (c .names) (changesIn classes rows pool class c f))))) (made .texts)
 
-      behind : (e : ℕ) → fileLength c ≤ e → drop e noted ≡ replicate (length old - e) 0
-      behind e h =
-          let y : fileLength c + (e - fileLength c) ≡ e = omega arith in
-          let x : namesStart c + (e - namesStart c) ≡ e = omega arith in
-          ap (λ v. drop v noted) (sym y) ∙ sym (drop-drop (e - fileLength c) (fileLength c) noted) ∙ ap (drop (e - fileLength c)) (n .behind)
-          ∙ drop-drop (e - fileLength c) (fileLength c) mid ∙ ap (λ v. drop v mid) (y ∙ sym x)
-          ∙ sym (drop-drop (e - namesStart c) (namesStart c) mid) ∙ ap (drop (e - namesStart c)) (p .behind)
-          ∙ drop-drop (e - namesStart c) (namesStart c) old ∙ ap (λ v. drop v old) x
-          ∙ ap (drop e) (k .zero) ∙ zero-drop e (length old)
+        counted : count ≡ length (newNames (changesIn classes rows pool class c f))
+        counted = sym (list-length (plannedText classes pool c f mid) 0 count) ∙ ap length (made .texts)
 
-      pub pass-done : {e : ℕ} {new : List ℕ} → OutputIs e classes rows pool c f noted new →
-          FilledTo e (laidOut c f (changesIn classes rows pool class c f)) old new
-      pass-done {e} {new} o =
-          let file : List ℕ = laidOut c f (changesIn classes rows pool class c f) in
-          let past : e ≡ length file = o .past ∙ ap length same-file in
-          let rest : drop e noted ≡ replicate (length old - e) 0 = behind e (omega (arith, past, longer classes rows pool class c f (k .formed))) in
-          record {
-            past = past;
-            room = omega (arith, o .room, n .size, p .size);
-            is = o .is ∙ ap (λ l. l ++ drop e noted) same-file ∙ ap (λ l. file ++ l) rest;
-          }
+        behind : (x : ℕ) → fileLength c ≤ x → entryAt c count ≤ x → drop x mid ≡ replicate (length old - x) 0
+        behind x h l =
+            let y : fileLength c + (x - fileLength c) ≡ x = omega arith in
+            let z : entryAt c count + (x - entryAt c count) ≡ x = omega arith in
+            ap (λ v. drop v mid) (sym z) ∙ sym (drop-drop (x - entryAt c count) (entryAt c count) mid) ∙ ap (drop (x - entryAt c count)) (made .behind)
+            ∙ drop-drop (x - entryAt c count) (entryAt c count) noted ∙ ap (λ v. drop v noted) (z ∙ sym y)
+            ∙ sym (drop-drop (x - fileLength c) (fileLength c) noted) ∙ ap (drop (x - fileLength c)) (n .behind)
+            ∙ drop-drop (x - fileLength c) (fileLength c) old ∙ ap (λ v. drop v old) y
+            ∙ ap (drop x) (k .zero) ∙ zero-drop x (length old)
 
-      pub pass-over : OutputOver classes rows pool c f noted → NoneFilled (laidOut c f (changesIn classes rows pool class c f)) old
-      pass-over o = record { over = omega (arith, o .over, ap length same-file, n .size, p .size) }
+        done : {x : ℕ} {new : List ℕ} → OutputIs x classes pool c f count mid new →
+            FilledTo x (laidOut c f (changesIn classes rows pool class c f)) old new
+        done {x} {new} o =
+            let file : List ℕ = laidOut c f (changesIn classes rows pool class c f) in
+            let past : x ≡ length file = o .past ∙ ap length same-file in
+            let long = laid-size classes rows pool class c f (k .formed) in
+            let rest : drop x mid ≡ replicate (length old - x) 0 = behind x (omega (arith, past, long)) (omega (arith, past, long, counted)) in
+            record {
+              past = past;
+              room = omega (arith, o .room, made .size, n .size);
+              is = o .is ∙ ap (λ l. l ++ drop x mid) same-file ∙ ap (λ l. file ++ l) rest;
+            }
 
-pub pass-by : (classes rows : List (List ℕ)) (pool class : List ℕ) (c : TreeCounts) (f old : List ℕ) → PassReady classes c f old →
-    {mid : List ℕ} → PlansMade classes rows pool class c f old mid → {noted : List ℕ} → Noted c f classes pool mid noted →
-    (r : Wrote) (new : List ℕ) → OutputBy r classes rows pool c f noted new →
-    OutputFilledBy r (laidOut c f (changesIn classes rows pool class c f)) old new
-pass-by classes rows pool class c f old k p n (Done e) new o = pass-done classes rows pool class c f old k p n o
-pass-by classes rows pool class c f old k p n NoRoom new o = pass-over classes rows pool class c f old k p n o
+        pub pass-by : (q : Wrote) (new : List ℕ) → OutputBy q classes pool c f count mid new →
+            OutputFilledBy q (laidOut c f (changesIn classes rows pool class c f)) old new
+        pass-by (Done x) new o = done o
+        pass-by NoRoom new o = record { over = omega (arith, o .over, ap length same-file, made .size, n .size) }
 
-pub ruleset passes = (pass-blank, pass-file, pass-room, pass-ready, pass-by, needs)
+pub ruleset passes = (pass-file, pass-plans, pass-none, pass-ready, pass-by, needs)
 
 -- The whole file.
 module _ (classes rows : List (List ℕ)) (pool class : List ℕ) (f old : List ℕ) (k : FillReady classes rows f old)
@@ -136,9 +151,9 @@ module _ (classes rows : List (List ℕ)) (pool class : List ℕ) (f old : List 
   fill-head = omega (arith, formed .size)
 
   module _ {c : TreeCounts} (e : c ≡ countsIn f) where
-    pub fill-ready : length f ≤ length old → PassReady classes c f old
+    pub fill-ready : length f ≤ length old → PassReady classes rows c f old
     fill-ready h =
-        subst (λ x. PassReady classes x f old) (sym e)
+        subst (λ x. PassReady classes rows x f old) (sym e)
         (record {
           formed = formed;
           file = k .file;
@@ -146,6 +161,7 @@ module _ (classes rows : List (List ℕ)) (pool class : List ℕ) (f old : List 
           most = k .most;
           zero = k .zero;
           few = k .few-classes;
+          low = k .low;
         })
 
     pub fill-done : (r : Wrote) (new : List ℕ) → OutputFilledBy r (laidOut c f (changesIn classes rows pool class c f)) old new →

@@ -1,6 +1,7 @@
-// The passes over a tree file: plans of its tokens, notes of its names, the output.
+// The passes over a tree file: notes of its names, plans of its tokens, the output.
 use apply_output::write_output;
 use apply_pieces::note_names;
+use apply_plans::Planned;
 use apply_plans::plan_nodes;
 use name_index::MEMBER_INDEX;
 use name_index::index_members;
@@ -32,7 +33,7 @@ fn pass(
     members: &[MemberRow],
     pool: &[u8],
 ) -> Wrote
-    requires { ⌜ PassReady (now classes) counts (now tree) (now out)
+    requires { ⌜ PassReady (now classes) (now members) counts (now tree) (now out)
         × IndexBy Raw (now classes) (now pool) (now index)
         × Chained (now classes) (now pool) (now members) (now chains) (length (now members)) ⌝ }
     ensures { λ r.
@@ -40,7 +41,8 @@ fn pass(
         let cs = changesIn (now (classes .entry)) (now (members .entry)) (now (pool .entry)) (now (class .entry)) counts f in
         ⌜ OutputFilledBy r (laidOut counts f cs) (now (out .entry)) (now (out .exit)) ⌝ }
 {
-    plan_nodes(
+    note_names(out, tree, counts, index, classes, pool);
+    let Planned::Done(count) = plan_nodes(
         out,
         tree,
         counts,
@@ -50,9 +52,10 @@ fn pass(
         classes,
         members,
         pool,
-    );
-    note_names(out, tree, counts, index, classes, pool);
-    write_output(out, tree, counts, index, classes, members, pool)
+    ) else {
+        return Wrote::NoRoom;
+    };
+    write_output(out, tree, counts, index, classes, pool, count)
 }
 
 // The file with the mapping applied, into an output that is zero. A file never gets shorter.

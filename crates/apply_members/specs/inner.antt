@@ -1,2 +1,3 @@
 -- Words of inner contracts: no rule cites them.
 pub mod Notes
+pub mod Tokens

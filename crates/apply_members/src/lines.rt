@@ -8,10 +8,10 @@ ghost use mathlib.Core.Path.{_≡_};
 ghost use lib.ListN.{length};
 ghost use Rattle.name_lines.specs.LineNames.{rawLine};
 ghost use Rattle.name_index.specs.inner.Chains.{Chained};
-ghost use Rattle.apply_members.specs.inner.Notes.{MeantBy, lineBy, lineNumber};
+ghost use Rattle.apply_members.specs.inner.Notes.{MeantBy, lineBy};
 
-// What a source line shows: its display line, or what it showed before where it has none.
-pub fn noted_line(
+// What the mapping says of a raw line.
+pub fn context_line(
     chains: &[u16],
     classes: &[ClassRow],
     members: &[MemberRow],
@@ -19,20 +19,15 @@ pub fn noted_line(
     home: usize,
     context: u32,
     raw: u32,
-    display: u32,
-) -> u32
+) -> LineName
     requires { ⌜ Chained (now classes) (now pool) (now members) (now chains) (length (now members))
         × MeantBy (now classes) (now members) (now pool) home context ⌝ }
     ensures { λ r.
-        let line = lineBy (now (classes .entry)) (now (members .entry)) (now (pool .entry)) home context (rawLine raw) in
-        ⌜ r ≡ lineNumber display line ⌝ }
+        ⌜ r ≡ lineBy (now (classes .entry)) (now (members .entry)) (now (pool .entry)) home context (rawLine raw) ⌝ }
 {
     if context == 0 {
-        return display;
+        return LineName::Unknown;
     }
     let row = context as usize - 1;
-    match line_by_row(chains, classes, members, pool, home, row, RawLine(raw)) {
-        LineName::Line(shown) => shown.0,
-        LineName::Unknown => display,
-    }
+    line_by_row(chains, classes, members, pool, home, row, RawLine(raw))
 }

@@ -1,10 +1,8 @@
 // What the mapping says of a member: the number of its row, its place and one more, or 0 where there is none.
 use name_index::chained_row;
-use name_members::Asked;
 use name_members::Sought;
 use name_members::display_of;
 use name_members::is_sought;
-use table_index::last_raw;
 use table_rows::ClassRow;
 use table_rows::MemberRow;
 use table_rows::unpack_member;
@@ -18,14 +16,12 @@ ghost use lib.ListN.{length, getD};
 ghost use Rattle.ground.specs.Look.{known};
 ghost use Rattle.table_rows.specs.Rows.{unpackClass, unpackMember, mostMembers};
 ghost use Rattle.tables.specs.declared.search.Found.the-variants.{Row};
-ghost use Rattle.tables.specs.declared.search.Side.the-variants.{Raw};
 ghost use Rattle.tables.specs.Back.{textIn};
 ghost use Rattle.tables.specs.Search.{lastRaw};
-ghost use Rattle.table_index.specs.inner.Index.{IndexBy};
 ghost use Rattle.name_rule.specs.Mappings.{kindBack};
 ghost use Rattle.name_rule.specs.MemberNames.{key, ownedBy};
 ghost use Rattle.name_index.specs.inner.Chains.{Chained};
-ghost use Rattle.apply_members.specs.inner.Notes.{notedRow, isHome, fieldNote, methodNote, memberNote};
+ghost use Rattle.apply_members.specs.inner.Notes.{notedRow, isHome, isRow, foundNote, rowNote};
 
 pub struct MemberNote {
     // The row whose name is shown.
@@ -47,7 +43,7 @@ fn row_number(found: Found) -> u32
 }
 
 // "A method whose owner is the class given".
-fn is_home(class: &[u8], owner: &[u8], descriptor: &[u8]) -> bool
+pub fn is_home(class: &[u8], owner: &[u8], descriptor: &[u8]) -> bool
     ensures { λ r. ⌜ r ≡ isHome (now (class .entry)) (now (owner .entry)) (now (descriptor .entry)) ⌝ }
 {
     if starts_as(descriptor, true) {
@@ -74,68 +70,18 @@ fn is_own(
     is_sought(Sought::Own, pool, unpack_member(members[row]), display)
 }
 
-// A field of the class of a class row, which is the last with its raw descriptor.
-fn field_note(
-    chains: &[u16],
-    classes: &[ClassRow],
-    members: &[MemberRow],
-    pool: &[u8],
-    class: usize,
-    name: &[u8],
-    descriptor: &[u8],
-) -> MemberNote
-    requires { ⌜ Chained (now classes) (now pool) (now members) (now chains) (length (now members))
-        × (lastRaw (now classes) (now pool) (textIn (now pool) (unpackClass (getD (now classes) class []) .raw)) ≡ Row class) ⌝ }
-    ensures { λ r.
-        let p = now (pool .entry) in
-        let k = key (textIn p (unpackClass (getD (now (classes .entry)) class []) .raw)) (now (name .entry)) (now (descriptor .entry)) in
-        ⌜ r ≡ fieldNote (now (classes .entry)) (now (members .entry)) p k ⌝ }
-{
-    let found = chained_row(
-        chains,
-        classes,
-        members,
-        pool,
-        class,
-        name,
-        descriptor,
-        Asked::Field,
-    );
-    MemberNote {
-        named: row_number(found),
-        inherits: true,
-        lines: 0,
-    }
-}
-
-// A method of that class; `home` says whether it is the class given.
+// A method of the class of a class row, by the row that names it; `home` says whether that class is the class given.
 fn method_note(
-    chains: &[u16],
     classes: &[ClassRow],
     members: &[MemberRow],
     pool: &[u8],
     class: usize,
-    name: &[u8],
-    descriptor: &[u8],
+    found: Found,
     home: bool,
 ) -> MemberNote
-    requires { ⌜ Chained (now classes) (now pool) (now members) (now chains) (length (now members))
-        × (lastRaw (now classes) (now pool) (textIn (now pool) (unpackClass (getD (now classes) class []) .raw)) ≡ Row class) ⌝ }
-    ensures { λ r.
-        let p = now (pool .entry) in
-        let k = key (textIn p (unpackClass (getD (now (classes .entry)) class []) .raw)) (now (name .entry)) (now (descriptor .entry)) in
-        ⌜ r ≡ methodNote (now (classes .entry)) (now (members .entry)) p k home ⌝ }
+    requires { ⌜ (class < length (now classes)) × (notedRow found ≤ length (now members)) × (length (now members) ≤ mostMembers) ⌝ }
+    ensures { λ r. ⌜ r ≡ foundNote (now (classes .entry)) (now (members .entry)) (now (pool .entry)) class found home ⌝ }
 {
-    let found = chained_row(
-        chains,
-        classes,
-        members,
-        pool,
-        class,
-        name,
-        descriptor,
-        Asked::Method,
-    );
     let named = row_number(found);
     let Found::Row(row) = found else {
         return MemberNote {
@@ -165,34 +111,53 @@ fn method_note(
     }
 }
 
-// A member, by the raw descriptor of its class, its raw name and its raw descriptor.
+// Whether a class row is the one that is found.
+fn is_row(found: Found, row: usize) -> bool
+    ensures { λ r. ⌜ r ≡ isRow found row ⌝ }
+{
+    match found {
+        Found::Row(known) => known == row,
+        Found::Unknown => false,
+    }
+}
+
+// A member of the class of a class row, which is the last with its raw descriptor. `given` is the class row of the class given: where a row
+// is found, the two classes are compared by their rows.
 pub fn member_note(
-    index: &[u16],
     chains: &[u16],
     classes: &[ClassRow],
     members: &[MemberRow],
     pool: &[u8],
-    class: &[u8],
-    owner: &[u8],
+    given: Found,
+    class: usize,
     name: &[u8],
     descriptor: &[u8],
 ) -> MemberNote
-    requires { ⌜ IndexBy Raw (now classes) (now pool) (now index)
-        × Chained (now classes) (now pool) (now members) (now chains) (length (now members)) ⌝ }
+    requires { ⌜ Chained (now classes) (now pool) (now members) (now chains) (length (now members))
+        × (lastRaw (now classes) (now pool) (textIn (now pool) (unpackClass (getD (now classes) class []) .raw)) ≡ Row class) ⌝ }
     ensures { λ r.
-        let k = key (now (owner .entry)) (now (name .entry)) (now (descriptor .entry)) in
-        ⌜ r ≡ memberNote (now (classes .entry)) (now (members .entry)) (now (pool .entry)) (now (class .entry)) k ⌝ }
+        let p = now (pool .entry) in
+        let k = key (textIn p (unpackClass (getD (now (classes .entry)) class []) .raw)) (now (name .entry)) (now (descriptor .entry)) in
+        ⌜ r ≡ rowNote (now (classes .entry)) (now (members .entry)) p k (isRow given class) ⌝ }
 {
-    let home = is_home(class, owner, descriptor);
-    let Found::Row(row) = last_raw(index, classes, pool, owner) else {
-        return MemberNote {
-            named: 0,
-            inherits: !home,
-            lines: 0,
-        };
-    };
-    if starts_as(descriptor, true) {
-        return method_note(chains, classes, members, pool, row, name, descriptor, home);
+    let method = starts_as(descriptor, true);
+    let found = chained_row(
+        chains,
+        classes,
+        members,
+        pool,
+        class,
+        name,
+        descriptor,
+        !method,
+    );
+    if method {
+        let home = is_row(given, class);
+        return method_note(classes, members, pool, class, found, home);
     }
-    field_note(chains, classes, members, pool, row, name, descriptor)
+    MemberNote {
+        named: row_number(found),
+        inherits: true,
+        lines: 0,
+    }
 }

@@ -1,12 +1,8 @@
 pub mod Planning
 pub mod Rowing
-pub mod Turning
-pub mod Quieting
-pub mod ByKind
-pub mod Changing
 pub mod Listing
 pub mod Placing
 pub mod Below
-pub mod Laying
+pub mod Naming
 pub mod Finishing
 pub mod Outputting

@@ -1,69 +1,48 @@
--- Three texts put into a list: one, one behind all, and one between them. Assumes nothing.
+-- Two texts put into a list: one behind, and one before it. Assumes nothing.
 use mathlib.Core.Path.{_≡_, _∙_, ap}
 use mathlib.Core.List.{List, _++_}
 use Prim.Native.Nat.{ℕ, _+_, _≤_}
 use native.Mathlib.Omega.{arith}
-use lib.ListN.{length, drop}
+use lib.ListN.{length, take, drop}
 use Rattle.ground.specs.Put.{put, between}
 use Rattle.ground.proofs.PutLaws.{length-put}
 use Rattle.tree_rule.specs.Words.{wordAt}
-use Rattle.tree_rule.proofs.PutWords.{drop-put, part-before, part-after, part-more, word-before, word-after}
+use Rattle.tree_rule.proofs.PutWords.{take-put, drop-put, part-before, part-after, part-more, word-before, word-after}
 
 module _
-    (d : List ℕ) (a : ℕ) (x : List ℕ) (e : ℕ) (y : List ℕ) (r : ℕ) (z : List ℕ)
-    (fa : a + length x ≤ r) (fr : r + length z ≤ e) (fe : e + length y ≤ length d) where
+    (d : List ℕ) (e : ℕ) (y : List ℕ) (r : ℕ) (z : List ℕ)
+    (fr : r + length z ≤ e) (fe : e + length y ≤ length d) where
   abbrev one : List ℕ
-  one = put d a x
+  one = put d e y
 
-  abbrev two : List ℕ
-  two = put one e y
-
-  abbrev pub three : List ℕ
-  three = put two r z
-
-  fits-one : a + length x ≤ length d
-  fits-one = omega arith
+  abbrev pub two : List ℕ
+  two = put one r z
 
   one-size : length one ≡ length d
-  one-size = length-put d a x fits-one
+  one-size = length-put d e y fe
 
-  fits-two : e + length y ≤ length one
+  fits-two : r + length z ≤ length one
   fits-two = omega (arith, one-size)
 
-  two-size : length two ≡ length d
-  two-size = length-put one e y fits-two ∙ one-size
-
-  fits-three : r + length z ≤ length two
-  fits-three = omega (arith, two-size)
-
-  pub three-size : length three ≡ length d
-  three-size = length-put two r z fits-three ∙ two-size
+  pub two-size : length two ≡ length d
+  two-size = length-put one r z fits-two ∙ one-size
 
   -- each goes on where it is put
-  pub three-first : («from» : ℕ) → «from» ≤ a → between three «from» (a + length x) ≡ between d «from» a ++ x
-  three-first «from» h =
-      part-before two r z fits-three «from» (a + length x) fa
-      ∙ part-before one e y fits-two «from» (a + length x) (omega arith)
-      ∙ part-more d a x fits-one «from» h
+  pub two-front : («from» : ℕ) → «from» ≤ r → between two «from» (r + length z) ≡ between d «from» r ++ z
+  two-front «from» h =
+      part-more one r z fits-two «from» h ∙ ap (λ s. s ++ z) (part-before d e y fe «from» r (omega arith))
 
-  pub three-second : («from» : ℕ) → a + length x ≤ «from» → «from» ≤ r → between three «from» (r + length z) ≡ between d «from» r ++ z
-  three-second «from» l h =
-      part-more two r z fits-three «from» h
-      ∙ ap (λ s. s ++ z) (part-before one e y fits-two «from» r (omega arith) ∙ part-after d a x fits-one «from» r l)
-
-  pub three-third : («from» : ℕ) → r + length z ≤ «from» → «from» ≤ e → between three «from» (e + length y) ≡ between d «from» e ++ y
-  three-third «from» l h =
-      part-after two r z fits-three «from» (e + length y) l
-      ∙ part-more one e y fits-two «from» h
-      ∙ ap (λ s. s ++ y) (part-after d a x fits-one «from» e (omega arith))
+  pub two-back : («from» : ℕ) → r + length z ≤ «from» → «from» ≤ e → between two «from» (e + length y) ≡ between d «from» e ++ y
+  two-back «from» l h =
+      part-after one r z fits-two «from» (e + length y) l ∙ part-more d e y fe «from» h
 
   -- and nothing else is touched
-  pub three-word : (p : ℕ) → a + length x ≤ p → p + 4 ≤ r → wordAt three p ≡ wordAt d p
-  three-word p l h =
-      word-before two r z fits-three p h ∙ word-before one e y fits-two p (omega arith) ∙ word-after d a x fits-one p l
+  pub two-before : (n : ℕ) → n ≤ r → take n two ≡ take n d
+  two-before n h = take-put one r z fits-two n h ∙ take-put d e y fe n (omega arith)
 
-  pub three-behind : drop (e + length y) three ≡ drop (e + length y) d
-  three-behind =
-      drop-put two r z fits-three (e + length y) (omega arith)
-      ∙ drop-put one e y fits-two (e + length y) (omega arith)
-      ∙ drop-put d a x fits-one (e + length y) (omega arith)
+  pub two-word : (p : ℕ) → r + length z ≤ p → p + 4 ≤ e → wordAt two p ≡ wordAt d p
+  two-word p l h = word-after one r z fits-two p l ∙ word-before d e y fe p h
+
+  pub two-behind : drop (e + length y) two ≡ drop (e + length y) d
+  two-behind =
+      drop-put one r z fits-two (e + length y) (omega arith) ∙ drop-put d e y fe (e + length y) (omega arith)

@@ -1,5 +1,4 @@
 -- Words of inner contracts: no rule cites them.
 pub mod Plan
-pub mod Quiet
-pub mod Turn
+pub mod NewName
 pub mod Output

@@ -1,68 +1,16 @@
 // The whole output.
-use crate::plan::count_names;
+use crate::names::put_names;
 use crate::rows::put_counts;
 use crate::rows::put_part;
-use crate::tokens::Added;
-use crate::tokens::put_change;
 use table_pool::Wrote;
 use table_rows::ClassRow;
-use table_rows::MemberRow;
 use tree_rule::TreeCounts;
 use tree_words::bytes_start;
 use tree_words::file_length;
 use tree_words::names_start;
 use tree_words::tokens_start;
 ghost use mathlib.Core.Path.{_≡_};
-ghost use Rattle.apply_output.specs.inner.Output.{Ready, LayReady, LaidBy, FinishReady, finished, OutputBy};
-
-// The rows of all tokens, and the `count` names that they add. Their texts come last: where there is no room for one of them there is none
-// for the output.
-fn put_tokens(
-    out: &mut [u8],
-    tree: &[u8],
-    counts: TreeCounts,
-    index: &[u16],
-    classes: &[ClassRow],
-    members: &[MemberRow],
-    pool: &[u8],
-    count: usize,
-) -> Wrote
-    requires { ⌜ LayReady (now index) (now classes) (now members) (now pool) counts (now tree) count (now out) ⌝ }
-    ensures { λ r.
-        ⌜ LaidBy r (now (classes .entry)) (now (members .entry)) (now (pool .entry)) counts (now (tree .entry)) count
-        (now (out .entry)) (now (out .exit)) ⌝ }
-{
-    let tokens = counts.tokens as usize;
-    let bytes = bytes_start(counts) + 8 * count;
-    let mut end = bytes + counts.bytes as usize;
-    let mut names = 0;
-    let mut token = 0;
-    while token < tokens {
-        let Added::Done {
-            names: more,
-            end: past,
-        } = put_change(
-            out,
-            tree,
-            counts,
-            index,
-            classes,
-            members,
-            pool,
-            bytes,
-            token,
-            names,
-            end,
-        )
-        else {
-            return Wrote::NoRoom;
-        };
-        names = more;
-        end = past;
-        token += 1;
-    }
-    Wrote::Done(end)
-}
+ghost use Rattle.apply_output.specs.inner.Output.{Ready, FinishReady, finished, OutputBy};
 
 // The counts, and what stands as it did in the tree: node rows, name rows and name bytes. `size` is the length of the texts that are added.
 fn finish(out: &mut [u8], tree: &[u8], counts: TreeCounts, count: usize, size: usize)
@@ -85,28 +33,25 @@ fn finish(out: &mut [u8], tree: &[u8], counts: TreeCounts, count: usize, size: u
     put_part(out, bytes + 8 * count, tree, bytes, end);
 }
 
-// Writes the output; `Done` holds its length.
+// Writes the output, to which `count` names are new; `Done` holds its length.
 pub fn write_output(
     out: &mut [u8],
     tree: &[u8],
     counts: TreeCounts,
     index: &[u16],
     classes: &[ClassRow],
-    members: &[MemberRow],
     pool: &[u8],
+    count: usize,
 ) -> Wrote
-    requires { ⌜ Ready (now index) (now classes) (now members) (now pool) counts (now tree) (now out) ⌝ }
+    requires { ⌜ Ready (now index) (now classes) (now pool) counts (now tree) count (now out) ⌝ }
     ensures { λ r.
-        ⌜ OutputBy r (now (classes .entry)) (now (members .entry)) (now (pool .entry)) counts (now (tree .entry))
-        (now (out .entry)) (now (out .exit)) ⌝ }
+        ⌜ OutputBy r (now (classes .entry)) (now (pool .entry)) counts (now (tree .entry)) count (now (out .entry)) (now (out .exit)) ⌝ }
 {
-    let count = count_names(out, tree, counts);
     let texts = file_length(counts) + 8 * count;
     if out.len() < texts {
         return Wrote::NoRoom;
     }
-    let Wrote::Done(end) = put_tokens(out, tree, counts, index, classes, members, pool, count)
-    else {
+    let Wrote::Done(end) = put_names(out, tree, counts, index, classes, pool, count) else {
         return Wrote::NoRoom;
     };
     let size = end - texts;

@@ -26,11 +26,15 @@ known-rest classes pool text a start row i k =
     let z : a + (start - a + length (rawOf classes pool row)) ≡ start + length (rawOf classes pool row) = omega arith in
     let rest : drop (start - a + length (rawOf classes pool row)) (drop a text) ≡ drop (start + length (rawOf classes pool row)) text =
     drop-drop (start - a + length (rawOf classes pool row)) a text ∙ ap (λ n. drop n text) z in
+    let there : a + (start - a) ≡ start = omega arith in
+    let long : start - a + length (rawOf classes pool row) - (start - a) ≡ start + length (rawOf classes pool row) - start = omega arith in
+    let piece : drop (start - a) (drop a text) ≡ drop start text = drop-drop (start - a) a text ∙ ap (λ n. drop n text) there in
     record {
       after = omega arith;
       inside = k .inside;
       filled = k .filled;
       ends = omega (arith, k .ends, length-drop a text);
+      last = rw (long, piece) (k .last);
       one = k .one;
       turns = rw (y, rest) (k .turns);
     }

@@ -236,6 +236,7 @@ module _
               inside = says .0;
               filled = omega (arith, piece-long);
               ends = omega (arith, piece-long);
+              last = rw piece-long (sym w ∙ u);
               one = k .decides ∙ here-piece .one (shown (readBack classes pool)) ∙ rw (says .2);
               turns =
                   k .turns ∙ ap (λ l. between text «from» at ++ l) (here-piece .turns (shown (readBack classes pool)))

@@ -119,6 +119,7 @@ known-behind {classes} {pool} {text} {a} {b} {start} {row} u k =
       inside = k .inside;
       filled = k .filled;
       ends = k .ends;
+      last = k .last;
       one = u .decides ∙ k .one;
       turns =
           u .turns ∙ ap (λ l. between text a b ++ l) (k .turns) ∙ sym (append-assoc (between text a b) (between text b start) _)

@@ -12,4 +12,5 @@ mod within;
 pub use known::KnownPiece;
 pub use known::first_known;
 pub use notes::note_names;
+pub use rows::raw_length;
 pub use show::put_shown;

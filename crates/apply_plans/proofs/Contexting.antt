@@ -50,11 +50,11 @@ pub ruleset above-reading = (none-above, above, above-inside, above-fits, needs)
 
 pub ruleset context-choosing = (inherited, own-context, needs)
 
-module _ {o w : Found} (g : o ≡ w) where
-  pub home-found : {i : ℕ} → o ≡ Row i → i ≡ homeRow w
-  home-found e = sym (ap homeRow (sym g ∙ e))
+module _ (given : Found) where
+  pub home-found : {i : ℕ} → given ≡ Row i → i ≡ homeRow given
+  home-found e = sym (ap homeRow e)
 
-  pub home-unknown : o ≡ Unknown → 0 ≡ homeRow w
-  home-unknown e = sym (ap homeRow (sym g ∙ e))
+  pub home-unknown : given ≡ Unknown → 0 ≡ homeRow given
+  home-unknown e = sym (ap homeRow e)
 
 pub ruleset home-finding = (home-found, home-unknown, needs)

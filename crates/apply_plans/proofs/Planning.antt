@@ -1,195 +1,146 @@
--- One node planned: its head, then its lines. Assumes nothing.
+-- What becomes of a token. Assumes nothing.
 use mathlib.Core.Path.{_≡_, refl, sym, _∙_, ap}
-use mathlib.Core.Bool.{Bool, true, false}
-use mathlib.Core.List.{List}
-use mathlib.Core.Logic.{_⊎_, inl, inr}
-use Prim.Native.Nat.{ℕ, zero, suc, _+_, _*_, _-_, _^_, _≤_, _<_}
+use mathlib.Core.List.{List, []}
+use Prim.Native.Nat.{ℕ, zero, suc, _+_, _*_, _-_, _≤_, _<_}
 use native.Mathlib.Omega.{arith}
-use lib.Dec.{eqb}
-use lib.ListN.{length, drop}
-use mir.Val.{Fits}
-use mir.Syntax.{w64}
+use lib.ListN.{length, getD}
 use borrow.Author.Needs.{needs}
-use borrow.Author.Tests.{eqb-true, eq-eqb, ne-eqb}
+use borrow.Author.Tests.{eq-eqb, ne-eqb}
 use Rattle.ground.specs.Choice.{pick}
-use Rattle.ground.specs.Put.{put}
-use Rattle.ground.proofs.Cases.{clash, le-or-lt, none-either}
-use Rattle.ground.proofs.PutLaws.{length-put}
+use Rattle.table_rows.specs.declared.rows.Member.{Member}
+use Rattle.table_rows.specs.declared.rows.Class.{Class}
+use Rattle.table_rows.specs.Rows.{unpackClass, unpackMember}
+use Rattle.name_lines.specs.declared.lines.DisplayLine.{DisplayLine}
+use Rattle.name_lines.specs.declared.lines.LineName.{LineName}
+use Rattle.name_lines.specs.declared.lines.LineName.the-variants as line
+use Rattle.name_lines.specs.LineNames.{rawLine}
 use Rattle.tree_rule.specs.declared.TreeCounts.{TreeCounts}
-use Rattle.tree_rule.specs.Words.{wordAt, wordBytes}
-use Rattle.tree_rule.specs.Files.{nodesStart, tokensStart, tokenRow, tokenAt}
-use Rattle.tree_rule.proofs.WordLaws.{bytes-length}
-use Rattle.tree_rule.proofs.PutWords.{drop-put, word-before, word-after, word-put}
-use Rattle.apply_rule.specs.inner.Plans.{shownAt}
-use Rattle.apply_members.specs.declared.node.NodeNote.{NodeNote}
-use Rattle.apply_members.specs.inner.Notes.{MeantBy}
-use Rattle.apply_plans.specs.inner.Noted.{linedWord, Lined, contextNoted, headPut, HeadReady, NodeReady, NodePlanned}
+use Rattle.tree_rule.specs.declared.Token.{Token}
+use Rattle.tree_rule.specs.declared.Token.the-variants.{Other, MemberName, Descriptor, SourceLine}
+use Rattle.tree_rule.specs.Words.{wordAt}
+use Rattle.tree_rule.specs.Files.{tokensStart, namesStart, fileLength, tokenBy, tokenAt, textAt}
+use Rattle.tree_rule.specs.Theorems.{FormedBy, NamesBelow}
+use Rattle.tree_rule.proofs.Formed.{row-inside}
+use Rattle.apply_pieces.specs.inner.Known.{rawOf}
+use Rattle.apply_pieces.specs.inner.Notes.{NoteSays, NotesTold}
+use Rattle.apply_members.specs.inner.Notes.{lineBy}
+use Rattle.apply_plans.specs.declared.plan.Plan.{Plan}
+use Rattle.apply_plans.specs.declared.plan.Plan.the-variants as plan
+use Rattle.apply_plans.specs.inner.Plan.{textPlan, memberPlan, notedPlan, namePlan, linePlan, planBy, planAt}
 
-apart : (a b : ℕ) → (a ≡ b → ⊥) → b < a + 1 → b < a
-apart a b n h = go (le-or-lt a b)
-  where
-    go : (a ≤ b) ⊎ (b < a) → b < a
-    go (inl l) = absurd (n (let z : a ≡ b = omega arith in z))
-    go (inr l) = l
+-- The number of a row.
+module _ (rows : List (List ℕ)) (n : ℕ) where
+  pub no-member : n ≡ 0 → plan.Stays ≡ memberPlan rows n
+  no-member e = rw e
 
-module _ (c : TreeCounts) (f : List ℕ) (node first count : ℕ) (note : NodeNote) (old : List ℕ) (k : NodeReady c f node first count note old) where
-  pub ready-head : HeadReady c f node (note .member) (note .named) old
-  ready-head =
-      record {
-        formed = k .formed;
-        room = k .room;
-        there = k .there;
-        name = record { inside = λ h. let m = k .member h in let t = k .tokens in omega (arith, m .1) };
-      }
+  module _ (h : n ≡ 0 → ⊥) where
+    pub member-above : 1 ≤ n
+    member-above = omega arith
 
-  pub ready-rows : {a : ℕ} → a ≡ tokensStart c → a + 12 * first + 12 * count ≤ length f
-  ready-rows e = omega (arith, k .tokens, k .formed .size)
+    pub member-inside : n ≤ length rows → n - 1 < length rows
+    member-inside l = omega arith
 
-  pub ready-fits : length f < 2 ^ 64 → {a : ℕ} → a ≡ tokensStart c → Fits w64 (a + 12 * first)
-  ready-fits h e = omega (arith, k .tokens, k .formed .size)
-
-  pub ready-rows-fit : length f < 2 ^ 64 → Fits w64 (12 * first)
-  ready-rows-fit h = omega (arith, k .tokens, k .formed .size)
-
-  module _ (w : ℕ) (small : w < 4294967296) where
-    abbrev put-context : List ℕ
-    put-context = put old (nodesStart + 8 * node) (wordBytes w)
-
-    context-fits : nodesStart + 8 * node + length (wordBytes w) ≤ length old
-    context-fits = omega (arith, bytes-length w, k .there, k .room)
-
-    size-one : length put-context ≡ length old
-    size-one = length-put old (nodesStart + 8 * node) (wordBytes w) context-fits
-
-    -- the head of a node by its words
-    pub record Headed (new : List ℕ) : Type 0 where
-      pub size : length new ≡ length old
-      pub contexts : (i : ℕ) → i < node → wordAt new (nodesStart + 8 * i) ≡ wordAt old (nodesStart + 8 * i)
-      pub context : wordAt new (nodesStart + 8 * node) ≡ w
-      pub earlier : (t : ℕ) → t < first → wordAt new (shownAt c t) ≡ wordAt old (shownAt c t)
-      pub here : (i : ℕ) → i < count → wordAt new (shownAt c (first + i)) ≡ pick (eqb (first + i) (note .member)) (note .named) 0
-      pub behind : drop (tokensStart c + 12 * (first + count)) new ≡ drop (tokensStart c + 12 * (first + count)) old
-
-    beyond-row : (p : ℕ) → tokensStart c ≤ p → wordAt put-context p ≡ wordAt old p
-    beyond-row p h = word-after old (nodesStart + 8 * node) (wordBytes w) context-fits p (omega (arith, bytes-length w, k .there))
-
-    no-name : note .named ≡ 0 → Headed put-context
-    no-name e =
-        record {
-          size = size-one;
-          contexts = λ i h. word-before old (nodesStart + 8 * node) (wordBytes w) context-fits (nodesStart + 8 * i) (omega arith);
-          context = word-put old (nodesStart + 8 * node) w small context-fits;
-          earlier = λ t h. beyond-row (shownAt c t) (omega arith);
-          here = λ i h. beyond-row (shownAt c (first + i)) (omega arith)
-              ∙ k .blank (first + i) (omega arith) (omega (arith, k .tokens))
-              ∙ sym (ap (λ n. pick (eqb (first + i) (note .member)) n 0) e ∙ none-either (eqb (first + i) (note .member)));
-          behind = drop-put old (nodesStart + 8 * node) (wordBytes w) context-fits (tokensStart c + 12 * (first + count))
-              (omega (arith, bytes-length w, k .there));
-        }
-
-    module _ (some : 0 < note .named) where
-      inside : (first ≤ note .member) × (note .member < first + count)
-      inside = k .member some
-
-      abbrev both-put : List ℕ
-      both-put = put put-context (shownAt c (note .member)) (wordBytes (note .named))
-
-      name-fits : shownAt c (note .member) + length (wordBytes (note .named)) ≤ length put-context
-      name-fits = omega (arith, bytes-length (note .named), size-one, k .tokens, k .room, inside .1)
-
-      with-name : Headed both-put
-      with-name =
-          record {
-            size = length-put put-context (shownAt c (note .member)) (wordBytes (note .named)) name-fits ∙ size-one;
-            contexts = λ i h. lower (nodesStart + 8 * i) (omega (arith, k .there))
-                ∙ word-before old (nodesStart + 8 * node) (wordBytes w) context-fits (nodesStart + 8 * i) (omega arith);
-            context = lower (nodesStart + 8 * node) (omega (arith, k .there)) ∙ word-put old (nodesStart + 8 * node) w small context-fits;
-            earlier = λ t h. lower (shownAt c t) (omega (arith, inside .0)) ∙ beyond-row (shownAt c t) (omega arith);
-            here = λ i h. go i h (eqb (first + i) (note .member)) refl;
-            behind = drop-put put-context (shownAt c (note .member)) (wordBytes (note .named)) name-fits (tokensStart c + 12 * (first + count))
-                (omega (arith, bytes-length (note .named), inside .1))
-                ∙ drop-put old (nodesStart + 8 * node) (wordBytes w) context-fits (tokensStart c + 12 * (first + count))
-                (omega (arith, bytes-length w, k .there));
-          }
-        where
-          lower : (p : ℕ) → p + 4 ≤ shownAt c (note .member) → wordAt both-put p ≡ wordAt put-context p
-          lower p h = word-before put-context (shownAt c (note .member)) (wordBytes (note .named)) name-fits p h
-
-          higher : (p : ℕ) → shownAt c (note .member) + 4 ≤ p → wordAt both-put p ≡ wordAt put-context p
-          higher p h = word-after put-context (shownAt c (note .member)) (wordBytes (note .named)) name-fits p (omega (arith, bytes-length (note .named)))
-
-          other : (i : ℕ) → i < count → (first + i ≡ note .member → ⊥) → wordAt both-put (shownAt c (first + i)) ≡ wordAt put-context (shownAt c (first + i))
-          other i h n = side (le-or-lt (first + i + 1) (note .member))
-            where
-              side : (first + i + 1 ≤ note .member) ⊎ (note .member < first + i + 1) → wordAt both-put (shownAt c (first + i)) ≡ wordAt put-context (shownAt c (first + i))
-              side (inl l) = lower (shownAt c (first + i)) (omega arith)
-              side (inr l) = higher (shownAt c (first + i)) (let m : note .member < first + i = apart (first + i) (note .member) n (omega arith) in omega arith)
-
-          go : (i : ℕ) → i < count → (b : Bool) → eqb (first + i) (note .member) ≡ b →
-              wordAt both-put (shownAt c (first + i)) ≡ pick (eqb (first + i) (note .member)) (note .named) 0
-          go i h true e =
-              let z : first + i ≡ note .member = eqb-true (first + i) (note .member) e in
-              ap (λ t. wordAt both-put (shownAt c t)) z ∙ word-put put-context (shownAt c (note .member)) (note .named) (k .named-small) name-fits ∙ sym (rw e)
-          go i h false e =
-              other i h (λ z. clash (eq-eqb (first + i) (note .member) z) e)
-              ∙ beyond-row (shownAt c (first + i)) (omega arith)
-              ∙ k .blank (first + i) (omega arith) (omega (arith, k .tokens)) ∙ sym (rw e)
-
-    headed : {mid : List ℕ} → mid ≡ headPut c node w (note .member) (note .named) old → Headed mid
-    headed {mid} e = go (note .named) refl
+    pub some-member : {m : Member} → m ≡ unpackMember (getD rows (n - 1) []) → plan.Text (m .name .place) (m .name .length) ≡ memberPlan rows n
+    some-member {m} e = ap (λ x. textPlan (x .name)) e ∙ go n h
       where
-        none : note .named ≡ 0 → headPut c node w (note .member) (note .named) old ≡ put-context
-        none z = rw (eq-eqb (note .named) 0 z)
+        go : (k : ℕ) → (k ≡ 0 → ⊥) → textPlan (unpackMember (getD rows (k - 1) []) .name) ≡ memberPlan rows k
+        go zero q = absurd (q refl)
+        go (suc k) q = let z : suc k - 1 ≡ k = omega arith in rw z
 
-        one : (note .named ≡ 0 → ⊥) → headPut c node w (note .member) (note .named) old ≡ put put-context (shownAt c (note .member)) (wordBytes (note .named))
-        one z = rw (ne-eqb (note .named) 0 z)
+pub ruleset member-plans = (no-member, member-above, member-inside, some-member, needs)
 
-        go : (n : ℕ) → note .named ≡ n → Headed mid
-        go zero z =
-            let is : mid ≡ put-context = e ∙ none z in
-            rw is (no-name z)
-        go (suc n) z =
-            let is : mid ≡ put put-context (shownAt c (note .member)) (wordBytes (note .named)) = e ∙ one (λ y. let x : suc n ≡ 0 = sym z ∙ y in omega arith) in
-            rw is (with-name (omega arith))
+-- The note about a name.
+module _ (classes : List (List ℕ)) (pool : List ℕ) (c : TreeCounts) (f out : List ℕ) (name : ℕ) {s : ℕ} (e : s ≡ namesStart c)
+    (k : NotesTold classes pool c f out) (l : name < c .names) where
+  pub note-inside : s + 8 * name + 4 + 4 ≤ length out
+  note-inside = omega (arith, k .room)
 
-    -- then its lines
-    module _ {mid : List ℕ} (e : mid ≡ headPut c node w (note .member) (note .named) old) (is : w ≡ contextNoted f old node note)
-        {a : ℕ} (g : a ≡ tokensStart c) (classes rows : List (List ℕ)) (pool : List ℕ) (home : ℕ) where
-      head : Headed mid
-      head = headed e
+  module _ {number row : ℕ} (g : number ≡ wordAt out (s + 8 * name)) (i : row ≡ wordAt out (s + 8 * name + 4)) where
+    same : notedPlan classes pool (textAt c f name) name number row ≡ namePlan classes pool c f out name
+    same = rw (g, i, e)
 
-      pub lines-room : a + 12 * first + 12 * count ≤ length mid
-      lines-room = omega (arith, head .size, k .tokens, k .room)
+    pub no-note : number ≡ 0 → plan.Stays ≡ namePlan classes pool c f out name
+    no-note h = let z : notedPlan classes pool (textAt c f name) name 0 row ≡ notedPlan classes pool (textAt c f name) name number row = rw h in z ∙ same
 
-      module _ {new : List ℕ} (l : Lined classes rows pool home w f (a + 12 * first) count mid new) where
-        lower : (p : ℕ) → p + 4 ≤ a + 12 * first → wordAt new p ≡ wordAt mid p
-        lower p h = l .before p h
+    module _ (h : number ≡ 0 → ⊥) where
+      says : NoteSays number row classes pool (textAt c f name)
+      says = rw (g, i, e) (k .says name l)
 
-        pub node-planned : NodePlanned classes rows pool home c f node first count note old new
-        node-planned =
-            record {
-              size = l .size ∙ head .size;
-              contexts = λ i h. lower (nodesStart + 8 * i) (omega (arith, k .there)) ∙ head .contexts i h;
-              context = lower (nodesStart + 8 * node) (omega (arith, k .there)) ∙ head .context ∙ is;
-              earlier = λ t h. lower (shownAt c t) (omega arith) ∙ head .earlier t h;
-              here = λ i h. go i h;
-              behind = let z : a + 12 * first + 12 * count ≡ tokensStart c + 12 * (first + count) = omega arith in
-                  (rw z at (l .behind)) ∙ head .behind;
-            }
-          where
-            go : (i : ℕ) → i < count → wordAt new (shownAt c (first + i)) ≡ linedWord classes rows pool home (contextNoted f old node note)
-                (tokenAt c f (first + i)) (pick (eqb (first + i) (note .member)) (note .named) 0)
-            go i h =
-                let z : a + 12 * first + 12 * i ≡ tokensStart c + 12 * (first + i) = omega arith in
-                let y : a + 12 * first + 12 * i + 8 ≡ shownAt c (first + i) = omega arith in
-                ap (wordAt new) (sym y) ∙ l .done i h
-                ∙ ap (λ t. linedWord classes rows pool home w (tokenRow f t) (wordAt mid (a + 12 * first + 12 * i + 8))) z
-                ∙ ap (λ p. linedWord classes rows pool home w (tokenAt c f (first + i)) (wordAt mid p)) y
-                ∙ ap (linedWord classes rows pool home w (tokenAt c f (first + i))) (head .here i h)
-                ∙ ap (λ v. linedWord classes rows pool home v (tokenAt c f (first + i)) (pick (eqb (first + i) (note .member)) (note .named) 0)) is
+      pub note-row : row < length classes
+      note-row = go number h says
+        where
+          go : (n : ℕ) → (n ≡ 0 → ⊥) → NoteSays n row classes pool (textAt c f name) → row < length classes
+          go zero q u = absurd (q refl)
+          go (suc n) q u = u .inside
 
-pub context-meant : (classes rows : List (List ℕ)) (pool : List ℕ) (home : ℕ) {w v : ℕ} → w ≡ v → MeantBy classes rows pool home v →
-    MeantBy classes rows pool home w
-context-meant classes rows pool home e k = rw e k
+      above : notedPlan classes pool (textAt c f name) name (suc (number - 1)) row ≡ namePlan classes pool c f out name
+      above =
+          let z : suc (number - 1) ≡ number = omega arith in
+          ap (λ n. notedPlan classes pool (textAt c f name) name n row) z ∙ same
 
-pub ruleset node-planning = (ready-head, ready-rows, ready-fits, ready-rows-fit, lines-room, node-planned, context-meant, needs)
+      module _ {t : List ℕ} (u : t ≡ textAt c f name) {n : ℕ} (v : n ≡ length (rawOf classes pool row)) where
+        pub whole-note : length t ≡ n → {m : Class} → m ≡ unpackClass (getD classes row []) →
+            plan.Text (m .display .place) (m .display .length) ≡ namePlan classes pool c f out name
+        whole-note w {m} x =
+            ap (λ y. textPlan (y .display)) x
+            ∙ sym (ap (λ b. pick b (textPlan (unpackClass (getD classes row []) .display)) (plan.Shown name))
+            (eq-eqb (length (textAt c f name)) (length (rawOf classes pool row)) (sym (ap length u) ∙ w ∙ v)))
+            ∙ above
+
+        pub part-note : (length t ≡ n → ⊥) → plan.Shown name ≡ namePlan classes pool c f out name
+        part-note w =
+            sym (ap (λ b. pick b (textPlan (unpackClass (getD classes row []) .display)) (plan.Shown name))
+            (ne-eqb (length (textAt c f name)) (length (rawOf classes pool row)) (λ x. w (ap length u ∙ x ∙ sym v))))
+            ∙ above
+
+pub file-there : {c : TreeCounts} {f : List ℕ} → FormedBy c f → fileLength c ≤ length f
+file-there k = omega (arith, k .size)
+
+pub ruleset name-plans = (note-inside, no-note, note-row, whole-note, part-note, file-there, needs)
+
+-- A line.
+pub line-some : (l : LineName) {d : DisplayLine} → l ≡ line.Line d → plan.Line (d .0) ≡ linePlan l
+line-some l e = rw e
+
+pub line-none : (l : LineName) → l ≡ line.Unknown → plan.Stays ≡ linePlan l
+line-none l e = rw e
+
+pub ruleset line-plans = (line-some, line-none, needs)
+
+-- A token.
+module _ (c : TreeCounts) (f : List ℕ) (i : ℕ) {s : ℕ} (e : s ≡ tokensStart c) where
+  pub kind-inside : FormedBy c f → i < c .tokens → s + 12 * i + 4 + 4 ≤ length f
+  kind-inside k h = omega (arith, k .size)
+
+  module _ (classes rows : List (List ℕ)) (pool out : List ℕ) (home context number : ℕ) {kind : ℕ} (g : kind ≡ wordAt f (s + 12 * i))
+      {raw : ℕ} (h : raw ≡ wordAt f (s + 12 * i + 4)) where
+    abbrev b : ℕ
+    b = wordAt f (tokensStart c + 12 * i + 8)
+
+    told : tokenAt c f i ≡ tokenBy kind raw b
+    told = rw (g, h, e)
+
+    there : {t : Token} → tokenBy kind raw b ≡ t → planBy classes rows pool c f out home context number t ≡ planAt classes rows pool c f out home context number i
+    unfolding planAt
+    there l = sym (ap (planBy classes rows pool c f out home context number) (told ∙ l))
+
+    pub plan-name : kind ≡ 2 → {p : Plan} → p ≡ namePlan classes pool c f out raw → p ≡ planAt classes rows pool c f out home context number i
+    plan-name k j = j ∙ there {t = Descriptor raw b} (rw k)
+
+    pub plan-member : kind ≡ 1 → {p : Plan} → p ≡ memberPlan rows number → p ≡ planAt classes rows pool c f out home context number i
+    plan-member k j = j ∙ there {t = MemberName raw b} (rw k)
+
+    pub plan-line : kind ≡ 3 → {l : LineName} → l ≡ lineBy classes rows pool home context (rawLine raw) → {p : Plan} → p ≡ linePlan l →
+        p ≡ planAt classes rows pool c f out home context number i
+    plan-line k j m = m ∙ ap linePlan j ∙ there {t = SourceLine raw b} (rw k)
+
+    pub plan-other : (kind ≡ 2 → ⊥) → (kind ≡ 1 → ⊥) → (kind ≡ 3 → ⊥) → plan.Stays ≡ planAt classes rows pool c f out home context number i
+    plan-other x y z = there {t = Other raw b} (rw (ne-eqb kind 1 y, ne-eqb kind 2 x, ne-eqb kind 3 z))
+
+  pub name-below : FormedBy c f → i < c .tokens → {kind : ℕ} → kind ≡ wordAt f (s + 12 * i) → kind ≡ 2 → {raw : ℕ} → raw ≡ wordAt f (s + 12 * i + 4) → raw < c .names
+  name-below k l {kind} g m {raw} h =
+      let is : tokenAt c f i ≡ Descriptor raw (wordAt f (tokensStart c + 12 * i + 8)) = rw (h, ← e, ← g, m) in
+      let below : NamesBelow (c .names) (Descriptor raw (wordAt f (tokensStart c + 12 * i + 8))) = rw is at (k .tokens i l) in
+      below .0
+
+pub ruleset token-plans = (row-inside, kind-inside, plan-name, plan-member, plan-line, plan-other, name-below, needs)

@@ -1,5 +1,6 @@
 // The plans of all nodes. Parents are lower rows, so that the line context of a parent is known before its children come.
 use crate::node::plan_node;
+use crate::rows::Planned;
 use apply_members::node_note;
 use table_index::last_raw;
 use table_rows::ClassRow;
@@ -8,31 +9,24 @@ use tables::Found;
 use tree_rule::TreeCounts;
 use tree_words::token_count_at;
 ghost use mathlib.Core.Path.{_≡_};
-ghost use Prim.Native.Nat.{_≤_};
 ghost use lib.ListN.{length};
 ghost use Rattle.tables.specs.declared.search.Side.the-variants.{Raw};
-ghost use Rattle.tables.specs.Search.{lastRaw};
 ghost use Rattle.table_index.specs.inner.Index.{IndexBy};
 ghost use Rattle.name_index.specs.inner.Chains.{Chained};
-ghost use Rattle.tree_rule.specs.Files.{fileLength};
-ghost use Rattle.tree_rule.specs.Theorems.{FormedBy};
-ghost use Rattle.apply_rule.specs.Applying.{mostTree};
 ghost use Rattle.apply_members.specs.inner.Notes.{homeRow};
-ghost use Rattle.apply_plans.specs.inner.Noted.{Blank};
-ghost use Rattle.apply_plans.specs.inner.Passed.{PlansMade};
+ghost use Rattle.apply_plans.specs.inner.Passed.{PlansReady, PlansBy};
 
-// The class row of the class given.
-fn home_row(index: &[u16], classes: &[ClassRow], pool: &[u8], class: &[u8]) -> usize
-    requires { ⌜ IndexBy Raw (now classes) (now pool) (now index) ⌝ }
-    ensures { λ r. ⌜ r ≡ homeRow (lastRaw (now (classes .entry)) (now (pool .entry)) (now (class .entry))) ⌝ }
+// The class row of the class given, if it has one.
+fn home_row(given: Found) -> usize
+    ensures { λ r. ⌜ r ≡ homeRow given ⌝ }
 {
-    match last_raw(index, classes, pool, class) {
+    match given {
         Found::Row(row) => row,
         Found::Unknown => 0,
     }
 }
 
-// Plans for all tokens of a tree file, in an output that is zero.
+// The rows of all tokens of a tree file, and plans of the names that are added.
 pub fn plan_nodes(
     out: &mut [u8],
     tree: &[u8],
@@ -43,36 +37,37 @@ pub fn plan_nodes(
     classes: &[ClassRow],
     members: &[MemberRow],
     pool: &[u8],
-)
-    requires { ⌜ FormedBy counts (now tree)
-        × (length (now tree) ≤ mostTree)
-        × (fileLength counts ≤ length (now out))
-        × Blank (now out)
+) -> Planned
+    requires { ⌜ PlansReady (now classes) (now members) (now pool) counts (now tree) (now out)
         × IndexBy Raw (now classes) (now pool) (now index)
         × Chained (now classes) (now pool) (now members) (now chains) (length (now members)) ⌝ }
-    ensures { λ _.
-        ⌜ PlansMade (now (classes .entry)) (now (members .entry)) (now (pool .entry)) (now (class .entry)) counts (now (tree .entry))
+    ensures { λ r.
+        ⌜ PlansBy r (now (classes .entry)) (now (members .entry)) (now (pool .entry)) (now (class .entry)) counts (now (tree .entry))
         (now (out .entry)) (now (out .exit)) ⌝ }
 {
-    let home = home_row(index, classes, pool, class);
+    let given = last_raw(index, classes, pool, class);
+    let home = home_row(given);
     let nodes = counts.nodes as usize;
+    let mut names = 0;
     let mut first = 0;
     let mut node = 0;
     while node < nodes {
         let count = token_count_at(tree, node) as usize;
         let note = node_note(
+            out,
             index,
             chains,
             classes,
             members,
             pool,
             class,
+            given,
             tree,
             counts,
             first,
             count,
         );
-        plan_node(
+        let Planned::Done(more) = plan_node(
             out,
             tree,
             counts,
@@ -85,8 +80,13 @@ pub fn plan_nodes(
             classes,
             members,
             pool,
-        );
+            names,
+        ) else {
+            return Planned::NoRoom;
+        };
+        names = more;
         first += count;
         node += 1;
     }
+    Planned::Done(names)
 }

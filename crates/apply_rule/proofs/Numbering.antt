@@ -1,12 +1,10 @@
 -- Tokens with their changes: how many they are, and how numbers go on from one stretch of them to the next. Assumes nothing.
 use mathlib.Core.Path.{_≡_, refl, sym, _∙_, ap}
 use mathlib.Core.List.{List, [], _∷_, _++_, map, append-assoc}
-use Prim.Native.Nat.{ℕ, zero, suc, _+_, _<_}
-use native.Mathlib.Nat.{not-suc-le-zero}
+use Prim.Native.Nat.{ℕ, suc, _+_}
 use native.Mathlib.Omega.{arith}
-use lib.ListN.{length, getD, length-append}
+use lib.ListN.{length, length-append}
 use Rattle.tree_rule.specs.declared.Token.{Token}
-use Rattle.tree_rule.specs.declared.Token.the-variants.{Other}
 use Rattle.tree_rule.specs.Trees.{Node}
 use Rattle.tree_rule.specs.Files.{allTokens, nodeRowBytes}
 use Rattle.name_rule.specs.Mappings.{Mapping}
@@ -22,7 +20,6 @@ use Rattle.apply_rule.specs.Changes.{
   changedNodes,
 }
 use Rattle.apply_rule.specs.Applying.{nameOf, newNames, numbered, numberedNodes, allChanged, nameRows}
-use Rattle.apply_rule.specs.inner.Plans.{noChange}
 
 -- Names and numbers of one stretch and the next.
 pub new-append : (ds bs : List Changed) → newNames (ds ++ bs) ≡ newNames ds ++ newNames bs
@@ -65,17 +62,6 @@ module _ (change : ℕ → Token → Change) where
   unfolding changedFrom
   changed-length start [] = refl
   changed-length start (t ∷ ts) = ap suc (changed-length (suc start) ts)
-
-  -- a token and its change stand at the token's own place
-  pub changed-at : (start : ℕ) (ts : List Token) (at : ℕ) → at < length ts →
-      getD (changedFrom change start ts) at noChange ≡
-      record { token = getD ts at (Other 0 0); change = change (start + at) (getD ts at (Other 0 0)) }
-  unfolding changedFrom
-  changed-at start [] at h = absurd (not-suc-le-zero h)
-  changed-at start (t ∷ ts) zero h = let z : start + 0 ≡ start = omega arith in rw z
-  changed-at start (t ∷ ts) (suc at) h =
-      let z : start + suc at ≡ suc start + at = omega arith in
-      rw z (changed-at (suc start) ts at (omega arith))
 
 -- All nodes.
 module _ (m : Mapping) (class : List ℕ) (name : ℕ → List ℕ) where

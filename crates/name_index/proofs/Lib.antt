@@ -2,4 +2,5 @@
 pub mod LastRows
 pub mod Linking
 pub mod Walking
+pub mod Wanting
 pub mod Lining

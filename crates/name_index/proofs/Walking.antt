@@ -10,30 +10,23 @@ use mir.Val.{Fits}
 use mir.Syntax.{w64}
 use borrow.Author.Needs.{needs}
 use Rattle.ground.specs.Choice.{both}
-use Rattle.ground.specs.Look.{Look, known}
+use Rattle.ground.specs.Look.{Look}
 use Rattle.ground.proofs.Cases.{le-or-lt, clash, both-left, both-right}
 use Rattle.text_places.specs.Places.{same}
 use Rattle.text_places.proofs.PlaceLaws.{same-equal}
 use Rattle.table_rows.specs.declared.rows.Member.{Member}
-use Rattle.table_rows.specs.Classes.{Pair}
 use Rattle.table_rows.specs.Rows.{unpackClass, unpackMember}
-use Rattle.tables.specs.declared.search.Found.{Found}
 use Rattle.tables.specs.declared.search.Found.the-variants.{Row, Unknown}
 use Rattle.tables.specs.Back.{textIn, pairOf, readBack}
-use Rattle.tables.specs.Search.{lastRaw}
-use Rattle.tables.proofs.Searching.{scanning-from, scanning-found, scanning-ends, raw-found}
+use Rattle.tables.proofs.Searching.{scanning-from, scanning-found, scanning-ends}
 use Rattle.name_rule.specs.Mappings.{memberBack, entryBack}
 use Rattle.name_rule.specs.MemberNames.{key, rawOfRow, isText}
 use Rattle.name_rule.specs.MemberRows.{lastMember}
 use Rattle.name_rule.proofs.Rows.{row-raw, row-beyond}
-use Rattle.name_members.specs.declared.rows.Asked.{Asked}
 use Rattle.name_members.specs.declared.rows.Sought.{Sought}
-use Rattle.name_members.specs.declared.rows.Sought.the-variants as sought
-use Rattle.name_members.specs.inner.Sought.{soughtBy, answersBy, firstSought, isMethodAsked}
+use Rattle.name_members.specs.inner.Sought.{soughtBy, answersBy}
 use Rattle.name_index.specs.inner.Chains.{lastBelow, memberMark, markAt, Chained, Behind}
-use Rattle.name_members.specs.MemberAnswers.{rowAsked}
 use Rattle.name_index.proofs.Linking.{last-inside, last-above, last-mark, mark-below}
-use Rattle.name_members.proofs.Asking.{asked-row, asked-other, asked-any}
 
 -- a class that has a raw descriptor is there, and has it
 class-has : (rows : List (List ℕ)) (pool raw : List ℕ) (i : ℕ) → isText (rawOfRow (readBack rows pool) i) raw ≡ true →
@@ -114,6 +107,12 @@ module _ (classes : List (List ℕ)) (pool : List ℕ) (rows : List (List ℕ)) 
         pub link-fits : Fits w64 (8192 + (count - 1))
         link-fits = let i = k .inside in let f = x .few in omega arith
 
+        pub behind-falls : {next : ℕ} → next ≡ getD index (8192 + (count - 1)) 0 → next < count
+        behind-falls h =
+            let i = k .inside in
+            let y = last-inside (markAt classes pool rows) (markAt classes pool rows (count - 1)) (count - 1) in
+            omega (arith, h ∙ x .links (count - 1) (omega arith))
+
         module _ {m : Member} (e : m ≡ unpackMember (getD rows (count - 1) [])) {b : Bool}
             (f : b ≡ answersBy t d (readBack classes pool) (key owner name descriptor) (memberBack pool m)) where
           here : answers (getD rows (count - 1) []) ≡ b
@@ -133,50 +132,4 @@ module _ (classes : List (List ℕ)) (pool : List ℕ) (rows : List (List ℕ)) 
               below j u v (inl w) = k .none j w v
               below j u v (inr w) = let z : j ≡ count - 1 = omega arith in ap (λ y. answers (getD rows y [])) z ∙ here ∙ g
 
-          pub behind-falls : {next : ℕ} → next ≡ getD index (8192 + (count - 1)) 0 → next < count
-          behind-falls h =
-              let i = k .inside in
-              let y = last-inside (markAt classes pool rows) (markAt classes pool rows (count - 1)) (count - 1) in
-              omega (arith, h ∙ x .links (count - 1) (omega arith))
-
-pub ruleset walking = (mark-in-index, mark-doubled, behind-starts, behind-ends, row-inside, link-inside, link-fits, behind-found, behind-more, behind-falls, needs)
-
--- the mark of what is looked for, by the raw descriptor of a class or by a text that is the same
-module _ (raw name descriptor : List ℕ) {owner : List ℕ} (e : owner ≡ raw) {mark : ℕ} where
-  pub marked-raw : mark ≡ memberMark owner name descriptor → mark ≡ memberMark raw name descriptor
-  marked-raw f = f ∙ ap (λ x. memberMark x name descriptor) e
-
-  pub marked-owner : mark ≡ memberMark raw name descriptor → mark ≡ memberMark owner name descriptor
-  marked-owner f = f ∙ ap (λ x. memberMark x name descriptor) (sym e)
-
-pub ruleset marked-asking = (marked-raw, needs)
-
--- What is asked of the class at a row, which is the last with its raw descriptor.
-module _ (classes rows : List (List ℕ)) (pool name descriptor : List ℕ) (i : ℕ) where
-  abbrev cs : List Pair
-  cs = readBack classes pool
-
-  abbrev raw : List ℕ
-  raw = textIn pool (unpackClass (getD classes i []) .raw)
-
-  module _ (last : lastRaw classes pool raw ≡ Row i) where
-    pub class-inside : i < length classes
-    class-inside = raw-found classes pool raw last .0
-
-    module _ {owner : List ℕ} (g : owner ≡ raw) {d : List ℕ} (h : d ≡ textIn pool (unpackClass (getD classes i []) .display)) where
-      as-raw : (t : Sought) → lastMember (answersBy t (known d) cs (key owner name descriptor)) rows pool ≡ lastMember (answersBy t (known d) cs (key raw name descriptor)) rows pool
-      as-raw t = ap (λ x. lastMember (answersBy t (known d) cs (key x name descriptor)) rows pool) g
-
-      module _ (a : Asked) {t : Sought} (q : t ≡ firstSought a) {z : Found} (r : z ≡ lastMember (answersBy t (known d) cs (key owner name descriptor)) rows pool) where
-        pub chained-row : {j : ℕ} → z ≡ Row j → Row j ≡ rowAsked a cs (key raw name descriptor) rows pool
-        chained-row s = asked-row classes rows pool raw name descriptor (sym last) refl h a q (r ∙ as-raw t) s
-
-        module _ (s : z ≡ Unknown) {b : Bool} (w : b ≡ isMethodAsked a) where
-          pub chained-other : b ≡ false → Unknown ≡ rowAsked a cs (key raw name descriptor) rows pool
-          chained-other u = asked-other classes rows pool raw name descriptor (sym last) refl h a q (r ∙ as-raw t) s w u
-
-          pub chained-any : b ≡ true → {y : Found} → y ≡ lastMember (answersBy sought.Method (known d) cs (key owner name descriptor)) rows pool →
-              y ≡ rowAsked a cs (key raw name descriptor) rows pool
-          chained-any u v = asked-any classes rows pool raw name descriptor (sym last) refl h a q (r ∙ as-raw t) s w u (v ∙ as-raw sought.Method)
-
-pub ruleset chained-asking = (marked-owner, class-inside, chained-row, chained-other, chained-any, needs)
+pub ruleset walking = (behind-ends, row-inside, link-inside, link-fits, behind-falls, behind-found, behind-more, needs)

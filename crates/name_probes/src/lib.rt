@@ -2,7 +2,6 @@
 use name_index::MEMBER_INDEX;
 use name_index::chained_row;
 use name_index::index_members;
-use name_members::Asked;
 use table_rows::ClassRow;
 use table_rows::MemberRow;
 use tables::Found;
@@ -58,7 +57,7 @@ fn indexed_row(
         class,
         name,
         descriptor,
-        Asked::Method,
+        false,
     )
 }
 

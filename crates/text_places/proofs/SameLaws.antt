@@ -1,9 +1,9 @@
--- Two texts compared by blocks of any size. Assumes nothing.
+-- Two texts compared by blocks of any size, or by a few bytes. Assumes nothing.
 use mathlib.Core.Path.{_≡_, refl, sym, _∙_, ap}
-use mathlib.Core.Bool.{Bool, true, false, not}
+use mathlib.Core.Bool.{Bool, true, false, not, _||_}
 use mathlib.Core.List.{List, [], _∷_}
 use mathlib.Core.Logic.{_⊎_, inl, inr}
-use Prim.Native.Nat.{ℕ, zero, suc, _+_, _*_, _-_, _≤_, _<_}
+use Prim.Native.Nat.{ℕ, zero, suc, _+_, _*_, _-_, _/_, _≤_, _<_, min}
 use native.Mathlib.Numerals.{add-one}
 use native.Mathlib.Omega.{arith}
 use lib.Dec.{eqb}
@@ -23,6 +23,14 @@ module _ (b : Bool) (x y : ℕ) where
 
   pub byte-differs : (x ≡ y → ⊥) → true ≡ pick (eqb x y) b true
   byte-differs n = sym (rw (ne-eqb x y n))
+
+  -- nothing differs up to this byte only where it is the other one and nothing before it differs
+  byte-told : {r : Bool} → r ≡ pick (eqb x y) b true → r ≡ false → (x ≡ y) × (b ≡ false)
+  byte-told e f = go (eqb x y) refl (sym e ∙ f)
+    where
+      go : (q : Bool) → eqb x y ≡ q → pick q b true ≡ false → (x ≡ y) × (b ≡ false)
+      go true p g = (eqb-true x y p, g)
+      go false p g = clash refl g
 
 pub ruleset one-more = (byte-agrees, byte-differs, needs)
 
@@ -88,14 +96,25 @@ pub block-unlike : (s t : List ℕ) (at size : ℕ) {d : Bool} → d ≡ differs
 block-unlike s t at size e f =
     unlike s t (λ z. clash (sym e ∙ f) (ap (λ x. differs s x at size) (sym z) ∙ differs-self s at size))
 
+agreeing-all : {s t : List ℕ} → Agreeing s t (length s) → true ≡ same s t
+agreeing-all {s} {t} a = sym (each-same s t (a .even) (a .each))
+
 module _ {s t : List ℕ} {at : ℕ} (a : Agreeing s t at) where
-  -- a block from a place that is passed or just reached
-  agreeing-on : (first size : ℕ) → first ≤ at → differs s t first size ≡ false → Agreeing s t (first + size)
-  agreeing-on first size h e = record { even = a .even; each = λ k l. go k l (le-or-lt first k) }
+  -- what follows a place that is passed or just reached
+  agreeing-past : (first next : ℕ) → first ≤ at → ((k : ℕ) → first ≤ k → k < next → getD s k 0 ≡ getD t k 0) → Agreeing s t next
+  agreeing-past first next h f = record { even = a .even; each = λ k l. go k l (le-or-lt first k) }
     where
-      go : (k : ℕ) → k < first + size → (first ≤ k) ⊎ (k < first) → getD s k 0 ≡ getD t k 0
-      go k l (inl g) = let z : first + (k - first) ≡ k = omega arith in rw z at (differs-none s t first size e (k - first) (omega arith))
+      go : (k : ℕ) → k < next → (first ≤ k) ⊎ (k < first) → getD s k 0 ≡ getD t k 0
+      go k l (inl g) = f k g l
       go k l (inr g) = a .each k (omega arith)
+
+  agreeing-byte : (first : ℕ) → first ≤ at → getD s first 0 ≡ getD t first 0 → Agreeing s t (first + 1)
+  agreeing-byte first h e = agreeing-past first (first + 1) h (λ k g l. let z : k ≡ first = omega arith in rw z e)
+
+  agreeing-on : (first size : ℕ) → first ≤ at → differs s t first size ≡ false → Agreeing s t (first + size)
+  agreeing-on first size h e = agreeing-past first (first + size) h (λ k g l.
+      let z : first + (k - first) ≡ k = omega arith in
+      rw z at (differs-none s t first size e (k - first) (omega arith)))
 
   pub agreeing-more : (size : ℕ) {d : Bool} → d ≡ differs s t at size → d ≡ false → Agreeing s t (at + size)
   agreeing-more size e f = agreeing-on at size (omega arith) (sym e ∙ f)
@@ -109,10 +128,7 @@ module _ {s t : List ℕ} {at : ℕ} (a : Agreeing s t at) where
       go false f =
           let z : length s - size + size ≡ length s = omega arith in
           let all : Agreeing s t (length s) = rw z at (agreeing-on (length s - size) size h (sym f)) in
-          all-told all
-        where
-          all-told : Agreeing s t (length s) → true ≡ same s t
-          all-told k = sym (each-same s t (k .even) (k .each))
+          agreeing-all all
 
 -- a block at each end
 pub ends-agree : (s t : List ℕ) (size : ℕ) → length s ≡ length t → size ≤ length s → length s ≤ 2 * size → {b : Bool} →
@@ -123,3 +139,57 @@ ends-agree s t size e l h f g q =
 pub ruleset ending = (block-unlike, ends-agree, needs)
 
 pub ruleset agreeing = (matching-uneven, agreeing-starts, block-unlike, agreeing-more, agreeing-ends, needs)
+
+-- Fewer than four bytes: the first, the middle and the last.
+pub none-agree : (s t : List ℕ) → length s ≡ length t → length s ≡ 0 → true ≡ same s t
+none-agree s t e z = sym (each-same s t e (λ k h. absurd (omega arith)))
+
+module _ (s t : List ℕ) (e : length s ≡ length t) (n : length s ≡ 0 → ⊥) (h : length s < 4) {a b d : Bool}
+    (p : a ≡ pick (eqb (getD s 0 0) (getD t 0 0)) false true)
+    (q : b ≡ pick (eqb (getD s (length s / 2) 0) (getD t (length s / 2) 0)) a true)
+    (r : d ≡ pick (eqb (getD s (length s - 1) 0) (getD t (length s - 1) 0)) b true) where
+  bytes-same : d ≡ false → true ≡ same s t
+  bytes-same f =
+      let l = byte-told b (getD s (length s - 1) 0) (getD t (length s - 1) 0) r f in
+      let m = byte-told a (getD s (length s / 2) 0) (getD t (length s / 2) 0) q (l .1) in
+      let o = byte-told false (getD s 0 0) (getD t 0 0) p (m .1) in
+      let one : Agreeing s t 1 = agreeing-byte (agreeing-starts e) 0 (omega arith) (o .0) in
+      let two : Agreeing s t (length s / 2 + 1) = agreeing-byte one (length s / 2) (omega arith) (m .0) in
+      let z : length s - 1 + 1 ≡ length s = omega arith in
+      let all : Agreeing s t (length s) = rw z at (agreeing-byte two (length s - 1) (omega arith) (l .0)) in
+      agreeing-all all
+
+  bytes-unlike : d ≡ true → false ≡ same s t
+  bytes-unlike f = unlike s t (λ z. clash f (r ∙ self (length s - 1) z b ∙ q ∙ self (length s / 2) z a ∙ p ∙ self 0 z false))
+    where
+      self : (i : ℕ) → s ≡ t → (c : Bool) → pick (eqb (getD s i 0) (getD t i 0)) c true ≡ c
+      self i z c = sym (byte-agrees c (getD s i 0) (getD t i 0) (ap (λ l. getD l i 0) z))
+
+  pub bytes-agree : not d ≡ same s t
+  bytes-agree = go d refl
+    where
+      go : (x : Bool) → d ≡ x → not x ≡ same s t
+      go true f = bytes-unlike f
+      go false f = bytes-same f
+
+pub ruleset by-bytes = (none-agree, bytes-agree, needs)
+
+-- 16 to 64 bytes: four blocks, each of which begins in what is passed or just after it.
+pub blocks-agree : (s t : List ℕ) → length s ≡ length t → 16 ≤ length s → length s ≤ 64 →
+    {second third : ℕ} → second ≡ min 16 (length s - 16) → third ≡ min 32 (length s - 16) → {a b c d : Bool} →
+    a ≡ differs s t 0 16 → b ≡ differs s t second 16 → c ≡ differs s t third 16 → d ≡ differs s t (length s - 16) 16 →
+    not (((a || b) || c) || d) ≡ same s t
+blocks-agree s t e l h {second} {third} u v {a} {b} {c} {d} = go a b c d
+  where
+    go : (a b c d : Bool) → a ≡ differs s t 0 16 → b ≡ differs s t second 16 → c ≡ differs s t third 16 →
+        d ≡ differs s t (length s - 16) 16 → not (((a || b) || c) || d) ≡ same s t
+    go true b c d p q r f = block-unlike s t 0 16 p refl
+    go false true c d p q r f = block-unlike s t second 16 q refl
+    go false false true d p q r f = block-unlike s t third 16 r refl
+    go false false false d p q r f =
+        let one : Agreeing s t 16 = agreeing-on (agreeing-starts e) 0 16 (omega arith) (sym p) in
+        let two : Agreeing s t (second + 16) = agreeing-on one second 16 (omega arith) (sym q) in
+        let three : Agreeing s t (third + 16) = agreeing-on two third 16 (omega arith) (sym r) in
+        agreeing-ends three 16 l (omega arith) f
+
+pub ruleset by-blocks = (blocks-agree, needs)

@@ -121,7 +121,7 @@ pub two-length : (x y : ℕ) → length (wordBytes x ++ wordBytes y) ≡ 8
 unfolding wordBytes
 two-length x y = refl
 
-three-length : (x y z : ℕ) → length (threeWords x y z) ≡ 12
+pub three-length : (x y z : ℕ) → length (threeWords x y z) ≡ 12
 unfolding wordBytes
 three-length x y z = refl
 

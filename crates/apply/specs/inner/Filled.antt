@@ -15,18 +15,20 @@ use Rattle.tree_rule.specs.Theorems.{FormedBy}
 use Rattle.apply_rule.specs.declared.Applied as answers
 use Rattle.apply_rule.specs.declared.Applied.the-variants as answer
 use Rattle.apply_rule.specs.Applying.{mostTree, fitsIn, outputIn}
+use Rattle.apply_plans.specs.inner.Plan.{TextsLow}
 
 -- the output is zero
 abbrev pub Zero : List ℕ → Type 0
 Zero out = out ≡ replicate (length out) 0
 
-pub record PassReady (classes : List (List ℕ)) (c : TreeCounts) (f out : List ℕ) : Type 0 where
+pub record PassReady (classes rows : List (List ℕ)) (c : TreeCounts) (f out : List ℕ) : Type 0 where
   pub formed : FormedBy c f
   pub file : length f ≤ mostTree
   pub room : fileLength c ≤ length out
   pub most : length out ≤ mostTree
   pub zero : Zero out
   pub few : length classes ≤ mostClasses
+  pub low : TextsLow classes rows
 
 pub record FillReady (classes rows : List (List ℕ)) (f out : List ℕ) : Type 0 where
   pub formed : wellFormedFile f ≡ true
@@ -35,6 +37,7 @@ pub record FillReady (classes rows : List (List ℕ)) (f out : List ℕ) : Type 
   pub zero : Zero out
   pub few-classes : length classes ≤ mostClasses
   pub few-members : length rows ≤ mostMembers
+  pub low : TextsLow classes rows
 
 -- the same, and any room is lent
 pub record AcceptReady (classes rows : List (List ℕ)) (f out : List ℕ) : Type 0 where
@@ -43,6 +46,7 @@ pub record AcceptReady (classes rows : List (List ℕ)) (f out : List ℕ) : Typ
   pub zero : Zero out
   pub few-classes : length classes ≤ mostClasses
   pub few-members : length rows ≤ mostMembers
+  pub low : TextsLow classes rows
 
 -- the file stands at the start of the output, and the rest of it is zero
 pub record FilledTo («end» : ℕ) (file old new : List ℕ) : Type 0 where

@@ -1,21 +1,23 @@
 -- What is noted of a node: rows by their numbers, their place and one more, or 0 where there is none.
 use mathlib.Core.Path.{_≡_}
-use mathlib.Core.Bool.{Bool, true, not}
+use mathlib.Core.Bool.{Bool, true, false, not}
 use mathlib.Core.List.{List, []}
 use Prim.Native.Nat.{ℕ, zero, suc, _+_, _-_, _<_}
+use lib.Dec.{eqb}
 use lib.ListN.{getD}
 use Rattle.ground.specs.Choice.{pick, both}
+use Rattle.ground.specs.Look.{known}
 use Rattle.text_places.specs.Places.{same}
-use Rattle.table_rows.specs.Rows.{unpackClass}
+use Rattle.table_rows.specs.Rows.{unpackClass, unpackMember}
 use Rattle.tables.specs.declared.search.Found.{Found}
 use Rattle.tables.specs.declared.search.Found.the-variants.{Row, Unknown}
 use Rattle.tables.specs.Back.{textIn, readBack}
 use Rattle.tables.specs.Search.{lastRaw}
 use Rattle.name_lines.specs.declared.lines.RawLine.{RawLine}
 use Rattle.name_lines.specs.declared.lines.LineName.{LineName}
-use Rattle.name_lines.specs.declared.lines.LineName.the-variants.{Line, Unknown as NoLine}
-use Rattle.name_rule.specs.Mappings.{mapping, entriesBack}
-use Rattle.name_rule.specs.MemberNames.{Key, key, lineOfMethod}
+use Rattle.name_lines.specs.declared.lines.LineName.the-variants.{Unknown as NoLine}
+use Rattle.name_rule.specs.Mappings.{mapping, entriesBack, kindBack}
+use Rattle.name_rule.specs.MemberNames.{Key, key, ownedBy, lineOfMethod}
 use Rattle.name_rule.specs.MemberRows.{fieldRow, methodRow}
 use Rattle.name_index.specs.inner.Chains.{keyOfRow, ownRow}
 use Rattle.tree_rule.specs.declared.Token.{Token}
@@ -37,12 +39,32 @@ note n i l = record { named = n; inherits = i; lines = l }
 abbrev pub isHome : List ℕ → List ℕ → List ℕ → Bool
 isHome class owner descriptor = both (opens descriptor) (same owner class)
 
+-- a class row is the one that is found
+abbrev pub isRow : Found → ℕ → Bool
+isRow (Row i) row = eqb i row
+isRow Unknown row = false
+
 abbrev pub fieldNote : List (List ℕ) → List (List ℕ) → List ℕ → Key → MemberNote
 fieldNote classes rows pool k = note (notedRow (fieldRow (readBack classes pool) k rows pool)) true 0
 
 abbrev pub methodNote : List (List ℕ) → List (List ℕ) → List ℕ → Key → Bool → MemberNote
 methodNote classes rows pool k home =
     note (notedRow (methodRow (readBack classes pool) k rows pool)) (not home) (pick home (notedRow (ownRow classes rows pool k)) 0)
+
+-- the display owner of the row `row` is the display of the class row `class`
+abbrev pub ownsRow : List (List ℕ) → List (List ℕ) → List ℕ → ℕ → ℕ → Bool
+ownsRow classes rows pool class row =
+    ownedBy (known (textIn pool (unpackClass (getD classes class []) .display))) (kindBack pool (unpackMember (getD rows row [])))
+
+-- the note of a method of the class at the class row `class`, by the row that names the method
+abbrev pub foundNote : List (List ℕ) → List (List ℕ) → List ℕ → ℕ → Found → Bool → MemberNote
+foundNote classes rows pool class (Row row) home =
+    note (suc row) (not home) (pick home (pick (ownsRow classes rows pool class row) (suc row) 0) 0)
+foundNote classes rows pool class Unknown home = note 0 (not home) 0
+
+-- the note of a member by its key, where `home` says whether its owner is the class given
+abbrev pub rowNote : List (List ℕ) → List (List ℕ) → List ℕ → Key → Bool → MemberNote
+rowNote classes rows pool k home = pick (opens (k .descriptor)) (methodNote classes rows pool k home) (fieldNote classes rows pool k)
 
 abbrev pub memberNote : List (List ℕ) → List (List ℕ) → List ℕ → List ℕ → Key → MemberNote
 memberNote classes rows pool class k =
@@ -53,6 +75,11 @@ memberNote classes rows pool class k =
 abbrev pub tokenOwner : List ℕ → (ℕ → List ℕ) → (ℕ → Token) → Owner → List ℕ
 tokenOwner class name token Given = class
 tokenOwner class name token (At i) = rawNameOf name (token i)
+
+-- the class row of that owner, where `given` is the class row of the class given
+abbrev pub tokenFound : List (List ℕ) → List ℕ → Found → (ℕ → List ℕ) → (ℕ → Token) → Owner → Found
+tokenFound classes pool given name token Given = given
+tokenFound classes pool given name token (At i) = lastRaw classes pool (rawNameOf name (token i))
 
 -- the note of a node whose first token has the number `first`: its member name goes by the number of its token
 abbrev pub nodeNote : ℕ → ℕ → MemberNote → NodeNote
@@ -86,8 +113,3 @@ abbrev pub lineBy : List (List ℕ) → List (List ℕ) → List ℕ → ℕ →
 lineBy classes rows pool home zero n = NoLine
 lineBy classes rows pool home (suc row) n =
     lineOfMethod (mapping (readBack classes pool) (entriesBack rows pool)) (keyOfRow classes rows pool home row) n
-
--- a display line, or what stood there
-abbrev pub lineNumber : ℕ → LineName → ℕ
-lineNumber display (Line n) = n .0
-lineNumber display NoLine = display

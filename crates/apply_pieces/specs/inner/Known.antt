@@ -9,7 +9,9 @@ use Rattle.ground.specs.Look.{Look, isKnown, lookOr}
 use Rattle.ground.specs.Put.{between}
 use Rattle.table_rows.specs.Rows.{unpackClass}
 use Rattle.table_rows.specs.Classes.{shown}
+use Rattle.tables.specs.declared.search.Found.the-variants.{Row}
 use Rattle.tables.specs.Back.{textIn, readBack}
+use Rattle.tables.specs.Search.{lastRaw}
 use Rattle.descriptor.specs.Pieces.{partsFrom, turn}
 use Rattle.apply_rule.specs.Changes.{pieceKnown}
 use Rattle.apply_pieces.specs.declared.known.NextPiece.{NextPiece}
@@ -47,12 +49,14 @@ oneKnown classes pool text = pieceKnown (shown (readBack classes pool)) (partsFr
 abbrev pub allShown : List (List ℕ) → List ℕ → List ℕ → List ℕ
 allShown classes pool text = turn (shown (readBack classes pool)) text
 
--- from the place `from` on: what stands before the piece stays, the row's display descriptor stands for the piece, and the rest is turned
+-- from the place `from` on: what stands before the piece stays, the row's display descriptor stands for the piece, and the rest is turned;
+-- the row is the last that has the piece as its raw descriptor
 pub record KnownAt (classes : List (List ℕ)) (pool text : List ℕ) («from» start row : ℕ) : Type 0 where
   pub after : «from» ≤ start
   pub inside : row < length classes
   pub filled : 0 < length (rawOf classes pool row)
   pub ends : start + length (rawOf classes pool row) ≤ length text
+  pub last : lastRaw classes pool (between text start (start + length (rawOf classes pool row))) ≡ Row row
   pub one : oneKnown classes pool (drop «from» text) ≡ true
   pub turns : allShown classes pool (drop «from» text) ≡
       between text «from» start ++

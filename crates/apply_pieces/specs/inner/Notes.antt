@@ -2,11 +2,11 @@
 use mathlib.Core.Path.{_≡_}
 use mathlib.Core.Bool.{false}
 use mathlib.Core.List.{List}
-use Prim.Native.Nat.{ℕ, zero, suc, _+_, _*_, _<_}
+use Prim.Native.Nat.{ℕ, zero, suc, _+_, _*_, _≤_, _<_}
 use lib.ListN.{length, take, drop}
 use Rattle.tree_rule.specs.declared.TreeCounts.{TreeCounts}
 use Rattle.tree_rule.specs.Words.{wordAt}
-use Rattle.tree_rule.specs.Files.{namesStart, fileLength, textAt}
+use Rattle.tree_rule.specs.Files.{namesStart, bytesStart, fileLength, textAt}
 use Rattle.apply_pieces.specs.declared.note.Note.{Note}
 use Rattle.apply_pieces.specs.inner.Known.{oneKnown, KnownAt}
 
@@ -32,3 +32,9 @@ pub record NotedBelow (count : ℕ) (c : TreeCounts) (f : List ℕ) (classes : L
 
 abbrev pub Noted : TreeCounts → List ℕ → List (List ℕ) → List ℕ → List ℕ → List ℕ → Type 0
 Noted c f classes pool old new = NotedBelow (c .names) c f classes pool old new
+
+-- The notes about all names stand in the output.
+pub record NotesTold (classes : List (List ℕ)) (pool : List ℕ) (c : TreeCounts) (f out : List ℕ) : Type 0 where
+  pub room : bytesStart c ≤ length out
+  pub says : (n : ℕ) → n < c .names →
+      NoteSays (wordAt out (namesStart c + 8 * n)) (wordAt out (namesStart c + 8 * n + 4)) classes pool (textAt c f n)

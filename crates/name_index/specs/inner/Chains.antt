@@ -2,7 +2,7 @@
 -- behind them for each row which one before it is the last with the same mark. The number of a row is its place and one more, and 0 where
 -- there is none.
 use mathlib.Core.Path.{_≡_}
-use mathlib.Core.Bool.{false}
+use mathlib.Core.Bool.{Bool, false}
 use mathlib.Core.List.{List, []}
 use Prim.Native.Nat.{ℕ, zero, suc, _+_, _-_, _≤_, _<_}
 use lib.Dec.{eqb}
@@ -10,14 +10,19 @@ use lib.ListN.{length, getD, set}
 use Rattle.ground.specs.Choice.{pick}
 use Rattle.ground.specs.Look.{Look}
 use Rattle.table_rows.specs.declared.rows.Member.{Member}
+use Rattle.table_rows.specs.Classes.{Pair}
 use Rattle.table_rows.specs.Rows.{unpackClass, unpackMember, mostMembers}
 use Rattle.tables.specs.declared.search.Found.{Found}
+use Rattle.tables.specs.declared.search.Found.the-variants.{Row}
 use Rattle.tables.specs.Back.{textIn, readBack}
+use Rattle.tables.specs.Search.{orRow}
 use Rattle.table_index.specs.inner.Marks.{markCount, markFrom}
+use Rattle.load_rule.specs.Members.{Entry}
 use Rattle.name_rule.specs.Mappings.{entryBack}
-use Rattle.name_rule.specs.MemberNames.{Key, key, ownerMatches}
+use Rattle.name_rule.specs.MemberNames.{Key, key, fieldMatches, ownerMatches, methodMatches}
 use Rattle.name_rule.specs.MemberRows.{lastMember}
 use Rattle.name_members.specs.declared.rows.Sought.{Sought}
+use Rattle.name_members.specs.declared.rows.Sought.the-variants.{Field, Method, Own}
 use Rattle.name_members.specs.inner.Sought.{answersBy}
 
 abbrev pub memberIndexSize : ℕ
@@ -70,6 +75,36 @@ pub record Behind
   pub none : (i : ℕ) → count ≤ i → i < length rows →
       answersBy sought display (readBack classes pool) (key owner name descriptor) (entryBack pool (getD rows i [])) ≡ false
   pub at-mark : 0 < count → markAt classes pool rows (count - 1) ≡ memberMark owner name descriptor
+
+-- A field, or else a method, is wanted: what answers first, and what answers else.
+abbrev pub firstWanted : Bool → Sought
+firstWanted field = pick field Field Own
+
+abbrev pub elseWanted : Bool → Sought
+elseWanted field = pick field Field Method
+
+abbrev pub wantedBy : Bool → List Pair → Key → Entry → Bool
+wantedBy field cs k e = pick field (fieldMatches cs k e) (methodMatches cs k e)
+
+-- the row that answers, in a class with the display descriptor `display`
+abbrev pub wantedRow : Bool → Look → List Pair → Key → List (List ℕ) → List ℕ → Found
+wantedRow field display cs k rows pool =
+    orRow (lastMember (answersBy (firstWanted field) display cs k) rows pool)
+    (lastMember (answersBy (elseWanted field) display cs k) rows pool)
+
+-- So far no row answers first, and `any` is the number of the last that answers else, or 0 where there is none yet.
+pub record Walked
+    (classes : List (List ℕ))
+    (pool : List ℕ)
+    (rows : List (List ℕ))
+    (field : Bool)
+    (display : Look)
+    (owner name descriptor : List ℕ)
+    (any count : ℕ) : Type 0 where
+  pub first : Behind classes pool rows (firstWanted field) display owner name descriptor count
+  pub none : any ≤ 0 → Behind classes pool rows (elseWanted field) display owner name descriptor count
+  pub some : 0 < any →
+      Row (any - 1) ≡ lastMember (answersBy (elseWanted field) display (readBack classes pool) (key owner name descriptor)) rows pool
 
 -- the member of a row, in the class of a class row, as what is looked for
 abbrev pub keyOfRow : List (List ℕ) → List (List ℕ) → List ℕ → ℕ → ℕ → Key

@@ -3,9 +3,6 @@ use Rattle.apply_members.proofs.Noting.{method-noting}
 use Rattle.apply_members.proofs.member.method_note.Statement.{statement}
 use Rattle.apply_members.proofs.member.method_note.Tie as tie
 
-chained-row-requires : tie.Need-chained-row-requires
-chained-row-requires c κs = search method-noting
-
 row-number-requires : tie.Need-row-number-requires
 row-number-requires c κs = search method-noting
 
@@ -34,7 +31,6 @@ pub method-note-spec : {M : Type 1} → statement M
 method-note-spec =
     tie.close
     (tie.spec
-    chained-row-requires
     row-number-requires
     enum-known-found
     enum-told

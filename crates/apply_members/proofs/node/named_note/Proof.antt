@@ -9,23 +9,23 @@ raw-name-requires c κs = search owner-noting
 raw-name-requires-2 : tie.Need-raw-name-requires-2
 raw-name-requires-2 c κs = search owner-noting
 
+owner-found-requires : tie.Need-owner-found-requires
+owner-found-requires c κs = search owner-noting
+
+enum-known-found : tie.Need-enum-known-found
+enum-known-found c = search owner-noting
+
 enum-told : tie.Need-enum-told
 enum-told c = search owner-noting
 
-member-note-requires : tie.Need-member-note-requires
-member-note-requires c κs = search owner-noting
-
-enum-known-owner : tie.Need-enum-known-owner
-enum-known-owner c = search owner-noting
-
-raw-name-requires-3 : tie.Need-raw-name-requires-3
-raw-name-requires-3 c κs = search owner-noting
-
-member-note-requires-2 : tie.Need-member-note-requires-2
-member-note-requires-2 c κs = search owner-noting
+is-given-requires : tie.Need-is-given-requires
+is-given-requires c κs = search owner-noting
 
 returns : tie.Need-returns
 returns c = search owner-noting
+
+member-note-requires : tie.Need-member-note-requires
+member-note-requires c κs = search owner-noting
 
 returns-2 : tie.Need-returns-2
 returns-2 c = search owner-noting
@@ -36,10 +36,10 @@ named-note-spec =
     (tie.spec
     raw-name-requires
     raw-name-requires-2
+    owner-found-requires
+    enum-known-found
     enum-told
-    member-note-requires
-    enum-known-owner
-    raw-name-requires-3
-    member-note-requires-2
+    is-given-requires
     returns
+    member-note-requires
     returns-2)

@@ -3,9 +3,6 @@ use Rattle.apply_output.proofs.Outputting.{outputs}
 use Rattle.apply_output.proofs.output.write_output.Statement.{statement}
 use Rattle.apply_output.proofs.output.write_output.Tie as tie
 
-count-names-requires : tie.Need-count-names-requires
-count-names-requires c κs = search outputs
-
 file-length-requires : tie.Need-file-length-requires
 file-length-requires c κs = search outputs
 
@@ -15,14 +12,11 @@ mul-texts c = search outputs
 add-texts : tie.Need-add-texts
 add-texts c = search outputs
 
-same-length : tie.Need-same-length
-same-length c = search outputs
-
 returns : tie.Need-returns
 returns c = search outputs
 
-put-tokens-requires : tie.Need-put-tokens-requires
-put-tokens-requires c κs = search outputs
+put-names-requires : tie.Need-put-names-requires
+put-names-requires c κs = search outputs
 
 enum-known-end : tie.Need-enum-known-end
 enum-known-end c = search outputs
@@ -30,8 +24,8 @@ enum-known-end c = search outputs
 enum-told : tie.Need-enum-told
 enum-told c = search outputs
 
-same-length-2 : tie.Need-same-length-2
-same-length-2 c = search outputs
+same-length : tie.Need-same-length
+same-length c = search outputs
 
 returns-2 : tie.Need-returns-2
 returns-2 c = search outputs
@@ -42,8 +36,8 @@ sub-size c = search outputs
 finish-requires : tie.Need-finish-requires
 finish-requires c κs = search outputs
 
-same-length-3 : tie.Need-same-length-3
-same-length-3 c = search outputs
+same-length-2 : tie.Need-same-length-2
+same-length-2 c = search outputs
 
 returns-3 : tie.Need-returns-3
 returns-3 c = search outputs
@@ -52,18 +46,16 @@ pub write-output-spec : {M : Type 1} → statement M
 write-output-spec =
     tie.close
     (tie.spec
-    count-names-requires
     file-length-requires
     mul-texts
     add-texts
-    same-length
     returns
-    put-tokens-requires
+    put-names-requires
     enum-known-end
     enum-told
-    same-length-2
+    same-length
     returns-2
     sub-size
     finish-requires
-    same-length-3
+    same-length-2
     returns-3)

@@ -3,8 +3,8 @@ use Rattle.apply_output.proofs.Planning.{plans}
 use Rattle.apply_output.proofs.plan.plan_at.Statement.{statement}
 use Rattle.apply_output.proofs.plan.plan_at.Tie as tie
 
-tokens-start-requires : tie.Need-tokens-start-requires
-tokens-start-requires c κs = search plans
+bytes-start-requires : tie.Need-bytes-start-requires
+bytes-start-requires c κs = search plans
 
 mul-at : tie.Need-mul-at
 mul-at c = search plans
@@ -12,66 +12,74 @@ mul-at c = search plans
 add-at : tie.Need-add-at
 add-at c = search plans
 
-add-word-at : tie.Need-add-word-at
-add-word-at c = search plans
-
 word-at-requires : tie.Need-word-at-requires
 word-at-requires c κs = search plans
 
-token-row-requires : tie.Need-token-row-requires
-token-row-requires c κs = search plans
+add-word-at : tie.Need-add-word-at
+add-word-at c = search plans
 
-enum-told : tie.Need-enum-told
-enum-told c = search plans
+word-at-requires-2 : tie.Need-word-at-requires-2
+word-at-requires-2 c κs = search plans
 
-enum-told-2 : tie.Need-enum-told-2
-enum-told-2 c = search plans
+cast-name : tie.Need-cast-name
+cast-name c = search plans
 
-member-plan-requires : tie.Need-member-plan-requires
-member-plan-requires c κs = search plans
+names-start-requires : tie.Need-names-start-requires
+names-start-requires c κs = search plans
 
-enum-known-raw : tie.Need-enum-known-raw
-enum-known-raw c = search plans
+mul-note : tie.Need-mul-note
+mul-note c = search plans
 
-cast-name-plan : tie.Need-cast-name-plan
-cast-name-plan c = search plans
+add-note : tie.Need-add-note
+add-note c = search plans
 
-name-plan-requires : tie.Need-name-plan-requires
-name-plan-requires c κs = search plans
+word-at-requires-3 : tie.Need-word-at-requires-3
+word-at-requires-3 c κs = search plans
 
-enum-told-3 : tie.Need-enum-told-3
-enum-told-3 c = search plans
+add-word-at-2 : tie.Need-add-word-at-2
+add-word-at-2 c = search plans
+
+word-at-requires-4 : tie.Need-word-at-requires-4
+word-at-requires-4 c κs = search plans
+
+cast-t15 : tie.Need-cast-t15
+cast-t15 c = search plans
+
+sub-t14 : tie.Need-sub-t14
+sub-t14 c = search plans
+
+cast-t16 : tie.Need-cast-t16
+cast-t16 c = search plans
 
 returns : tie.Need-returns
 returns c = search plans
 
+sub-t17 : tie.Need-sub-t17
+sub-t17 c = search plans
+
 returns-2 : tie.Need-returns-2
 returns-2 c = search plans
-
-returns-3 : tie.Need-returns-3
-returns-3 c = search plans
-
-returns-4 : tie.Need-returns-4
-returns-4 c = search plans
 
 pub plan-at-spec : {M : Type 1} → statement M
 plan-at-spec =
     tie.close
     (tie.spec
-    tokens-start-requires
+    bytes-start-requires
     mul-at
     add-at
-    add-word-at
     word-at-requires
-    token-row-requires
-    enum-told
-    enum-told-2
-    member-plan-requires
-    enum-known-raw
-    cast-name-plan
-    name-plan-requires
-    enum-told-3
+    add-word-at
+    word-at-requires-2
+    cast-name
+    names-start-requires
+    mul-note
+    add-note
+    word-at-requires-3
+    add-word-at-2
+    word-at-requires-4
+    cast-t15
+    sub-t14
+    cast-t16
     returns
-    returns-2
-    returns-3
-    returns-4)
+    sub-t17
+    returns-2)

@@ -3,12 +3,6 @@ use Rattle.apply_output.proofs.Rowing.{name-rows}
 use Rattle.apply_output.proofs.rows.put_name.Statement.{statement}
 use Rattle.apply_output.proofs.rows.put_name.Tie as tie
 
-added-by-requires : tie.Need-added-by-requires
-added-by-requires c κs = search name-rows
-
-returns : tie.Need-returns
-returns c = search name-rows
-
 put-word-requires : tie.Need-put-word-requires
 put-word-requires c κs = search name-rows
 
@@ -21,17 +15,9 @@ put-word-requires-2 c κs = search name-rows
 same-length : tie.Need-same-length
 same-length c = search name-rows
 
-returns-2 : tie.Need-returns-2
-returns-2 c = search name-rows
+returns : tie.Need-returns
+returns c = search name-rows
 
 pub put-name-spec : {M : Type 1} → statement M
 put-name-spec =
-    tie.close
-    (tie.spec
-    added-by-requires
-    returns
-    put-word-requires
-    add-put-word
-    put-word-requires-2
-    same-length
-    returns-2)
+    tie.close (tie.spec put-word-requires add-put-word put-word-requires-2 same-length returns)

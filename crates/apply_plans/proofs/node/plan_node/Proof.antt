@@ -1,37 +1,40 @@
--- `apply_plans::node::plan_node` meets its contract, by the laws of Planning.
-use Rattle.apply_plans.proofs.Planning.{node-planned, node-planning}
+-- `apply_plans::node::plan_node` meets its contract, by the laws of Noding.
+use Rattle.apply_plans.proofs.Noding.{noding}
 use Rattle.apply_plans.proofs.node.plan_node.Statement.{statement}
 use Rattle.apply_plans.proofs.node.plan_node.Tie as tie
+use Rattle.apply_plans.proofs.context.node_context.Reads as node-context-reads
+use Rattle.apply_plans.proofs.tokens.plan_tokens.Reads as plan-tokens-reads
+use Rattle.tree_words.proofs.put_word.Reads as put-word-reads
 
-put-head-requires : tie.Need-put-head-requires
-put-head-requires c κs = search node-planning
+node-context-requires : tie.Need-node-context-requires
+node-context-requires c κs = search noding
 
-tokens-start-requires : tie.Need-tokens-start-requires
-tokens-start-requires c κs = search node-planning
+mul-put-word : tie.Need-mul-put-word
+mul-put-word c = search noding
 
-mul-base : tie.Need-mul-base
-mul-base c = search node-planning
+add-put-word : tie.Need-add-put-word
+add-put-word c = search noding
 
-add-base : tie.Need-add-base
-add-base c = search node-planning
+put-word-requires : tie.Need-put-word-requires
+put-word-requires c κs = search noding
 
-plan-lines-requires : tie.Need-plan-lines-requires
-plan-lines-requires c κs = search node-planning
+plan-tokens-requires : tie.Need-plan-tokens-requires
+plan-tokens-requires c κs = search noding
 
 same-length : tie.Need-same-length
-same-length c = search node-planning
+same-length c = search noding
 
 returns : tie.Need-returns
-returns c = search (c .before .before .before .before .before .before .before .before .before .before .before .before .before .pre .0, c .before .before .before .before .before .before .before .put-head .ensures .0, c .before .before .before .before .before .before .before .put-head .ensures .1, c .before .before .before .before .before .before .before .put-head .ensures .2, c .before .before .before .before .tokens-start .ensures, c .before .before .plan-lines .ensures, node-planned)
+returns c = search noding
 
 pub plan-node-spec : {M : Type 1} → statement M
 plan-node-spec =
     tie.close
     (tie.spec
-    put-head-requires
-    tokens-start-requires
-    mul-base
-    add-base
-    plan-lines-requires
+    node-context-requires
+    mul-put-word
+    add-put-word
+    put-word-requires
+    plan-tokens-requires
     same-length
     returns)

@@ -20,6 +20,12 @@ same-few-requires c κs = search agreeing
 returns-2 : tie.Need-returns-2 Inv-loop μ-loop
 returns-2 c = search agreeing
 
+same-by-blocks-requires : tie.Need-same-by-blocks-requires Inv-loop μ-loop
+same-by-blocks-requires c κs = search agreeing
+
+returns-3 : tie.Need-returns-3 Inv-loop μ-loop
+returns-3 c = search agreeing
+
 sub-last : tie.Need-sub-last Inv-loop μ-loop
 sub-last c = search agreeing
 
@@ -29,8 +35,8 @@ loop-holds c = search agreeing
 block-differs-requires : tie.Need-block-differs-requires Inv-loop μ-loop
 block-differs-requires c κs = search agreeing
 
-returns-3 : tie.Need-returns-3 Inv-loop μ-loop
-returns-3 c = search agreeing
+returns-4 : tie.Need-returns-4 Inv-loop μ-loop
+returns-4 c = search agreeing
 
 add-at : tie.Need-add-at Inv-loop μ-loop
 add-at c = search agreeing
@@ -44,8 +50,8 @@ loop-again c = search agreeing
 block-differs-requires-2 : tie.Need-block-differs-requires-2 Inv-loop μ-loop
 block-differs-requires-2 c κs = search agreeing
 
-returns-4 : tie.Need-returns-4 Inv-loop μ-loop
-returns-4 c = search agreeing
+returns-5 : tie.Need-returns-5 Inv-loop μ-loop
+returns-5 c = search agreeing
 
 pub same-text-spec : {M : Type 1} → statement M
 same-text-spec =
@@ -56,12 +62,14 @@ same-text-spec =
     returns
     same-few-requires
     returns-2
+    same-by-blocks-requires
+    returns-3
     sub-last
     loop-holds
     block-differs-requires
-    returns-3
+    returns-4
     add-at
     loop-less
     loop-again
     block-differs-requires-2
-    returns-4)
+    returns-5)
