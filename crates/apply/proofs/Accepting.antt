@@ -63,11 +63,11 @@ module _ (classes rows : List (List ℕ)) (f out : List ℕ) (k : AcceptReady cl
       pub end_fits : Fits w32 «end»
       end_fits = omega (arith, d.room, part_length)
 
-      pub answer-done : answer.Done «end» ≡ fitting_answer (length out) file
-      answer-done = ap answer.Done d.past ∙ sym (rw (fits_yes (omega (arith, d.past, d.room, part_length))))
+      pub answer_done : answer.Done «end» ≡ fitting_answer (length out) file
+      answer_done = ap answer.Done d.past ∙ sym (rw (fits_yes (omega (arith, d.past, d.room, part_length))))
 
-      pub output-done : {new : List ℕ} → new ≡ part ++ drop room out → new ≡ fitting_output (length out) file
-      output-done {new} g =
+      pub output_done : {new : List ℕ} → new ≡ part ++ drop room out → new ≡ fitting_output (length out) file
+      output_done {new} g =
           let left : length (take room out) - «end» + (length out - room) ≡ length out - length file = omega (arith, d.past, d.room, part_length) in
           let rest : drop room out ≡ replicate (length out - room) 0 = ap (drop room) k.zero ∙ zero_drop room (length out) in
           g ∙ ap (λ l. l ++ drop room out) d.is ∙ ap (λ l. (file ++ replicate (length (take room out) - «end») 0) ++ l) rest
@@ -77,11 +77,11 @@ module _ (classes rows : List (List ℕ)) (f out : List ℕ) (k : AcceptReady cl
           ∙ sym (rw (fits_yes (omega (arith, d.past, d.room, part_length))))
 
     module _ (d : NoneFilled file (take room out)) where
-      pub answer-none : answer.NoRoom ≡ fitting_answer (length out) file
-      answer-none = sym (rw (fits_no (omega (arith, d.over, part_length))))
+      pub answer_none : answer.NoRoom ≡ fitting_answer (length out) file
+      answer_none = sym (rw (fits_no (omega (arith, d.over, part_length))))
 
-      pub output-none : {new : List ℕ} → new ≡ replicate (length out) 0 → new ≡ fitting_output (length out) file
-      output-none g = g ∙ sym (rw (fits_no (omega (arith, d.over, part_length))))
+      pub output_none : {new : List ℕ} → new ≡ replicate (length out) 0 → new ≡ fitting_output (length out) file
+      output_none g = g ∙ sym (rw (fits_no (omega (arith, d.over, part_length))))
 
     -- by the answer of the filling
     module _ (part : List ℕ) (r : Wrote) (w : OutputFilledBy r file (take room out) part) where
@@ -91,31 +91,31 @@ module _ (classes rows : List (List ℕ)) (f out : List ℕ) (k : AcceptReady cl
       told_none : r ≡ NoRoom → NoneFilled file (take room out)
       told_none g = rw g at w
 
-      pub fill-fits : {«end» : ℕ} → r ≡ Done «end» → Fits w32 «end»
-      fill-fits g = end_fits (told g)
+      pub fill_fits : {«end» : ℕ} → r ≡ Done «end» → Fits w32 «end»
+      fill_fits g = end_fits (told g)
 
-      pub fill-answer : {«end» : ℕ} → r ≡ Done «end» → answer.Done «end» ≡ fitting_answer (length out) file
-      fill-answer g = answer-done (told g)
+      pub fill_answer : {«end» : ℕ} → r ≡ Done «end» → answer.Done «end» ≡ fitting_answer (length out) file
+      fill_answer g = answer_done (told g)
 
-      pub fill-output : {«end» : ℕ} → r ≡ Done «end» → part ++ drop room out ≡ fitting_output (length out) file
-      fill-output g = output-done (told g) refl
+      pub fill_output : {«end» : ℕ} → r ≡ Done «end» → part ++ drop room out ≡ fitting_output (length out) file
+      fill_output g = output_done (told g) refl
 
-      pub fill-refused : r ≡ NoRoom → answer.NoRoom ≡ fitting_answer (length out) file
-      fill-refused g = answer-none (told_none g)
+      pub fill_refused : r ≡ NoRoom → answer.NoRoom ≡ fitting_answer (length out) file
+      fill_refused g = answer_none (told_none g)
 
       -- the part that was written is made zero again
-      pub fill-zero : r ≡ NoRoom → length part ≡ length (take room out) → {mid : List ℕ} →
+      pub fill_zero : r ≡ NoRoom → length part ≡ length (take room out) → {mid : List ℕ} →
           mid ≡ replicate (length (take room (part ++ drop room out))) 0 →
           mid ++ drop room (part ++ drop room out) ≡ fitting_output (length out) file
-      fill-zero g l {mid} h =
+      fill_zero g l {mid} h =
           let size : length part ≡ room = l ∙ part_length in
           let front : take room (part ++ drop room out) ≡ part = take_at part (drop room out) room size in
           let back : drop room (part ++ drop room out) ≡ drop room out = drop_at part (drop room out) room size in
           let rest : drop room out ≡ replicate (length out - room) 0 = ap (drop room) k.zero ∙ zero_drop room (length out) in
           let whole : room + (length out - room) ≡ length out = omega arith in
-          output-none (told_none g)
+          output_none (told_none g)
           (ap (λ x. x ++ drop room (part ++ drop room out)) (h ∙ ap (λ x. replicate (length x) 0) front ∙ ap (λ n. replicate n 0) size)
           ∙ ap (λ x. replicate room 0 ++ x) (back ∙ rest)
           ∙ replicate-append-replicate room (length out - room) 0 ∙ ap (λ n. replicate n 0) whole)
 
-pub ruleset accepting = (part_ready, room_inside, filled_inside, prefix_whole, fill-fits, fill-answer, fill-output, fill-refused, fill-zero, rules)
+pub ruleset accepting = (part_ready, room_inside, filled_inside, prefix_whole, fill_fits, fill_answer, fill_output, fill_refused, fill_zero, rules)

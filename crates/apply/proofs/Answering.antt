@@ -31,19 +31,19 @@ module _ (c m : List (List ℕ)) (p class f : List ℕ) (used : Used) (room : �
 
   module _ (h : not b ≡ false) where
     -- the tree file too long
-    pub long-answer : most_tree < length f → TooLong ≡ apply_answer (tables c m p) used class f room
-    long-answer l = sym (rw (tested_formed c m p used w h, lt-leb (length f) most_tree l))
+    pub long_answer : most_tree < length f → TooLong ≡ apply_answer (tables c m p) used class f room
+    long_answer l = sym (rw (tested_formed c m p used w h, lt-leb (length f) most_tree l))
 
-    pub long-output : most_tree < length f → {out : List ℕ} → out ≡ replicate room 0 → out ≡ apply_output (tables c m p) used class f room
-    long-output l e = e ∙ sym (rw (tested_formed c m p used w h, lt-leb (length f) most_tree l))
+    pub long_output : most_tree < length f → {out : List ℕ} → out ≡ replicate room 0 → out ≡ apply_output (tables c m p) used class f room
+    long_output l e = e ∙ sym (rw (tested_formed c m p used w h, lt-leb (length f) most_tree l))
 
     module _ (l : length f ≤ most_tree) {t : Bool} (v : t ≡ well_formed_file f) where
       -- the tree file malformed
-      pub bad-answer : not t ≡ true → BadTree ≡ apply_answer (tables c m p) used class f room
-      bad-answer g = sym (rw (tested_formed c m p used w h, le-leb (length f) most_tree l, sym v ∙ not-true t g))
+      pub bad_answer : not t ≡ true → BadTree ≡ apply_answer (tables c m p) used class f room
+      bad_answer g = sym (rw (tested_formed c m p used w h, le-leb (length f) most_tree l, sym v ∙ not-true t g))
 
-      pub bad-output : not t ≡ true → {out : List ℕ} → out ≡ replicate room 0 → out ≡ apply_output (tables c m p) used class f room
-      bad-output g e = e ∙ sym (rw (tested_formed c m p used w h, le-leb (length f) most_tree l, sym v ∙ not-true t g))
+      pub bad_output : not t ≡ true → {out : List ℕ} → out ≡ replicate room 0 → out ≡ apply_output (tables c m p) used class f room
+      bad_output g e = e ∙ sym (rw (tested_formed c m p used w h, le-leb (length f) most_tree l, sym v ∙ not-true t g))
 
       module _ (g : not t ≡ false) where
         good : well_formed_file f ≡ true
@@ -53,9 +53,9 @@ module _ (c m : List (List ℕ)) (p class f : List ℕ) (used : Used) (room : �
           size : length out ≡ room
           size = ap length e ∙ length-replicate room 0
 
-          pub accepted-answer : {r : Applied} → r ≡ fitting_answer (length out) (applied_file (mapping_in (take used.classes c) (take used.members m) p) class f) →
+          pub accepted_answer : {r : Applied} → r ≡ fitting_answer (length out) (applied_file (mapping_in (take used.classes c) (take used.members m) p) class f) →
               r ≡ apply_answer (tables c m p) used class f room
-          accepted-answer q =
+          accepted_answer q =
               q ∙ ap (λ n. fitting_answer n (applied_file (mapping_in (take used.classes c) (take used.members m) p) class f)) size
               ∙ sym (rw (tested_formed c m p used w h, le-leb (length f) most_tree l, good))
 
@@ -102,12 +102,12 @@ pub ruleset applying = (
   malformed_output,
   class_rows_lent,
   member_rows_lent,
-  long-answer,
-  long-output,
-  bad-answer,
-  bad-output,
+  long_answer,
+  long_output,
+  bad_answer,
+  bad_output,
   accept_ready,
-  accepted-answer,
+  accepted_answer,
   accepted_output,
   prefix_whole,
   rules,

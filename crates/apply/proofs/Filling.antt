@@ -22,7 +22,7 @@ use Rattle.tree_rule.proofs.RowLaws.{list_length}
 use Rattle.apply_rule.specs.Changes.{Changed}
 use Rattle.apply_rule.specs.Applying.{applied_file, new_names, numbered}
 use Rattle.apply_rule.specs.Inner.Plans.{mapping_in, changes_in, laid_from, laid_out}
-use Rattle.apply_rule.proofs.Laid.{laid-applied}
+use Rattle.apply_rule.proofs.Laid.{laid_applied}
 use Rattle.apply_rule.proofs.Numbering.{numbered_length}
 use Rattle.apply_rule.proofs.NodeChanges.{changes_length}
 use Rattle.apply_pieces.specs.Inner.Notes.{Noted}
@@ -65,8 +65,8 @@ module _ (classes rows : List (List ℕ)) (pool class : List ℕ) (c : TreeCount
   pass_file = omega (arith, k.formed.size)
 
   module _ {noted : List ℕ} (n : Noted c f classes pool old noted) where
-    pub pass-plans : PlansReady classes rows pool c f noted
-    pass-plans = record {
+    pub pass_plans : PlansReady classes rows pool c f noted
+    pass_plans = record {
       formed = k.formed;
       file = k.file;
       told = record { room = omega (arith, k.room, n.size); says = n.notes };
@@ -76,8 +76,8 @@ module _ (classes rows : List (List ℕ)) (pool class : List ℕ) (c : TreeCount
 
     module _ (r : Planned) (mid : List ℕ) (p : PlansBy r classes rows pool class c f noted mid) where
       -- no room for the plan of a name
-      pub pass-none : r ≡ plans.NoRoom → NoneFilled (laid_out c f (changes_in classes rows pool class c f)) old
-      pass-none e =
+      pub pass_none : r ≡ plans.NoRoom → NoneFilled (laid_out c f (changes_in classes rows pool class c f)) old
+      pass_none e =
           let none : NoRow c (length (new_names (changes_in classes rows pool class c f))) noted = rw e at p in
           record { over = omega (arith, none.over, laid_size classes rows pool class c f k.formed, n.size) }
 
@@ -85,8 +85,8 @@ module _ (classes rows : List (List ℕ)) (pool class : List ℕ) (c : TreeCount
         made : PlansMade count classes rows pool class c f noted mid
         made = rw e at p
 
-        pub pass-ready : {index : List ℕ} → IndexBy Raw classes pool index → Ready index classes pool c f count mid
-        pass-ready x = record {
+        pub pass_ready : {index : List ℕ} → IndexBy Raw classes pool index → Ready index classes pool c f count mid
+        pass_ready x = record {
           formed = k.formed;
           room = omega (arith, k.room, made.size, n.size);
           most = omega (arith, k.most, made.size, n.size);
@@ -96,8 +96,8 @@ module _ (classes rows : List (List ℕ)) (pool class : List ℕ) (c : TreeCount
           plans = made.fits;
         }
 
-        same-file : output_from classes pool c f count mid ≡ laid_out c f (changes_in classes rows pool class c f)
-        same-file = ap (λ t. laid_from c f t (planned_names classes pool c f mid count)) made.tokens
+        same_file : output_from classes pool c f count mid ≡ laid_out c f (changes_in classes rows pool class c f)
+        same_file = ap (λ t. laid_from c f t (planned_names classes pool c f mid count)) made.tokens
             ∙ ap (laid_from c f (join (map token_row_bytes (numbered c.names (changes_in classes rows pool class c f))))) made.texts
 
         counted : count ≡ length (new_names (changes_in classes rows pool class c f))
@@ -117,21 +117,21 @@ module _ (classes rows : List (List ℕ)) (pool class : List ℕ) (c : TreeCount
             FilledTo x (laid_out c f (changes_in classes rows pool class c f)) old new
         done {x} {new} o =
             let file : List ℕ = laid_out c f (changes_in classes rows pool class c f) in
-            let past : x ≡ length file = o.past ∙ ap length same-file in
+            let past : x ≡ length file = o.past ∙ ap length same_file in
             let long = laid_size classes rows pool class c f k.formed in
             let rest : drop x mid ≡ replicate (length old - x) 0 = behind x (omega (arith, past, long)) (omega (arith, past, long, counted)) in
             record {
               past = past;
               room = omega (arith, o.room, made.size, n.size);
-              is = o.is ∙ ap (λ l. l ++ drop x mid) same-file ∙ ap (λ l. file ++ l) rest;
+              is = o.is ∙ ap (λ l. l ++ drop x mid) same_file ∙ ap (λ l. file ++ l) rest;
             }
 
-        pub pass-by : (q : Wrote) (new : List ℕ) → OutputBy q classes pool c f count mid new →
+        pub pass_by : (q : Wrote) (new : List ℕ) → OutputBy q classes pool c f count mid new →
             OutputFilledBy q (laid_out c f (changes_in classes rows pool class c f)) old new
-        pass-by (Done x) new o = done o
-        pass-by NoRoom new o = record { over = omega (arith, o.over, ap length same-file, made.size, n.size) }
+        pass_by (Done x) new o = done o
+        pass_by NoRoom new o = record { over = omega (arith, o.over, ap length same_file, made.size, n.size) }
 
-pub ruleset passes = (pass_file, pass-plans, pass-none, pass-ready, pass-by, rules)
+pub ruleset passes = (pass_file, pass_plans, pass_none, pass_ready, pass_by, rules)
 
 -- The whole file.
 module _ (classes rows : List (List ℕ)) (pool class : List ℕ) (f old : List ℕ) (k : FillReady classes rows f old)
@@ -141,7 +141,7 @@ module _ (classes rows : List (List ℕ)) (pool class : List ℕ) (f old : List 
 
   file_is : {c : TreeCounts} → c ≡ counts_in f → laid_out c f (changes_in classes rows pool class c f) ≡ applied_file (mapping_in classes rows pool) class f
   file_is {c} e =
-      laid-applied c f (subst (λ x. FormedBy x f) (sym e) formed) (λ i. let h = small i in omega arith) (mapping_in classes rows pool) class e
+      laid_applied c f (subst (λ x. FormedBy x f) (sym e) formed) (λ i. let h = small i in omega arith) (mapping_in classes rows pool) class e
 
   pub fill_over : length old < length f → NoneFilled (applied_file (mapping_in classes rows pool) class f) old
   fill_over h =
@@ -151,8 +151,8 @@ module _ (classes rows : List (List ℕ)) (pool class : List ℕ) (f old : List 
   fill_head = omega (arith, formed.size)
 
   module _ {c : TreeCounts} (e : c ≡ counts_in f) where
-    pub fill-ready : length f ≤ length old → PassReady classes rows c f old
-    fill-ready h =
+    pub fill_ready : length f ≤ length old → PassReady classes rows c f old
+    fill_ready h =
         subst (λ x. PassReady classes rows x f old) (sym e)
         (record {
           formed = formed;
@@ -168,4 +168,4 @@ module _ (classes rows : List (List ℕ)) (pool class : List ℕ) (f old : List 
         OutputFilledBy r (applied_file (mapping_in classes rows pool) class f) old new
     fill_done r new = subst (λ x. OutputFilledBy r x old new) (file_is e)
 
-pub ruleset filling = (fill_over, fill_head, fill-ready, fill_done, rules)
+pub ruleset filling = (fill_over, fill_head, fill_ready, fill_done, rules)

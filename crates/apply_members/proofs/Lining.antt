@@ -23,23 +23,23 @@ module _ (classes rows : List (List ℕ)) (pool : List ℕ) (home : ℕ) {contex
   no_context n e = sym (ap (λ x. line_by classes rows pool home x n) e)
 
   module _ (h : context ≡ 0 → ⊥) where
-    pub context-some : 1 ≤ context
-    context-some = above_zero context h
+    pub context_some : 1 ≤ context
+    context_some = above_zero context h
 
     module _ (k : MeantBy classes rows pool home context) where
-      pub context-class : last_raw classes pool (text_in pool (unpack_class (get_or classes home [])).raw) ≡ Row home
-      context-class = (k.meant (above_zero context h)).class_row_lem
+      pub context_class : last_raw classes pool (text_in pool (unpack_class (get_or classes home [])).raw) ≡ Row home
+      context_class = (k.meant (above_zero context h)).class_row_lem
 
-      pub context-own : own_row classes rows pool (key_of_row classes rows pool home (context - 1)) ≡ Row (context - 1)
-      context-own = (k.meant (above_zero context h)).own_row_lem
+      pub context_own : own_row classes rows pool (key_of_row classes rows pool home (context - 1)) ≡ Row (context - 1)
+      context_own = (k.meant (above_zero context h)).own_row_lem
 
-    pub context-is : (n : RawLine) {l : LineName} →
+    pub context_is : (n : RawLine) {l : LineName} →
         l ≡ line_of_method (mapping (read_back classes pool) (entries_back rows pool)) (key_of_row classes rows pool home (context - 1)) n →
         l ≡ line_by classes rows pool home context n
-    context-is n e = e ∙ sym (go context (above_zero context h))
+    context_is n e = e ∙ sym (go context (above_zero context h))
       where
         go : (x : ℕ) → 0 < x → line_by classes rows pool home x n ≡ line_of_method (mapping (read_back classes pool) (entries_back rows pool)) (key_of_row classes rows pool home (x - 1)) n
         go zero q = absurd (omega arith)
         go (suc x) q = let z : suc x - 1 ≡ x = omega arith in rw z
 
-pub ruleset context_lines = (no_context, context-some, context-class, context-own, context-is, rules)
+pub ruleset context_lines = (no_context, context_some, context_class, context_own, context_is, rules)

@@ -51,13 +51,13 @@ module _ (c : TreeCounts) (f : List ℕ) (i : ℕ) (k : FormedBy c f) (t : Named
     told : (word_at f (at + 4) < c.names) × (raw_name_of (name_in (tree_by c f)) (token_at c f i) ≡ name_in (tree_by c f) (word_at f (at + 4)))
     told = first_number (word_at f at) (word_at f (at + 4)) (word_at f (at + 8)) c.names (name_in (tree_by c f)) t.named (k.tokens i t.inside)
 
-    pub number-below : n < c.names
-    number-below = rw is at told.0
+    pub number_below : n < c.names
+    number_below = rw is at told.0
 
-    pub number-names : text_at c f n ≡ raw_name_of (name_in (tree_by c f)) (token_at c f i)
-    number-names = sym (told.1 ∙ ap (name_in (tree_by c f)) is ∙ name_at_lem c f n number-below)
+    pub number_names : text_at c f n ≡ raw_name_of (name_in (tree_by c f)) (token_at c f i)
+    number_names = sym (told.1 ∙ ap (name_in (tree_by c f)) is ∙ name_at_lem c f n number_below)
 
-pub ruleset raw_numbers_lem = (number_inside, number-below, number-names, rules)
+pub ruleset raw_numbers_lem = (number_inside, number_below, number_names, rules)
 
 -- Where the note tells of a piece at the start that is as long as the name.
 module _ (classes : List (List ℕ)) (pool : List ℕ) (c : TreeCounts) (out : List ℕ) (name : ℕ) (owner : List ℕ)
@@ -75,14 +75,14 @@ module _ (classes : List (List ℕ)) (pool : List ℕ) (c : TreeCounts) (out : L
         let second : word_at out (names_start c + 8 * name + 4) ≡ row = ap (λ x. word_at out (x + 8 * name + 4)) (sym e) ∙ sym g in
         rw (first, second) at k.says
 
-    pub note-row : row < length classes
-    note-row = starts.inside
+    pub note_row : row < length classes
+    note_row = starts.inside
 
-    pub note-whole : {n : ℕ} → n ≡ length (raw_of classes pool row) → n ≡ length owner → Row row ≡ last_raw classes pool owner
-    note-whole p q =
+    pub note_whole : {n : ℕ} → n ≡ length (raw_of classes pool row) → n ≡ length owner → Row row ≡ last_raw classes pool owner
+    note_whole p q =
         let size : length owner ≤ 0 + length (raw_of classes pool row) - 0 = omega arith in
         let whole : between owner 0 (0 + length (raw_of classes pool row)) ≡ owner =
         take_all (0 + length (raw_of classes pool row) - 0) owner size in
         sym (ap (last_raw classes pool) (sym whole) ∙ starts.last)
 
-pub ruleset owner_rows = (note_inside, note_row_inside, note-row, note-whole, rules)
+pub ruleset owner_rows = (note_inside, note_row_inside, note_row, note_whole, rules)

@@ -119,17 +119,17 @@ module _ (classes rows : List (List ℕ)) (pool : List ℕ) (class : ℕ) (z : F
         ∙ ap (λ m. note m (not home) (lines (owns_row classes rows pool class i) m)) (f ∙ ap noted_row h)
         ∙ sym (ap (λ x. found_note classes rows pool class x home) h)
 
-    pub found-away : not home ≡ true → note n true 0 ≡ found_note classes rows pool class z home
-    found-away t = noted (sym t) (away home (pick (owns_row classes rows pool class i) n 0) t)
+    pub found_away : not home ≡ true → note n true 0 ≡ found_note classes rows pool class z home
+    found_away t = noted (sym t) (away home (pick (owns_row classes rows pool class i) n 0) t)
 
     module _ {b : Bool} (g : b ≡ owns_row classes rows pool class i) (t : not home ≡ false) where
-      pub found-own : b ≡ true → note n false n ≡ found_note classes rows pool class z home
-      found-own u = noted (sym t) (here home n t ∙ ap (λ y. lines y n) (sym u ∙ g))
+      pub found_own : b ≡ true → note n false n ≡ found_note classes rows pool class z home
+      found_own u = noted (sym t) (here home n t ∙ ap (λ y. lines y n) (sym u ∙ g))
 
-      pub found-other : b ≡ false → note n false 0 ≡ found_note classes rows pool class z home
-      found-other u = noted (sym t) (here home 0 t ∙ ap (λ y. lines y n) (sym u ∙ g))
+      pub found_other : b ≡ false → note n false 0 ≡ found_note classes rows pool class z home
+      found_other u = noted (sym t) (here home 0 t ∙ ap (λ y. lines y n) (sym u ∙ g))
 
-pub ruleset method_noting = (found_few, found_inside, found_none, found-away, found-own, found-other, rules)
+pub ruleset method_noting = (found_few, found_inside, found_none, found_away, found_own, found_other, rules)
 
 -- The row that names a field or a method.
 module _ (classes rows : List (List ℕ)) (pool : List ℕ) where
@@ -161,8 +161,8 @@ module _ (classes rows : List (List ℕ)) (pool : List ℕ) where
       at_row : owned_by (shown cs k.owner) (kind_back pool (unpack_member (get_or rows i []))) ≡ b
       at_row = ap (λ l. owned_by l (kind_back pool (unpack_member (get_or rows i [])))) look ∙ sym g
 
-      method-inside : i < length rows
-      method-inside = (method_found cs k rows pool (sym e ∙ h)).0
+      method_inside : i < length rows
+      method_inside = (method_found cs k rows pool (sym e ∙ h)).0
 
       -- the row that names a method is the last one owned, if it is owned itself
       own_yes : b ≡ true → own_row classes rows pool k ≡ Row i
@@ -178,7 +178,7 @@ module _ (classes rows : List (List ℕ)) (pool : List ℕ) where
               let matched : matches cs k (entry_back pool (get_or rows i [])) ≡ true =
               both_right (is_method_kind (entry_back pool (get_or rows i [])).kind) (matches cs k (entry_back pool (get_or rows i []))) m in
               let yes : owner_matches cs k (entry_back pool (get_or rows i [])) ≡ true = rw (at_row ∙ t, matched) in
-              clash yes (last_none (λ row. owner_matches cs k (entry_back pool row)) 0 rows p i (let l = method-inside in l))
+              clash yes (last_none (λ row. owner_matches cs k (entry_back pool row)) 0 rows p i (let l = method_inside in l))
 
       own_no : b ≡ false → own_row classes rows pool k ≡ Unknown
       own_no t = go (own_row classes rows pool k) (last_member (method_matches cs k) rows pool) refl (sym e ∙ h)
@@ -199,9 +199,9 @@ module _ (classes rows : List (List ℕ)) (pool : List ℕ) where
           go true u = ap noted_row (own_yes u)
           go false u = ap noted_row (own_no u)
 
-    found-is : (class : ℕ) (home : Bool) → shown cs k.owner ≡ known (text_in pool (unpack_class (get_or classes class [])).display) →
+    found_is : (class : ℕ) (home : Bool) → shown cs k.owner ≡ known (text_in pool (unpack_class (get_or classes class [])).display) →
         found_note classes rows pool class z home ≡ method_note classes rows pool k home
-    found-is class home look = go z refl
+    found_is class home look = go z refl
       where
         go : (x : Found) → z ≡ x → found_note classes rows pool class x home ≡ method_note classes rows pool k home
         go (Row i) h =
@@ -265,12 +265,12 @@ module _ (classes rows : List (List ℕ)) (pool : List ℕ) (i : ℕ) (name desc
     pub as_method : b ≡ true → (x : Found) {h : Bool} → h ≡ is_row x i → {r : MemberNote} →
         r ≡ found_note classes rows pool i z h → r ≡ row_note classes rows pool k (is_row x i)
     as_method t x {h} w s =
-        s ∙ found-is classes rows pool k (answer t) i h look ∙ ap (method_note classes rows pool k) w ∙ sym (rw (test ∙ t))
+        s ∙ found_is classes rows pool k (answer t) i h look ∙ ap (method_note classes rows pool k) w ∙ sym (rw (test ∙ t))
 
-    pub as-field : b ≡ false → (h : Bool) {n : ℕ} → n ≡ noted_row z → note n true 0 ≡ row_note classes rows pool k h
-    as-field t h g = ap (λ y. note y true 0) (g ∙ ap noted_row (answer t)) ∙ sym (rw (test ∙ t))
+    pub as_field : b ≡ false → (h : Bool) {n : ℕ} → n ≡ noted_row z → note n true 0 ≡ row_note classes rows pool k h
+    as_field t h g = ap (λ y. note y true 0) (g ∙ ap noted_row (answer t)) ∙ sym (rw (test ∙ t))
 
-pub ruleset member_noting = (class_there, answer_inside, rows_few, found_few, as_method, as-field, rules)
+pub ruleset member_noting = (class_there, answer_inside, rows_few, found_few, as_method, as_field, rules)
 
 -- A member, by its class.
 module _ (classes rows : List (List ℕ)) (pool class owner name descriptor : List ℕ) where

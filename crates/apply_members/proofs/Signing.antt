@@ -103,18 +103,18 @@ module _ (classes rows : List (List ℕ)) (pool class : List ℕ) (c : TreeCount
         ap (λ x. member_note classes rows pool class (key (owner class c f o) x t)) p
         ∙ ap (λ x. member_note classes rows pool class (key (owner class c f o) (name m) x)) q
 
-    pub unknown-noted : z ≡ Unknown → {h : Bool} → h ≡ is_home class (owner class c f o) t →
+    pub unknown_noted : z ≡ Unknown → {h : Bool} → h ≡ is_home class (owner class c f o) t →
         note 0 (not h) 0 ≡ member_note classes rows pool class (key (owner class c f o) (name m) (name d))
-    unknown-noted u w = owner_unknown classes rows pool class (owner class c f o) n t (is_raw ∙ u) w ∙ by_names
+    unknown_noted u w = owner_unknown classes rows pool class (owner class c f o) n t (is_raw ∙ u) w ∙ by_names
 
-    pub row-noted : {i : ℕ} → z ≡ Row i → {r : MemberNote} →
+    pub row_noted : {i : ℕ} → z ≡ Row i → {r : MemberNote} →
         r ≡ row_note classes rows pool (key (text_in pool (unpack_class (get_or classes i [])).raw) n t) (is_row g i) →
         r ≡ member_note classes rows pool class (key (owner class c f o) (name m) (name d))
-    row-noted {i} u w =
+    row_noted {i} u w =
         w ∙ ap (λ x. row_note classes rows pool (key (text_in pool (unpack_class (get_or classes i [])).raw) n t) (is_row x i)) e
         ∙ owner_noted classes rows pool class (owner class c f o) n t (is_raw ∙ u) ∙ by_names
 
-pub ruleset owner_noting = (found_last, unknown-noted, row-noted, rules)
+pub ruleset owner_noting = (found_last, unknown_noted, row_noted, rules)
 
 -- A node.
 module _ (c : TreeCounts) (f : List ℕ) (first count : ℕ) where
@@ -127,13 +127,13 @@ module _ (c : TreeCounts) (f : List ℕ) (first count : ℕ) where
   module _ {s : NodeSignature} (e : s ≡ signature_from first (node_signature names ts)) where
     -- the signature by places among the node's tokens
     pub record Placed (m d : ℕ) (o : Owner) : Type 0 where
-      pub at-member : ℕ
-      pub at-descriptor : ℕ
-      pub at-owner : Owner
-      pub is : node_signature names ts ≡ Present at-member at-descriptor at-owner
-      pub member_is : m ≡ first + at-member
-      pub descriptor-is : d ≡ first + at-descriptor
-      pub owner-is : o ≡ owner_from first at-owner
+      pub at_member : ℕ
+      pub at_descriptor : ℕ
+      pub at_owner : Owner
+      pub is : node_signature names ts ≡ Present at_member at_descriptor at_owner
+      pub member_is : m ≡ first + at_member
+      pub descriptor_is : d ≡ first + at_descriptor
+      pub owner_is : o ≡ owner_from first at_owner
 
     placed : {m d : ℕ} {o : Owner} → s ≡ Present m d o → Placed m d o
     placed {m} {d} {o} h = go (node_signature names ts) refl (sym e ∙ h)
@@ -142,13 +142,13 @@ module _ (c : TreeCounts) (f : List ℕ) (first count : ℕ) where
         go Absent p q = absurd (let z : ◌≡◌ {A = ℕ} 0 1 = cc in omega arith)
         go (Present a b w) p q =
             record {
-              at-member = a;
-              at-descriptor = b;
-              at-owner = w;
+              at_member = a;
+              at_descriptor = b;
+              at_owner = w;
               is = p;
               member_is = cc;
-              descriptor-is = cc;
-              owner-is = cc;
+              descriptor_is = cc;
+              owner_is = cc;
             }
 
     absent : s ≡ Absent → node_signature names ts ≡ Absent
@@ -159,72 +159,72 @@ module _ (c : TreeCounts) (f : List ℕ) (first count : ℕ) where
         go (Present a b w) p q = absurd (let z : ◌≡◌ {A = ℕ} 0 1 = cc in omega arith)
 
     module _ (classes rows : List (List ℕ)) (pool class : List ℕ) where
-      pub unsigned-note : s ≡ Absent → node_note 0 0 (note 0 true 0) ≡ note_signed classes rows pool class first (signed_of class names ts)
-      unsigned-note h = ap (λ x. note_signed classes rows pool class first (signed_by class names ts x)) (sym (absent h))
+      pub unsigned_note : s ≡ Absent → node_note 0 0 (note 0 true 0) ≡ note_signed classes rows pool class first (signed_of class names ts)
+      unsigned_note h = ap (λ x. note_signed classes rows pool class first (signed_by class names ts x)) (sym (absent h))
 
     module _ {m d : ℕ} {o : Owner} (h : s ≡ Present m d o) where
-      told : PresentAt ts (placed h).at-member (placed h).at-descriptor (placed h).at-owner
+      told : PresentAt ts (placed h).at_member (placed h).at_descriptor (placed h).at_owner
       told = present_told names ts (placed h).is
 
       size : length ts ≡ count
       size = list_length (token_at c f) first count
 
-      token-is : (i : ℕ) → i < length ts → get_or ts i (Other 0 0) ≡ token_at c f (first + i)
-      token-is i l = list_at (token_at c f) first count i (Other 0 0) (omega (arith, size))
+      token_is : (i : ℕ) → i < length ts → get_or ts i (Other 0 0) ≡ token_at c f (first + i)
+      token_is i l = list_at (token_at c f) first count i (Other 0 0) (omega (arith, size))
 
-      kinds : PresentNamed ts (placed h).at-member (placed h).at-descriptor (placed h).at-owner
+      kinds : PresentNamed ts (placed h).at_member (placed h).at_descriptor (placed h).at_owner
       kinds = present_named names ts (placed h).is
 
       module _ (l : first + count ≤ c.tokens) where
-        named-token : (i n : ℕ) → n ≡ first + i → i < length ts → is_named (get_or ts i (Other 0 0)) ≡ true → NamedToken c f n
-        named-token i n p q k = record {
+        named_token : (i n : ℕ) → n ≡ first + i → i < length ts → is_named (get_or ts i (Other 0 0)) ≡ true → NamedToken c f n
+        named_token i n p q k = record {
           inside = omega (arith, size);
-          named = rw p (ap is_named (sym (token-is i q)) ∙ k);
+          named = rw p (ap is_named (sym (token_is i q)) ∙ k);
         }
 
-        pub member-token : NamedToken c f m
-        member-token = named-token (placed h).at-member m (placed h).member_is told.member_inside kinds.member
+        pub member_token : NamedToken c f m
+        member_token = named_token (placed h).at_member m (placed h).member_is told.member_inside kinds.member
 
-        pub descriptor-token : NamedToken c f d
-        descriptor-token = named-token (placed h).at-descriptor d (placed h).descriptor-is told.descriptor_inside kinds.descriptor
+        pub descriptor_token : NamedToken c f d
+        descriptor_token = named_token (placed h).at_descriptor d (placed h).descriptor_is told.descriptor_inside kinds.descriptor
 
-        pub owner-token : OwnerNamed c f o
-        owner-token = go (placed h).at-owner (placed h).owner-is told.owner_inside kinds.owner
+        pub owner_token : OwnerNamed c f o
+        owner_token = go (placed h).at_owner (placed h).owner_is told.owner_inside kinds.owner
           where
             go : (x : Owner) → o ≡ owner_from first x → OwnerInside (length ts) x → OwnerHasName ts x → OwnerNamed c f o
             go Given p q k = rw p (omega arith)
-            go (At i) p q k = rw p (named-token i (first + i) refl q k)
+            go (At i) p q k = rw p (named_token i (first + i) refl q k)
 
-      name-is : (i : ℕ) → i < length ts → {n : ℕ} → n ≡ first + i → raw_name_at names ts i ≡ raw_name_of names (token_at c f n)
-      name-is i l p = ap (raw_name_of names) (token-is i l ∙ ap (token_at c f) (sym p))
+      name_is : (i : ℕ) → i < length ts → {n : ℕ} → n ≡ first + i → raw_name_at names ts i ≡ raw_name_of names (token_at c f n)
+      name_is i l p = ap (raw_name_of names) (token_is i l ∙ ap (token_at c f) (sym p))
 
-      owner-name : (class : List ℕ) → owner_name class names ts (placed h).at-owner ≡ token_owner class names (token_at c f) o
-      owner-name class = go (placed h).at-owner (placed h).owner-is told.owner_inside
+      owner_name_lem : (class : List ℕ) → owner_name class names ts (placed h).at_owner ≡ token_owner class names (token_at c f) o
+      owner_name_lem class = go (placed h).at_owner (placed h).owner_is told.owner_inside
         where
           go : (x : Owner) → o ≡ owner_from first x → OwnerInside (length ts) x → owner_name class names ts x ≡ token_owner class names (token_at c f) o
           go Given p q = sym (ap (token_owner class names (token_at c f)) p)
-          go (At i) p q = ap (raw_name_of names) (token-is i q) ∙ sym (ap (token_owner class names (token_at c f)) p)
+          go (At i) p q = ap (raw_name_of names) (token_is i q) ∙ sym (ap (token_owner class names (token_at c f)) p)
 
-      pub signed-note : (classes rows : List (List ℕ)) (pool class : List ℕ) {r : MemberNote} →
+      pub signed_note : (classes rows : List (List ℕ)) (pool class : List ℕ) {r : MemberNote} →
           r ≡ member_note classes rows pool class
           (key (token_owner class names (token_at c f) o) (raw_name_of names (token_at c f m)) (raw_name_of names (token_at c f d))) →
           record { member = m; named = r.named; inherits = r.inherits; lines = r.lines }
           ≡ note_signed classes rows pool class first (signed_of class names ts)
-      signed-note classes rows pool class {r} q =
-          let k : Key = key (owner_name class names ts (placed h).at-owner) (raw_name_at names ts (placed h).at-member)
-          (raw_name_at names ts (placed h).at-descriptor) in
+      signed_note classes rows pool class {r} q =
+          let k : Key = key (owner_name class names ts (placed h).at_owner) (raw_name_at names ts (placed h).at_member)
+          (raw_name_at names ts (placed h).at_descriptor) in
           let same : r ≡ member_note classes rows pool class k =
           q ∙ ap (λ x. member_note classes rows pool class (key x (raw_name_of names (token_at c f m)) (raw_name_of names (token_at c f d))))
-          (sym (owner-name class))
-          ∙ ap (λ x. member_note classes rows pool class (key (owner_name class names ts (placed h).at-owner) x (raw_name_of names (token_at c f d))))
-          (sym (name-is (placed h).at-member told.member_inside (placed h).member_is))
-          ∙ ap (λ x. member_note classes rows pool class (key (owner_name class names ts (placed h).at-owner) (raw_name_at names ts (placed h).at-member) x))
-          (sym (name-is (placed h).at-descriptor told.descriptor_inside (placed h).descriptor-is)) in
-          ap (λ x. numbersOf m x) same
-          ∙ ap (λ x. numbersOf x (member_note classes rows pool class k)) (placed h).member_is
+          (sym (owner_name_lem class))
+          ∙ ap (λ x. member_note classes rows pool class (key (owner_name class names ts (placed h).at_owner) x (raw_name_of names (token_at c f d))))
+          (sym (name_is (placed h).at_member told.member_inside (placed h).member_is))
+          ∙ ap (λ x. member_note classes rows pool class (key (owner_name class names ts (placed h).at_owner) (raw_name_at names ts (placed h).at_member) x))
+          (sym (name_is (placed h).at_descriptor told.descriptor_inside (placed h).descriptor_is)) in
+          ap (λ x. numbers_of m x) same
+          ∙ ap (λ x. numbers_of x (member_note classes rows pool class k)) (placed h).member_is
           ∙ ap (λ x. note_signed classes rows pool class first (signed_by class names ts x)) (sym (placed h).is)
         where
-          numbersOf : ℕ → MemberNote → NodeNote
-          numbersOf n x = record { member = n; named = x.named; inherits = x.inherits; lines = x.lines }
+          numbers_of : ℕ → MemberNote → NodeNote
+          numbers_of n x = record { member = n; named = x.named; inherits = x.inherits; lines = x.lines }
 
-pub ruleset node_noting = (unsigned-note, member-token, descriptor-token, owner-token, signed-note, rules)
+pub ruleset node_noting = (unsigned_note, member_token, descriptor_token, owner_token, signed_note, rules)

@@ -105,18 +105,18 @@ module _
     first_same : word_at new (entry_at c name) ≡ word_at old (entry_at c name)
     first_same = k.first_left name (omega arith) h
 
-    second-same : word_at new (entry_at c name + 4) ≡ word_at old (entry_at c name + 4)
-    second-same = k.second_left name (omega arith) h
+    second_same : word_at new (entry_at c name + 4) ≡ word_at old (entry_at c name + 4)
+    second_same = k.second_left name (omega arith) h
 
-    pub naming-ready : {s : ℕ} → s ≡ bytes_start c → NameReady index classes pool c f (s + 8 * count) name «end» new
-    naming-ready e = rw e (record {
+    pub naming_ready : {s : ℕ} → s ≡ bytes_start c → NameReady index classes pool c f (s + 8 * count) name «end» new
+    naming_ready e = rw e (record {
       body = record {
         file = omega (arith, k.ready.ready.formed.size);
         indexed = k.ready.ready.indexed;
         notes = λ n l. note_kept c old new k.done.before classes pool (text_at c f n) n l (k.ready.ready.notes n l);
         plan = record {
           room = omega (arith, k.done.size, k.ready.rows_room);
-          fits = rw (first_same, second-same) (entry_kept c old new k.done.before (word_at old (entry_at c name))
+          fits = rw (first_same, second_same) (entry_kept c old new k.done.before (word_at old (entry_at c name))
               (word_at old (entry_at c name + 4)) (k.ready.ready.plans.fits name h));
         };
       };
@@ -128,13 +128,13 @@ module _
 
     same_text : planned_text classes pool c f new name ≡ body
     unfolding planned_text
-    same_text = rw (first_same, second-same)
+    same_text = rw (first_same, second_same)
 
     module _
         {s : ℕ} (e : s ≡ bytes_start c) (r : Wrote) (out : List ℕ)
         (w : NameBy r classes pool c f (s + 8 * count) name «end» new out) where
-      pub naming-over : r ≡ NoRoom → OutputOver classes pool c f count old
-      naming-over g =
+      pub naming_over : r ≡ NoRoom → OutputOver classes pool c f count old
+      naming_over g =
           let none : NameOver classes pool c f name «end» new = rw g at w in
           let full : length new < «end» + length body = rw same_text at none.full in
           let left = texts_left classes pool c f old name count h in
@@ -150,16 +150,16 @@ module _
         row_is : length row ≡ 8
         row_is = name_length (text (c.bytes + length (join below)) (length body))
 
-        before-texts : entry_at c name + length row ≤ «end»
-        before-texts = omega (arith, row_is, k.done.past)
+        before_texts : entry_at c name + length row ≤ «end»
+        before_texts = omega (arith, row_is, k.done.past)
 
-        in-room : «end» + length body ≤ length new
-        in-room = rw same_text at turn.room
+        in_room : «end» + length body ≤ length new
+        in_room = rw same_text at turn.room
 
         reaches : past ≡ «end» + length body
         reaches = rw same_text at turn.behind
 
-        both : out ≡ two new «end» body (entry_at c name) row before-texts in-room
+        both : out ≡ two new «end» body (entry_at c name) row before_texts in_room
         both =
             let place : «end» - (bytes_start c + 8 * count) ≡ c.bytes + length (join below) = omega (arith, k.done.past) in
             rw (same_text, place) at turn.is
@@ -169,16 +169,16 @@ module _
         more_rows =
             let z : bytes_start c + 8 * (name + 1) ≡ entry_at c name + length row = omega (arith, row_is) in
             ap (λ l. between l (bytes_start c) (bytes_start c + 8 * (name + 1))) both
-            ∙ ap (between (two new «end» body (entry_at c name) row before-texts in-room) (bytes_start c)) z
-            ∙ two_front new «end» body (entry_at c name) row before-texts in-room (bytes_start c) (omega arith)
+            ∙ ap (between (two new «end» body (entry_at c name) row before_texts in_room) (bytes_start c)) z
+            ∙ two_front new «end» body (entry_at c name) row before_texts in_room (bytes_start c) (omega arith)
             ∙ ap (λ l. l ++ row) k.done.rows
             ∙ sym (rows_more classes pool c f old name)
 
-        more-texts : between out (texts_start c count) past ≡ join (planned_names classes pool c f old (name + 1))
-        more-texts =
+        more_texts : between out (texts_start c count) past ≡ join (planned_names classes pool c f old (name + 1))
+        more_texts =
             ap (λ l. between l (texts_start c count) past) both
-            ∙ ap (between (two new «end» body (entry_at c name) row before-texts in-room) (texts_start c count)) reaches
-            ∙ two_back new «end» body (entry_at c name) row before-texts in-room (texts_start c count) (omega (arith, row_is))
+            ∙ ap (between (two new «end» body (entry_at c name) row before_texts in_room) (texts_start c count)) reaches
+            ∙ two_back new «end» body (entry_at c name) row before_texts in_room (texts_start c count) (omega (arith, row_is))
             (omega (arith, k.done.past))
             ∙ ap (λ l. l ++ body) k.done.texts
             ∙ sym (texts_more classes pool c f old name)
@@ -186,8 +186,8 @@ module _
         rest : drop past out ≡ drop past old
         rest =
             ap (drop past) both
-            ∙ ap (λ n. drop n (two new «end» body (entry_at c name) row before-texts in-room)) reaches
-            ∙ two_behind new «end» body (entry_at c name) row before-texts in-room
+            ∙ ap (λ n. drop n (two new «end» body (entry_at c name) row before_texts in_room)) reaches
+            ∙ two_behind new «end» body (entry_at c name) row before_texts in_room
             ∙ sym (drop-drop (length body) «end» new)
             ∙ ap (drop (length body)) k.done.behind
             ∙ drop-drop (length body) «end» old
@@ -197,25 +197,25 @@ module _
         kept : (p : ℕ) → entry_at c (name + 1) ≤ p → p + 4 ≤ bytes_start c + 8 * count → word_at out p ≡ word_at new p
         kept p l u =
             ap (λ d. word_at d p) both
-            ∙ two_word new «end» body (entry_at c name) row before-texts in-room p (omega (arith, row_is))
+            ∙ two_word new «end» body (entry_at c name) row before_texts in_room p (omega (arith, row_is))
             (omega (arith, k.done.past))
 
-        pub naming-more : Naming index classes pool c f count old out (name + 1) past
-        naming-more = record {
+        pub naming_more : Naming index classes pool c f count old out (name + 1) past
+        naming_more = record {
           ready = k.ready;
           inside = omega arith;
           done = record {
             size =
-                ap length both ∙ two_size new «end» body (entry_at c name) row before-texts in-room ∙ k.done.size;
+                ap length both ∙ two_size new «end» body (entry_at c name) row before_texts in_room ∙ k.done.size;
             past =
                 let l = ap length (texts_more classes pool c f old name) ∙ length-append (join below) body in
                 omega (arith, reaches, k.done.past);
-            room = omega (arith, reaches, in-room, k.done.size);
+            room = omega (arith, reaches, in_room, k.done.size);
             rows = more_rows;
-            texts = more-texts;
+            texts = more_texts;
             before =
                 ap (take (bytes_start c)) both
-                ∙ two_before new «end» body (entry_at c name) row before-texts in-room (bytes_start c) (omega arith)
+                ∙ two_before new «end» body (entry_at c name) row before_texts in_room (bytes_start c) (omega arith)
                 ∙ k.done.before;
             behind = rest;
           };
@@ -229,8 +229,8 @@ pub ruleset naming = (
   texts_place_fits,
   naming_starts,
   naming_ends,
-  naming-ready,
-  naming-over,
-  naming-more,
+  naming_ready,
+  naming_over,
+  naming_more,
   rules,
 )

@@ -67,32 +67,32 @@ module _
   many = list_length (planned_text classes pool c f out) 0 count
 
   module _ {s : ℕ} (g : s ≡ file_length c) where
-    pub texts-fit : Fits w64 (s + 8 * count)
-    texts-fit = omega (arith, k.rows, k.room, k.most)
+    pub texts_fit : Fits w64 (s + 8 * count)
+    texts_fit = omega (arith, k.rows, k.room, k.most)
 
-    pub output-over : length out < s + 8 * count → OutputOver classes pool c f count out
-    output-over h = record { over = omega (arith, output_length k) }
+    pub output_over : length out < s + 8 * count → OutputOver classes pool c f count out
+    output_over h = record { over = omega (arith, output_length k) }
 
     module _ (h : s + 8 * count ≤ length out) where
-      pub output-ready : NamesReady index classes pool c f count out
-      output-ready = record { ready = k; rows_room = omega arith }
+      pub output_ready : NamesReady index classes pool c f count out
+      output_ready = record { ready = k; rows_room = omega arith }
 
       module _ (r : Wrote) (out₁ : List ℕ) (w : NamesBy r classes pool c f count out out₁) where
-        pub output-none : r ≡ NoRoom → OutputOver classes pool c f count out
-        output-none i = rw i at w
+        pub output_none : r ≡ NoRoom → OutputOver classes pool c f count out
+        output_none i = rw i at w
 
         module _ {«end» : ℕ} (i : r ≡ Done «end») where
           put_there : NamesBelow count classes pool c f count «end» out out₁
           put_there = rw i at w
 
-          pub output-order : s + 8 * count ≤ «end»
-          output-order = omega (arith, put_there.past)
+          pub output_order : s + 8 * count ≤ «end»
+          output_order = omega (arith, put_there.past)
 
           size : «end» - (s + 8 * count) ≡ length (join new)
           size = omega (arith, put_there.past)
 
-          pub output-finish : FinishReady c f count («end» - (s + 8 * count)) out₁
-          output-finish = record {
+          pub output_finish : FinishReady c f count («end» - (s + 8 * count)) out₁
+          output_finish = record {
             file = k.formed.size;
             room = omega (arith, put_there.past, put_there.room, put_there.size);
             most = omega (arith, put_there.size, k.most);
@@ -106,7 +106,7 @@ module _
 
           whole : finished c f count («end» - (s + 8 * count)) out₁ ≡ output_from classes pool c f count out ++ drop «end» out
           whole =
-              stretches c f count («end» - (s + 8 * count)) out₁ output-finish
+              stretches c f count («end» - (s + 8 * count)) out₁ output_finish
               ∙ rw (tokens, put_there.rows, texts, size)
               (ap (λ n. count_bytes (tree_counts c.nodes c.tokens (c.names + n) (c.bytes + length (join new))) ++ rest) (sym many)
               ∙ seven (count_bytes (laid_counts c new)) (between f nodes_start (tokens_start c)) (between out (tokens_start c) (names_start c))
@@ -120,18 +120,18 @@ module _
                   (between f (names_start c) (bytes_start c) ++
                   (join (map name_row_bytes (name_rows c.bytes new)) ++ (bytes_in c f ++ (join new ++ drop «end» out)))))
 
-          pub output-done : {out₂ : List ℕ} → out₂ ≡ finished c f count («end» - (s + 8 * count)) out₁ →
+          pub output_done : {out₂ : List ℕ} → out₂ ≡ finished c f count («end» - (s + 8 * count)) out₁ →
               OutputIs «end» classes pool c f count out out₂
-          output-done j = record { past = omega (arith, put_there.past, output_length k); room = put_there.room; is = j ∙ whole }
+          output_done j = record { past = omega (arith, put_there.past, output_length k); room = put_there.room; is = j ∙ whole }
 
 pub ruleset outputs = (
   rows_fit,
-  texts-fit,
-  output-over,
-  output-ready,
-  output-none,
-  output-order,
-  output-finish,
-  output-done,
+  texts_fit,
+  output_over,
+  output_ready,
+  output_none,
+  output_order,
+  output_finish,
+  output_done,
   rules,
 )

@@ -35,8 +35,8 @@ module _ {c : TreeCounts} {out : List ℕ} {k : ℕ} (r : PlanReady c out k) {s 
     unfolding plan_at
     same = rw (g, h, e)
 
-    pub plan-in-pool : (first ≡ 0 → ⊥) → InPool (first - 1) second ≡ plan_at c out k
-    plan-in-pool n =
+    pub plan_in_pool : (first ≡ 0 → ⊥) → InPool (first - 1) second ≡ plan_at c out k
+    plan_in_pool n =
         let z : suc (first - 1) ≡ first = omega arith in
         ap (λ a. plan_by c out a second) z ∙ same
 
@@ -46,23 +46,23 @@ module _ {c : TreeCounts} {out : List ℕ} {k : ℕ} (r : PlanReady c out k) {s 
           let fits : EntryFits c out first second = rw (g, h, e) r.fits in
           rw n at fits
 
-      pub note-first-inside : t + 8 * second + 4 ≤ length out
-      note-first-inside = let l = meant.0 in omega (arith, r.room)
+      pub note_first_inside : t + 8 * second + 4 ≤ length out
+      note_first_inside = let l = meant.0 in omega (arith, r.room)
 
-      pub note-second-inside : t + 8 * second + 4 + 4 ≤ length out
-      note-second-inside = let l = meant.0 in omega (arith, r.room)
+      pub note_second_inside : t + 8 * second + 4 + 4 ≤ length out
+      note_second_inside = let l = meant.0 in omega (arith, r.room)
 
       module _ {start : ℕ} (j : start ≡ word_at out (t + 8 * second)) where
-        pub note-some : 1 ≤ start
-        note-some = rw (j, i) meant.1
+        pub note_some : 1 ≤ start
+        note_some = rw (j, i) meant.1
 
-        pub plan-shown : {row : ℕ} → row ≡ word_at out (t + 8 * second + 4) → Shown second (start - 1) row ≡ plan_at c out k
-        plan-shown {row} l =
+        pub plan_shown : {row : ℕ} → row ≡ word_at out (t + 8 * second + 4) → Shown second (start - 1) row ≡ plan_at c out k
+        plan_shown {row} l =
             let z : plan_by c out 0 second ≡ plan_by c out first second = rw n in
             let y : Shown second (start - 1) row ≡ plan_by c out 0 second = rw (j, l, i) in
             y ∙ z ∙ same
 
-pub ruleset plans = (plan_inside, plan-in-pool, note-first-inside, note-second-inside, note-some, plan-shown, rules)
+pub ruleset plans = (plan_inside, plan_in_pool, note_first_inside, note_second_inside, note_some, plan_shown, rules)
 
 -- The text of a name.
 note_known : (classes : List (List ℕ)) (pool s : List ℕ) (number row : ℕ) → NoteSays number row classes pool s → 0 < number →
@@ -110,14 +110,14 @@ module _
     shown_inside = here.0
 
     module _ {s : List ℕ} (h : s ≡ text_at c f name) where
-      pub shown-known : KnownAt classes pool s 0 start row
-      shown-known = rw h here.1
+      pub shown_known : KnownAt classes pool s 0 start row
+      shown_known = rw h here.1
 
-      pub body-shown : (a : Wrote) (at : ℕ) (d : List ℕ) → WroteBy a out at (all_shown classes pool s) d →
+      pub body_shown : (a : Wrote) (at : ℕ) (d : List ℕ) → WroteBy a out at (all_shown classes pool s) d →
           WroteBy a out at (planned_text classes pool c f out k) d
-      body-shown a at d w = wrote_as a out at d (ap (all_shown classes pool) h ∙ here.2) w
+      body_shown a at d w = wrote_as a out at d (ap (all_shown classes pool) h ∙ here.2) w
 
-pub ruleset bodies = (body_in_pool, shown_inside, shown-known, body-shown, rules)
+pub ruleset bodies = (body_in_pool, shown_inside, shown_known, body_shown, rules)
 
 -- The text and the row.
 module _
@@ -131,23 +131,23 @@ module _
     wrote : Written past out «end» (planned_text classes pool c f out k) out₁
     wrote = wrote_told r out «end» (planned_text classes pool c f out k) out₁ w e
 
-    pub new-order : «end» ≤ past
-    new-order = omega (arith, wrote.past)
+    pub new_order : «end» ≤ past
+    new_order = omega (arith, wrote.past)
 
-    pub new-place-narrow : Fits w32 («end» - bytes)
-    new-place-narrow = omega (arith, n.room, n.most)
+    pub new_place_narrow : Fits w32 («end» - bytes)
+    new_place_narrow = omega (arith, n.room, n.most)
 
-    pub new-size-narrow : Fits w32 (past - «end»)
-    new-size-narrow = omega (arith, wrote.room, wrote.past, n.most)
+    pub new_size_narrow : Fits w32 (past - «end»)
+    new_size_narrow = omega (arith, wrote.room, wrote.past, n.most)
 
     module _ {s : ℕ} (g : s ≡ bytes_start c) where
-      pub new-row-room : s + 8 * k + 8 ≤ length out₁
-      new-row-room = omega (arith, written_length wrote, n.row, n.before, n.room)
+      pub new_row_room : s + 8 * k + 8 ≤ length out₁
+      new_row_room = omega (arith, written_length wrote, n.row, n.before, n.room)
 
-      pub new-done : {out₂ : List ℕ} → out₂ ≡ put out₁ (s + 8 * k) (name_row_bytes (text («end» - bytes) (past - «end»))) →
+      pub new_done : {out₂ : List ℕ} → out₂ ≡ put out₁ (s + 8 * k) (name_row_bytes (text («end» - bytes) (past - «end»))) →
           NamePut past classes pool c f bytes k «end» out out₂
-      new-done i =
+      new_done i =
           let size : past - «end» ≡ length (planned_text classes pool c f out k) = omega (arith, wrote.past) in
           record { behind = wrote.past; room = wrote.room; is = i ∙ rw (g, size, wrote.is) }
 
-pub ruleset news = (new_none, new-order, new-place-narrow, new-size-narrow, new-row-room, new-done, rules)
+pub ruleset news = (new_none, new_order, new_place_narrow, new_size_narrow, new_row_room, new_done, rules)

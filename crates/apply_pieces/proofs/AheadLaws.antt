@@ -27,8 +27,8 @@ use Rattle.apply_pieces.specs.declared.ahead.Ahead.{Ahead}
 use Rattle.apply_pieces.specs.Inner.Within.{FirstAt, ClosedAt, OpenAt, OpenFrom, WithinBy}
 use Rattle.apply_pieces.specs.Inner.Sought.{Seekable, FirstKnown, SoughtSays, Sought, note_at}
 use Rattle.apply_pieces.specs.Inner.Ahead.{AheadBy}
-use Rattle.apply_pieces.proofs.Cuts.{told_none, told-within, told-first}
-use Rattle.apply_pieces.proofs.Seeks.{Passed, passed_says, passed_plain, open_never, passed-piece, first_piece}
+use Rattle.apply_pieces.proofs.Cuts.{told_none, told_within, told_first}
+use Rattle.apply_pieces.proofs.Seeks.{Passed, passed_says, passed_plain, open_never, passed_piece, first_piece}
 
 -- two stretches without a byte, one after the other
 without_join : {b : ℕ} {text : List ℕ} {a m i : ℕ} → Without b text a m → Without b text m i → Without b text a i
@@ -75,7 +75,7 @@ module _
   looked_up u = first_piece classes pool text start l («end» - 1) f (same ∙ u)
 
   looked_past : r ≡ Unknown → Passed classes pool text start «end»
-  looked_past u = rw whole at (passed-piece classes pool text start l («end» - 1) f (same ∙ u))
+  looked_past u = rw whole at (passed_piece classes pool text start l («end» - 1) f (same ∙ u))
 
 -- From an `L` with no `;` before the place that `ahead` tells of.
 module _
@@ -110,8 +110,8 @@ module _
     pub open_order : start ≤ ahead.past
     open_order = let s = some in omega arith
 
-    pub open-inside : ahead.past ≤ length text
-    open-inside =
+    pub open_inside : ahead.past ≤ length text
+    open_inside =
         let f = closes.inside in
         let t = there in
         omega arith
@@ -121,14 +121,14 @@ module _
         here : FirstKnown classes pool text start start row
         here = looked_up k o.there some closes w u
 
-        pub open-start-small : start < most_tree
-        open-start-small = start_small k here
+        pub open_start_small : start < most_tree
+        open_start_small = start_small k here
 
-        pub open-row-small : row < most_classes
-        open-row-small = row_small k here
+        pub open_row_small : row < most_classes
+        open_row_small = row_small k here
 
-        pub open-found : {note : Note} → note ≡ note_at start row → Sought note classes pool text start
-        open-found e = first_sought_lem k here e
+        pub open_found : {note : Note} → note ≡ note_at start row → Sought note classes pool text start
+        open_found e = first_sought_lem k here e
 
       pub open_after : r ≡ Unknown → Sought ahead.after classes pool text start
       open_after u = record {
@@ -140,10 +140,10 @@ module _
 pub ruleset from_open = (
   open_nothing,
   open_order,
-  open-inside,
-  open-start-small,
-  open-row-small,
-  open-found,
+  open_inside,
+  open_start_small,
+  open_row_small,
+  open_found,
   open_after,
   rules,
 )
@@ -175,24 +175,24 @@ module _
     opens : OpenFrom text at start stop
     opens = rw f at e
 
-    pub sought-open : OpenAt text start stop
-    sought-open = opens.unclosed
+    pub sought_open : OpenAt text start stop
+    sought_open = opens.unclosed
 
-    pub sought-opened : {note : Note} → Sought note classes pool text start → Sought note classes pool text «from»
-    sought-opened s = carried (passed_plain classes pool text at start opens.plain.before) s
+    pub sought_opened : {note : Note} → Sought note classes pool text start → Sought note classes pool text «from»
+    sought_opened s = carried (passed_plain classes pool text at start opens.plain.before) s
 
   module _ {start «end» : ℕ} (f : n ≡ Closed start «end») where
     closed : ClosedAt text at stop start «end»
     closed = rw f at e
 
-    pub sought-order : start ≤ «end»
-    sought-order = let s = closed.some in omega arith
+    pub sought_order : start ≤ «end»
+    sought_order = let s = closed.some in omega arith
 
-    pub sought-inside : {ahead : Ahead} → AheadBy ahead classes pool text stop → «end» ≤ length text
-    sought-inside g = omega (arith, closed.inside, g.inside)
+    pub sought_inside : {ahead : Ahead} → AheadBy ahead classes pool text stop → «end» ≤ length text
+    sought_inside g = omega (arith, closed.inside, g.inside)
 
-    pub sought-less : stop - «end» < stop - at
-    sought-less = omega (arith, closed.inside, closed.some, closed.plain.before.goes)
+    pub sought_less : stop - «end» < stop - at
+    sought_less = omega (arith, closed.inside, closed.some, closed.plain.before.goes)
 
     module _
         {index : List ℕ} {longest : ℕ} (k : Seekable index classes pool longest text) {r : Found}
@@ -204,17 +204,17 @@ module _
         found : FirstKnown classes pool text start start row
         found = looked_up k closed.plain.there closed.some closed.closes w u
 
-        pub sought-start-small : start < most_tree
-        sought-start-small = start_small k found
+        pub sought_start_small : start < most_tree
+        sought_start_small = start_small k found
 
-        pub sought-row-small : row < most_classes
-        sought-row-small = row_small k found
+        pub sought_row_small : row < most_classes
+        sought_row_small = row_small k found
 
-        pub sought-found : {note : Note} → note ≡ note_at start row → Sought note classes pool text «from»
-        sought-found q = carried plain (first_sought_lem k found q)
+        pub sought_found : {note : Note} → note ≡ note_at start row → Sought note classes pool text «from»
+        sought_found q = carried plain (first_sought_lem k found q)
 
-      pub sought-on : r ≡ Unknown → SoughtTo classes pool text «from» «end» stop
-      sought-on u = record {
+      pub sought_on : r ≡ Unknown → SoughtTo classes pool text «from» «end» stop
+      sought_on u = record {
         before = closed.inside;
         passes = λ s row y.
             t.passes s row
@@ -225,15 +225,15 @@ module _
 pub ruleset sought_by_lem = (
   sought_starts,
   sought_none,
-  sought-open,
-  sought-opened,
-  sought-order,
-  sought-inside,
-  sought-less,
-  sought-start-small,
-  sought-row-small,
-  sought-found,
-  sought-on,
+  sought_open,
+  sought_opened,
+  sought_order,
+  sought_inside,
+  sought_less,
+  sought_start_small,
+  sought_row_small,
+  sought_found,
+  sought_on,
   rules,
 )
 
@@ -262,23 +262,23 @@ module _
 
   module _ {n : ℕ} (f : p ≡ places.At n) where
     near : «from» + n < stop
-    near = told-within 0x3B text «from» stop i g.inside e f
+    near = told_within 0x3B text «from» stop i g.inside e f
 
-    pub ahead-fits : Fits w64 («from» + n)
-    ahead-fits = let a = near in omega (arith, g.inside, k.short)
+    pub ahead_fits : Fits w64 («from» + n)
+    ahead_fits = let a = near in omega (arith, g.inside, k.short)
 
-    pub ahead-past-fits : Fits w64 («from» + n + 1)
-    ahead-past-fits = let a = near in omega (arith, g.inside, k.short)
+    pub ahead_past_fits : Fits w64 («from» + n + 1)
+    ahead_past_fits = let a = near in omega (arith, g.inside, k.short)
 
-    pub ahead-order : «from» + n + 1 ≤ stop
-    ahead-order = let a = near in omega arith
+    pub ahead_order : «from» + n + 1 ≤ stop
+    ahead_order = let a = near in omega arith
 
-    pub ahead-narrow : Fits w32 («from» + n + 1)
-    ahead-narrow = let a = near in omega (arith, g.inside, k.short)
+    pub ahead_narrow : Fits w32 («from» + n + 1)
+    ahead_narrow = let a = near in omega (arith, g.inside, k.short)
 
-    pub ahead-new : {after : Note} → Sought after classes pool text («from» + n + 1) →
+    pub ahead_new : {after : Note} → Sought after classes pool text («from» + n + 1) →
         AheadBy (record { known = known; past = «from» + n + 1; after = after }) classes pool text «from»
-    ahead-new v =
+    ahead_new v =
         let a = near in
         let z : «from» + n + 1 - 1 ≡ «from» + n = omega arith in
         record {
@@ -286,10 +286,10 @@ module _
           known = s;
           past_small = omega (arith, g.inside, k.short);
           none = λ q. absurd (omega arith);
-          some = λ q. rw z (told-first 0x3B text «from» stop i g.inside e f);
+          some = λ q. rw z (told_first 0x3B text «from» stop i g.inside e f);
           after = λ q. v.says;
           start_small = v.start_small;
           row_small = v.row_small;
         }
 
-pub ruleset ahead_by = (ahead_same, ahead-fits, ahead-past-fits, ahead-order, ahead-narrow, ahead-new, rules)
+pub ruleset ahead_by = (ahead_same, ahead_fits, ahead_past_fits, ahead_order, ahead_narrow, ahead_new, rules)

@@ -14,7 +14,7 @@ use Rattle.text_places.specs.declared.find.Place.{Place}
 use Rattle.text_places.specs.declared.find.Place.TheVariants.{At, Nowhere}
 use Rattle.text_places.specs.Places.{first_from, first_where, starts}
 use Rattle.text_places.specs.Inner.Blocks.{Without}
-use Rattle.text_places.proofs.PlaceLaws.{first_inside, seeking_ends, seeking-found, byte_here}
+use Rattle.text_places.proofs.PlaceLaws.{first_inside, seeking_ends, seeking_found, byte_here}
 use Rattle.text_places.proofs.BlockLaws.{seek_blocks}
 use Rattle.text_places.proofs.Holds.{first_is}
 use Rattle.apply_pieces.specs.Inner.Within.{FirstAt}
@@ -61,12 +61,12 @@ module _
   }
 
   module _ {n : ℕ} (f : p ≡ At n) where
-    pub told-within : a + n < stop
-    told-within = let h = first_inside (starts b) (between s a stop) (sym e ∙ f) in omega (arith, part_size)
+    pub told_within : a + n < stop
+    told_within = let h = first_inside (starts b) (between s a stop) (sym e ∙ f) in omega (arith, part_size)
 
-    pub told-first : FirstAt b s a (a + n)
-    told-first =
-        let h = told-within in
+    pub told_first : FirstAt b s a (a + n)
+    told_first =
+        let h = told_within in
         let z : a + n - a ≡ n = omega arith in
         record {
           before = record {
@@ -97,7 +97,7 @@ module _ {b : ℕ} {s : List ℕ} {a : ℕ} where
   found_first {i} f =
       let inside : i - a < length (drop a s) = omega (arith, f.inside, f.before.goes, length-drop a s) in
       let z : a + (i - a) ≡ i = omega (arith, f.before.goes) in
-      sym (seeking-found (seek_blocks (from_there f.before)) inside
+      sym (seeking_found (seek_blocks (from_there f.before)) inside
       (byte_here b (drop a s) (i - a) inside (get_or-drop a s (i - a) 0 ∙ ap (λ k. get_or s k 0) z ∙ f.there)))
 
 -- Where a text is cut.

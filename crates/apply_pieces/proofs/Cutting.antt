@@ -64,14 +64,14 @@ module _
   cut_order = whole.after
 
   module _ {m : ℕ} (e : m ≡ length (raw_of classes pool note.row)) (short : length text ≤ most_tree) where
-    pub cut-end-fits : Fits w64 (note.start - 1 + m)
-    cut-end-fits = omega (arith, first.ends, e)
+    pub cut_end_fits : Fits w64 (note.start - 1 + m)
+    cut_end_fits = omega (arith, first.ends, e)
 
-    pub cut-place-fits : Fits w64 (note.start - 1 - «from» + 1)
-    cut-place-fits = omega (arith, first.ends, e)
+    pub cut_place_fits : Fits w64 (note.start - 1 - «from» + 1)
+    cut_place_fits = omega (arith, first.ends, e)
 
-    pub cut-narrow : Fits w32 (note.start - 1 - «from» + 1)
-    cut-narrow = omega (arith, first.ends, e)
+    pub cut_narrow : Fits w32 (note.start - 1 - «from» + 1)
+    cut_narrow = omega (arith, first.ends, e)
 
 -- The part of so many bytes.
 module _
@@ -103,9 +103,9 @@ module _
     pub cut_short : «from» + size < start + m → NoteBy (record { start = 0; row = 0 }) classes pool part
     cut_short h = nothing ((first s n).short («from» + size) (omega arith) (omega (arith, e)))
 
-    pub cut-found : length text ≤ most_tree → start + m ≤ «from» + size →
+    pub cut_found : length text ≤ most_tree → start + m ≤ «from» + size →
         NoteBy (record { start = start - «from» + 1; row = note.row }) classes pool part
-    cut-found short h =
+    cut_found short h =
         let long = length-take-le («from» + size) text i in
         let there : KnownAt classes pool (take («from» + size) text) «from» start note.row =
         (first s n).long («from» + size) (omega (arith, e)) i in
@@ -122,11 +122,11 @@ pub ruleset cutting = (
   cut_some,
   cut_row,
   cut_short,
-  cut-end-fits,
+  cut_end_fits,
   cut_size_fits,
   cut_order,
-  cut-place-fits,
-  cut-narrow,
-  cut-found,
+  cut_place_fits,
+  cut_narrow,
+  cut_found,
   rules,
 )

@@ -25,7 +25,7 @@ use Rattle.tables.specs.declared.search.Found.TheVariants.{Row, Unknown}
 use Rattle.tables.specs.declared.search.Side.TheVariants.{Raw}
 use Rattle.tables.specs.Back.{pair_of, read_back}
 use Rattle.tables.specs.Search.{has_name, last_raw}
-use Rattle.tables.proofs.Searching.{answer-row, raw_unknown}
+use Rattle.tables.proofs.Searching.{answer_row, raw_unknown}
 use Rattle.descriptor.specs.Pieces.{parts_from, turn}
 use Rattle.descriptor.proofs.Turning.{piece_step, plain_step}
 use Rattle.apply_rule.specs.Changes.{piece_known}
@@ -56,9 +56,9 @@ module _ (look : List ℕ → Look) (text : List ℕ) (start : ℕ) (h : start <
         either (is_known (look (take (gap + 1) (drop start text)))) (piece_known look (parts_from [] (drop (gap + 1) (drop start text))))
     closed_known = rw begins (known_at_piece look (get_or text start 0) (drop (suc start) text) is_l (rw begins at e))
 
-    pub closed-turns : turn look (drop start text) ≡
+    pub closed_turns : turn look (drop start text) ≡
         look_or (take (gap + 1) (drop start text)) (look (take (gap + 1) (drop start text))) ++ turn look (drop (gap + 1) (drop start text))
-    closed-turns = rw begins (piece_step look (get_or text start 0) (drop (suc start) text) is_l (rw begins at e))
+    closed_turns = rw begins (piece_step look (get_or text start 0) (drop (suc start) text) is_l (rw begins at e))
 
 -- From an `L` to its `;`.
 module _
@@ -68,36 +68,36 @@ module _
   piece_no_l f look = unknown_without_l look (drop «from» text) (sym (from_here 0x4C text «from» e) ∙ f)
 
   module _ {n : ℕ} (f : p ≡ places.At n) where
-    at-l : «from» + n < length text
-    at-l = from_inside 0x4C text «from» i e f
+    at_l : «from» + n < length text
+    at_l = from_inside 0x4C text «from» i e f
 
-    pub l-fits : length text < 2 ^ 64 → Fits w64 («from» + n)
-    l-fits z = let a = at-l in omega arith
+    pub l_fits : length text < 2 ^ 64 → Fits w64 («from» + n)
+    l_fits z = let a = at_l in omega arith
 
-    pub l-inside : «from» + n ≤ length text
-    l-inside = let a = at-l in omega arith
+    pub l_inside : «from» + n ≤ length text
+    l_inside = let a = at_l in omega arith
 
-    first-l : first_where (starts 0x4C) (drop «from» text) ≡ places.At n
-    first-l = sym (from_here 0x4C text «from» e) ∙ f
+    first_l : first_where (starts 0x4C) (drop «from» text) ≡ places.At n
+    first_l = sym (from_here 0x4C text «from» e) ∙ f
 
-    is-there : starts 0x4C (drop («from» + n) text) ≡ true
-    is-there = byte_there 0x4C text «from» e f
+    is_there : starts 0x4C (drop («from» + n) text) ≡ true
+    is_there = byte_there 0x4C text «from» e f
 
     plain : (look : List ℕ → Look) →
         turn look (drop «from» text) ≡ between text «from» («from» + n) ++ turn look (drop («from» + n) text)
     plain look =
         let z : «from» + n - «from» ≡ n = omega arith in
-        plain_step look (drop «from» text) first-l ∙ rw (z, drop-drop n «from» text)
+        plain_step look (drop «from» text) first_l ∙ rw (z, drop-drop n «from» text)
 
     module _ {q : Place} (g : q ≡ first_where (starts 0x3B) (between text («from» + n) (length text))) where
-      pub piece-unclosed : q ≡ places.Nowhere → (look : List ℕ → Look) → piece_known look (parts_from [] (drop «from» text)) ≡ false
-      piece-unclosed h look =
-          known_past_plain look (drop «from» text) first-l ∙ ap (λ l. piece_known look (parts_from [] l)) (drop-drop n «from» text)
-          ∙ unclosed look text («from» + n) at-l is-there (sym (from_here 0x3B text («from» + n) g) ∙ h)
+      pub piece_unclosed : q ≡ places.Nowhere → (look : List ℕ → Look) → piece_known look (parts_from [] (drop «from» text)) ≡ false
+      piece_unclosed h look =
+          known_past_plain look (drop «from» text) first_l ∙ ap (λ l. piece_known look (parts_from [] l)) (drop-drop n «from» text)
+          ∙ unclosed look text («from» + n) at_l is_there (sym (from_here 0x3B text («from» + n) g) ∙ h)
 
       module _ {m : ℕ} (h : q ≡ places.At m) where
         at_end : «from» + n + m < length text
-        at_end = from_inside 0x3B text («from» + n) l-inside g h
+        at_end = from_inside 0x3B text («from» + n) l_inside g h
 
         pub end_fits : length text < 2 ^ 64 → Fits w64 («from» + n + m)
         end_fits z = let a = at_end in omega arith
@@ -116,21 +116,21 @@ module _
             let z : «from» + n + (m + 1) ≡ «from» + n + m + 1 = omega arith in
             drop-drop (m + 1) («from» + n) text ∙ ap (λ j. drop j text) z
 
-        pub piece-found : PieceAt text «from» («from» + n) («from» + n + m + 1)
-        piece-found = record {
+        pub piece_found : PieceAt text «from» («from» + n) («from» + n + m + 1)
+        piece_found = record {
           after = omega arith;
           some = omega arith;
           inside = let a = at_end in omega arith;
           one = λ look.
-              known_past_plain look (drop «from» text) first-l ∙ ap (λ l. piece_known look (parts_from [] l)) (drop-drop n «from» text)
-              ∙ (rw (here, rest) at (closed_known look text («from» + n) at-l is-there m closes));
+              known_past_plain look (drop «from» text) first_l ∙ ap (λ l. piece_known look (parts_from [] l)) (drop-drop n «from» text)
+              ∙ (rw (here, rest) at (closed_known look text («from» + n) at_l is_there m closes));
           turns = λ look.
               plain look
               ∙ ap (λ l. between text «from» («from» + n) ++ l)
-              (rw (here, rest) at (closed-turns look text («from» + n) at-l is-there m closes));
+              (rw (here, rest) at (closed_turns look text («from» + n) at_l is_there m closes));
         }
 
-pub ruleset piece_by_piece = (piece_no_l, l-fits, l-inside, piece-unclosed, end_fits, past_fits, piece-found, rules)
+pub ruleset piece_by_piece = (piece_no_l, l_fits, l_inside, piece_unclosed, end_fits, past_fits, piece_found, rules)
 
 -- What a row that is found says.
 module _ (rows : List (List ℕ)) (pool name : List ℕ) {i : ℕ} (e : last_raw rows pool name ≡ Row i) where
@@ -139,7 +139,7 @@ module _ (rows : List (List ℕ)) (pool name : List ℕ) {i : ℕ} (e : last_raw
       × (shown (read_back rows pool) name ≡ known (display_of rows pool i))
   unfolding shown
   row_says =
-      answer-row unknown or_look (λ row. known (pair_of pool row).display) (has_name Raw pool name) (λ l. shown (read_back l pool) name) refl
+      answer_row unknown or_look (λ row. known (pair_of pool row).display) (has_name Raw pool name) (λ l. shown (read_back l pool) name) refl
       (λ row rest. refl) (λ l. refl) (λ row l q. refl) rows e
 
   pub row_has : raw_of rows pool i ≡ name
@@ -181,33 +181,33 @@ module _
   seek_none f = let none : PieceBy pieces.Nowhere text at = rw f at e in k.decides ∙ none (shown (read_back classes pool))
 
   module _ {start «end» : ℕ} (f : n ≡ pieces.At start «end») where
-    here-piece : PieceAt text at start «end»
-    here-piece = rw f at e
+    here_piece : PieceAt text at start «end»
+    here_piece = rw f at e
 
-    pub piece-order : start ≤ «end»
-    piece-order = let a = here-piece.some in omega arith
+    pub piece_order : start ≤ «end»
+    piece_order = let a = here_piece.some in omega arith
 
     pub piece_inside : «end» ≤ length text
-    piece_inside = here-piece.inside
+    piece_inside = here_piece.inside
 
-    pub seek-less : length text - «end» < length text - at
-    seek-less =
-        let a = here-piece.after in
-        let b = here-piece.some in
-        let c = here-piece.inside in
+    pub seek_less : length text - «end» < length text - at
+    seek_less =
+        let a = here_piece.after in
+        let b = here_piece.some in
+        let c = here_piece.inside in
         omega arith
 
     abbrev found : List ℕ
     found = between text start «end»
 
     module _ {r : Found} (w : r ≡ last_raw classes pool (between text start «end»)) where
-      pub seek-on : r ≡ Unknown → Unknowing classes pool text «from» «end»
-      seek-on u =
-          let a = here-piece.after in
-          let b = here-piece.some in
+      pub seek_on : r ≡ Unknown → Unknowing classes pool text «from» «end»
+      seek_on u =
+          let a = here_piece.after in
+          let b = here_piece.some in
           let none : shown (read_back classes pool) found ≡ unknown = raw_unknown classes pool found (sym w ∙ u) in
-          goes_on k «end» (omega arith) here-piece.inside (here-piece.one (shown (read_back classes pool)) ∙ rw none)
-          (here-piece.turns (shown (read_back classes pool))
+          goes_on k «end» (omega arith) here_piece.inside (here_piece.one (shown (read_back classes pool)) ∙ rw none)
+          (here_piece.turns (shown (read_back classes pool))
           ∙ rw none (sym (append_assoc (between text at start) found (all_shown classes pool (drop «end» text)))
           ∙ ap (λ l. l ++ all_shown classes pool (drop «end» text)) (parts_join text at start «end» a (omega arith))))
 
@@ -217,10 +217,10 @@ module _
             × (shown (read_back classes pool) found ≡ known (display_of classes pool i))
         says = row_says classes pool found (sym w ∙ u)
 
-        pub piece-long : start + length (raw_of classes pool i) ≡ «end»
-        piece-long =
-            let a = here-piece.some in
-            let b = here-piece.inside in
+        pub piece_long : start + length (raw_of classes pool i) ≡ «end»
+        piece_long =
+            let a = here_piece.some in
+            let b = here_piece.inside in
             let n = length-take-le («end» - start) (drop start text) (omega (arith, length-drop start text)) in
             let c : length (raw_of classes pool i) ≡ «end» - start = ap length (row_has classes pool found (sym w ∙ u)) ∙ n in
             omega arith
@@ -228,20 +228,20 @@ module _
         pub seek_found : KnownAt classes pool text «from» start i
         seek_found =
             let a = k.after in
-            let b = here-piece.after in
-            let c = here-piece.some in
-            let d = here-piece.inside in
+            let b = here_piece.after in
+            let c = here_piece.some in
+            let d = here_piece.inside in
             record {
               after = omega arith;
               inside = says.0;
-              filled = omega (arith, piece-long);
-              ends = omega (arith, piece-long);
-              last = rw piece-long (sym w ∙ u);
-              one = k.decides ∙ here-piece.one (shown (read_back classes pool)) ∙ rw says.2;
+              filled = omega (arith, piece_long);
+              ends = omega (arith, piece_long);
+              last = rw piece_long (sym w ∙ u);
+              one = k.decides ∙ here_piece.one (shown (read_back classes pool)) ∙ rw says.2;
               turns =
-                  k.turns ∙ ap (λ l. between text «from» at ++ l) (here-piece.turns (shown (read_back classes pool)))
+                  k.turns ∙ ap (λ l. between text «from» at ++ l) (here_piece.turns (shown (read_back classes pool)))
                   ∙ sym (append_assoc (between text «from» at) (between text at start) _)
-                  ∙ rw (parts_join text «from» at start a b, says.2, piece-long);
+                  ∙ rw (parts_join text «from» at start a b, says.2, piece_long);
             }
 
-pub ruleset knowing = (unknowing_starts, seek_none, piece-order, piece_inside, seek-less, seek-on, seek_found, rules)
+pub ruleset knowing = (unknowing_starts, seek_none, piece_order, piece_inside, seek_less, seek_on, seek_found, rules)

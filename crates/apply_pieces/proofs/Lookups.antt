@@ -20,7 +20,7 @@ use Rattle.apply_pieces.specs.Inner.Known.{raw_of}
 use Rattle.apply_pieces.specs.Inner.Sought.{RawsTo}
 use Rattle.apply_pieces.specs.Inner.Within.{FirstAt, ClosedAt, OpenFrom}
 use Rattle.apply_pieces.proofs.Knowing.{row_says, row_has}
-use Rattle.apply_pieces.proofs.Cuts.{told_none, told-within, told-first}
+use Rattle.apply_pieces.proofs.Cuts.{told_none, told_within, told_first}
 
 -- A piece that is longer than each of them is none of them.
 pub too_long : (classes : List (List ℕ)) (pool : List ℕ) (longest : ℕ) → RawsTo (length classes) classes pool longest →
@@ -56,56 +56,56 @@ module _ {classes : List (List ℕ)} {pool : List ℕ} {longest row : ℕ} (k : 
         go i j (inl g) = let z : i ≡ row = omega arith in rw z (omega (arith, e))
         go i j (inr g) = let a = k.raws.each i g in omega arith
 
-    pub measuring-longer : longest < n → Measuring classes pool n (row + 1)
-    measuring-longer l = one_more n (omega arith) (omega arith)
+    pub measuring_longer : longest < n → Measuring classes pool n (row + 1)
+    measuring_longer l = one_more n (omega arith) (omega arith)
 
-    pub measuring-shorter : n ≤ longest → Measuring classes pool longest (row + 1)
-    measuring-shorter l = one_more longest (omega arith) l
+    pub measuring_shorter : n ≤ longest → Measuring classes pool longest (row + 1)
+    measuring_shorter l = one_more longest (omega arith) l
 
-pub ruleset measuring = (measuring_starts, measuring_ends, measuring-longer, measuring-shorter, rules)
+pub ruleset measuring = (measuring_starts, measuring_ends, measuring_longer, measuring_shorter, rules)
 
 -- The next piece up to a place.
 module _
     (text : List ℕ) («from» stop : ℕ) (i : «from» ≤ stop) (j : stop ≤ length text) {p : Place}
     (e : p ≡ first_where (starts 0x4C) (between text «from» stop)) {n : ℕ} (f : p ≡ At n) where
   pub within_order : «from» + n ≤ stop
-  within_order = let a = told-within 0x4C text «from» stop i j e f in omega arith
+  within_order = let a = told_within 0x4C text «from» stop i j e f in omega arith
 
   pub within_fits : length text < 2 ^ 64 → Fits w64 («from» + n)
   within_fits z = let a = within_order in omega arith
 
   opens : FirstAt 0x4C text «from» («from» + n)
-  opens = told-first 0x4C text «from» stop i j e f
+  opens = told_first 0x4C text «from» stop i j e f
 
   module _ {q : Place} (g : q ≡ first_where (starts 0x3B) (between text («from» + n) stop)) where
-    pub within-open : q ≡ Nowhere → OpenFrom text «from» («from» + n) stop
-    within-open h = record {
+    pub within_open : q ≡ Nowhere → OpenFrom text «from» («from» + n) stop
+    within_open h = record {
       plain = opens;
       unclosed = record {
         there = opens.there;
-        some = told-within 0x4C text «from» stop i j e f;
+        some = told_within 0x4C text «from» stop i j e f;
         unclosed = told_none 0x3B text («from» + n) stop within_order j g h;
       };
     }
 
     module _ {m : ℕ} (h : q ≡ At m) where
       ends : «from» + n + m < stop
-      ends = told-within 0x3B text («from» + n) stop within_order j g h
+      ends = told_within 0x3B text («from» + n) stop within_order j g h
 
-      pub within-end-fits : length text < 2 ^ 64 → Fits w64 («from» + n + m)
-      within-end-fits z = let a = ends in omega arith
+      pub within_end_fits : length text < 2 ^ 64 → Fits w64 («from» + n + m)
+      within_end_fits z = let a = ends in omega arith
 
-      pub within-past-fits : length text < 2 ^ 64 → Fits w64 («from» + n + m + 1)
-      within-past-fits z = let a = ends in omega arith
+      pub within_past_fits : length text < 2 ^ 64 → Fits w64 («from» + n + m + 1)
+      within_past_fits z = let a = ends in omega arith
 
-      pub within-closed : ClosedAt text «from» stop («from» + n) («from» + n + m + 1)
-      within-closed =
+      pub within_closed : ClosedAt text «from» stop («from» + n) («from» + n + m + 1)
+      within_closed =
           let z : «from» + n + m + 1 - 1 ≡ «from» + n + m = omega arith in
           record {
             plain = opens;
             some = omega arith;
-            closes = rw z (told-first 0x3B text («from» + n) stop within_order j g h);
+            closes = rw z (told_first 0x3B text («from» + n) stop within_order j g h);
             inside = let a = ends in omega arith;
           }
 
-pub ruleset looking_within = (told_none, within_order, within_fits, within-open, within-end-fits, within-past-fits, within-closed, rules)
+pub ruleset looking_within = (told_none, within_order, within_fits, within_open, within_end_fits, within_past_fits, within_closed, rules)

@@ -23,7 +23,7 @@ use Rattle.apply_pieces.specs.declared.note.Note.{Note}
 use Rattle.apply_pieces.specs.Inner.Notes.{NoteBy, NotedBelow}
 use Rattle.apply_pieces.specs.Inner.Sought.{RawsTo, Seekable}
 use Rattle.apply_pieces.specs.Inner.Groups.{Told, GroupsTold, GroupsReady}
-use Rattle.apply_pieces.proofs.Noting.{two_size, two_behind, Noting, noting_starts, noting_ends, note_inside, noting-more}
+use Rattle.apply_pieces.proofs.Noting.{two_size, two_behind, Noting, noting_starts, noting_ends, note_inside, noting_more}
 use Rattle.apply_pieces.proofs.Telling.{told_same}
 
 bytes_size : (c : TreeCounts) (f : List ℕ) → file_length c ≤ length f → length (bytes_in c f) ≡ c.bytes
@@ -49,15 +49,15 @@ module _
   size = bytes_size c f k.file
 
   module _ {bytes : List ℕ} (g : bytes ≡ bytes_in c f) where
-    pub bytes-seekable : Seekable index classes pool longest bytes
-    bytes-seekable = rw g k.seekable
+    pub bytes_seekable : Seekable index classes pool longest bytes
+    bytes_seekable = rw g k.seekable
 
-    pub bytes-short : length bytes ≤ most_tree
-    bytes-short = bytes-seekable.short
+    pub bytes_short : length bytes ≤ most_tree
+    bytes_short = bytes_seekable.short
 
     module _ {room : ℕ} (e : room ≡ bytes_start c) where
-      pub bytes-room : room + length bytes ≤ length out
-      bytes-room = omega (arith, e, ap length g, size, k.room)
+      pub bytes_room : room + length bytes ≤ length out
+      bytes_room = omega (arith, e, ap length g, size, k.room)
 
       pub bytes_told : Told 0 classes pool bytes room out
       bytes_told = rw (g, e) k.told
@@ -71,17 +71,17 @@ module _
       row_inside = omega (arith, e, k.file)
 
     module _ {t : List ℕ} (g : t ≡ text_at c f name) where
-      text-size : length t ≡ length (take (name_at c f name).length (drop (name_at c f name).place (bytes_in c f)))
-      text-size = ap length g
+      text_size : length t ≡ length (take (name_at c f name).length (drop (name_at c f name).place (bytes_in c f)))
+      text_size = ap length g
 
-      pub name-is-short : length t ≤ most_tree
-      name-is-short =
+      pub name_is_short : length t ≤ most_tree
+      name_is_short =
           let a = length-take (name_at c f name).length (drop (name_at c f name).place (bytes_in c f)) in
           let b = length-drop (name_at c f name).place (bytes_in c f) in
-          omega (arith, text-size, k.seekable.short)
+          omega (arith, text_size, k.seekable.short)
 
-      pub name-direct : {note : Note} → NoteBy note classes pool t → NoteBy note classes pool (text_at c f name)
-      name-direct w = rw g at w
+      pub name_direct : {note : Note} → NoteBy note classes pool t → NoteBy note classes pool (text_at c f name)
+      name_direct w = rw g at w
 
       module _ (long : 256 < length t) {s : ℕ} (e : s ≡ names_start c) {row : Text} (q : row ≡ name_row f (s + 8 * name)) where
         is_row : row ≡ name_at c f name
@@ -91,35 +91,35 @@ module _
         inside =
             let a = length-take (name_at c f name).length (drop (name_at c f name).place (bytes_in c f)) in
             let b = length-drop (name_at c f name).place (bytes_in c f) in
-            omega (arith, text-size)
+            omega (arith, text_size)
 
         module _ {bytes : List ℕ} (d : bytes ≡ bytes_in c f) where
           pub name_inside_lem : row.place + length t ≤ length bytes
           name_inside_lem = rw (is_row, d) inside
 
-          pub name-starts : row.place ≤ length bytes
-          name-starts = let a = name_inside_lem in omega arith
+          pub name_starts : row.place ≤ length bytes
+          name_starts = let a = name_inside_lem in omega arith
 
-          pub name-cut : {note : Note} → NoteBy note classes pool (take (length t) (drop row.place bytes)) →
+          pub name_cut : {note : Note} → NoteBy note classes pool (take (length t) (drop row.place bytes)) →
               NoteBy note classes pool (text_at c f name)
-          name-cut {note} w =
+          name_cut {note} w =
               let same : take (length t) (drop (name_at c f name).place (bytes_in c f)) ≡ text_at c f name =
-              ap (λ n. take n (drop (name_at c f name).place (bytes_in c f))) text-size
+              ap (λ n. take n (drop (name_at c f name).place (bytes_in c f))) text_size
               ∙ taken (name_at c f name).length (drop (name_at c f name).place (bytes_in c f)) in
               rw (is_row, d, same) at w
 
 pub ruleset naming = (
-  bytes-seekable,
-  bytes-short,
-  bytes-room,
+  bytes_seekable,
+  bytes_short,
+  bytes_room,
   bytes_told,
   row_fits,
   row_inside,
-  name-is-short,
-  name-direct,
+  name_is_short,
+  name_direct,
   name_inside_lem,
-  name-starts,
-  name-cut,
+  name_starts,
+  name_cut,
   rules,
 )
 
@@ -146,25 +146,25 @@ module _
   by_groups_ready = k.ready
 
   module _ (h : n < c.names) {s : ℕ} (e : s ≡ names_start c) where
-    pub by-groups-inside : s + 8 * n + 8 ≤ length new
-    by-groups-inside = note_inside k.noting room h e
+    pub by_groups_inside : s + 8 * n + 8 ≤ length new
+    by_groups_inside = note_inside k.noting room h e
 
-    pub by-groups-more : {note : Note} → NoteBy note classes pool (text_at c f n) → {d : List ℕ} →
+    pub by_groups_more : {note : Note} → NoteBy note classes pool (text_at c f n) → {d : List ℕ} →
         d ≡ put (put new (s + 8 * n) (word_bytes note.start)) (s + 8 * n + 4) (word_bytes note.row) →
         GroupNoting c f index classes pool longest old d (n + 1)
-    by-groups-more {note} w {d} j = record {
-      noting = noting-more k.noting room h e refl w j;
+    by_groups_more {note} w {d} j = record {
+      noting = noting_more k.noting room h e refl w j;
       ready = record {
         file = k.ready.file;
-        room = omega (arith, ap length j, two_size new (s + 8 * n) by-groups-inside note.start note.row, k.ready.room);
+        room = omega (arith, ap length j, two_size new (s + 8 * n) by_groups_inside note.start note.row, k.ready.room);
         seekable = k.ready.seekable;
         told = told_same k.ready.told
             (ap (drop (bytes_start c)) j
-            ∙ two_behind new (s + 8 * n) by-groups-inside note.start note.row (bytes_start c) (omega (arith, e)));
+            ∙ two_behind new (s + 8 * n) by_groups_inside note.start note.row (bytes_start c) (omega (arith, e)));
       };
     }
 
-pub ruleset noting_by_groups = (by_groups_starts, by_groups_ends, by_groups_ready, by-groups-inside, by-groups-more, rules)
+pub ruleset noting_by_groups = (by_groups_starts, by_groups_ends, by_groups_ready, by_groups_inside, by_groups_more, rules)
 
 -- The rows are gone through.
 pub record Going (count n : ℕ) : Type 0 where
@@ -186,30 +186,30 @@ pub ruleset going = (going_starts, going_more, row_there, rules)
 module _
     (c : TreeCounts) (f : List ℕ) (file : file_length c ≤ length f) (short : length f ≤ most_tree) {bytes : List ℕ} (g : bytes ≡ bytes_in c f)
   where
-    pub names-seekable : {index : List ℕ} {classes : List (List ℕ)} {pool : List ℕ} {longest : ℕ} → length classes ≤ most_classes →
+    pub names_seekable : {index : List ℕ} {classes : List (List ℕ)} {pool : List ℕ} {longest : ℕ} → length classes ≤ most_classes →
         RawsTo (length classes) classes pool longest → IndexBy Raw classes pool index → Seekable index classes pool longest bytes
-    names-seekable few raws i = record { few = few; short = omega (arith, ap length g, bytes_size c f file); raws = raws; indexed = i }
+    names_seekable few raws i = record { few = few; short = omega (arith, ap length g, bytes_size c f file); raws = raws; indexed = i }
 
     module _ {room : ℕ} (e : room ≡ bytes_start c) where
       ends : room + length bytes ≡ file_length c
       ends = omega (arith, e, ap length g, bytes_size c f file)
 
       module _ (old : List ℕ) (fits : file_length c ≤ length old) where
-        pub names-room : room + length bytes ≤ length old
-        names-room = omega (arith, ends)
+        pub names_room : room + length bytes ≤ length old
+        names_room = omega (arith, ends)
 
         module _ {classes : List (List ℕ)} {pool mid : List ℕ} (t : GroupsTold classes pool bytes room old mid) where
-          pub names-ready : {index : List ℕ} {longest : ℕ} → length classes ≤ most_classes →
+          pub names_ready : {index : List ℕ} {longest : ℕ} → length classes ≤ most_classes →
               RawsTo (length classes) classes pool longest → IndexBy Raw classes pool index → GroupsReady c f index classes pool longest mid
-          names-ready few raws i = record {
+          names_ready few raws i = record {
             file = file;
             room = omega (arith, t.size);
-            seekable = rw g at (names-seekable few raws i);
+            seekable = rw g at (names_seekable few raws i);
             told = rw (g, e) at t.told;
           }
 
-          pub names-done : {new : List ℕ} → NotedBelow c.names c f classes pool mid new → NotedBelow c.names c f classes pool old new
-          names-done {new} n = record {
+          pub names_done : {new : List ℕ} → NotedBelow c.names c f classes pool mid new → NotedBelow c.names c f classes pool old new
+          names_done {new} n = record {
             size = n.size ∙ t.size;
             before =
                 n.before ∙ sym (take-take (names_start c) room mid (omega (arith, e))) ∙ ap (take (names_start c)) t.before
@@ -218,4 +218,4 @@ module _
             notes = n.notes;
           }
 
-pub ruleset all_names = (names-seekable, names-room, names-ready, names-done, rules)
+pub ruleset all_names = (names_seekable, names_room, names_ready, names_done, rules)

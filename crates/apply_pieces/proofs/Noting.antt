@@ -40,23 +40,23 @@ module _ (classes : List (List ℕ)) (pool text : List ℕ) (p : KnownPiece) (k 
         let b = found.ends in
         omega arith
 
-    pub note-place-fits : Fits w64 (start + 1)
-    note-place-fits = let a = small in omega arith
+    pub note_place_fits : Fits w64 (start + 1)
+    note_place_fits = let a = small in omega arith
 
-    pub note-place-narrow : Fits w32 (start + 1)
-    note-place-narrow = let a = small in omega arith
+    pub note_place_narrow : Fits w32 (start + 1)
+    note_place_narrow = let a = small in omega arith
 
-    pub note-row-narrow : Fits w32 row
-    note-row-narrow = let a = found.inside in omega arith
+    pub note_row_narrow : Fits w32 row
+    note_row_narrow = let a = found.inside in omega arith
 
-    pub note-found : NoteBy (record { start = start + 1; row = row }) classes pool text
-    note-found = record {
+    pub note_found : NoteBy (record { start = start + 1; row = row }) classes pool text
+    note_found = record {
       says = rw (add-one start) found;
       start_small = let a = small in omega arith;
       row_small = let a = found.inside in omega arith;
     }
 
-pub ruleset note_taking = (note_none, note-place-fits, note-place-narrow, note-row-narrow, note-found, rules)
+pub ruleset note_taking = (note_none, note_place_fits, note_place_narrow, note_row_narrow, note_found, rules)
 
 -- Two numbers, one after the other.
 pub two_put : (d : List ℕ) (at a b : ℕ) {x y : List ℕ} → x ≡ put d at (word_bytes a) → y ≡ put x (at + 4) (word_bytes b) →
@@ -141,21 +141,21 @@ module _
       abbrev made : List ℕ
       made = put (put new place (word_bytes note.start)) (place + 4) (word_bytes note.row)
 
-      this-note : NoteSays (word_at made place) (word_at made (place + 4)) classes pool (text_at c f n)
-      this-note =
+      this_note : NoteSays (word_at made place) (word_at made (place + 4)) classes pool (text_at c f n)
+      this_note =
           rw (
             first_word new place fits note.start note.row w.start_small,
             second_word new place fits note.start note.row w.row_small,
             ← g,
           ) w.says
 
-      each-note : (i : ℕ) → i < n + 1 →
+      each_note : (i : ℕ) → i < n + 1 →
           NoteSays (word_at made (names_start c + 8 * i)) (word_at made (names_start c + 8 * i + 4)) classes pool (text_at c f i)
-      each-note i l = go (le_or_lt n i)
+      each_note i l = go (le_or_lt n i)
         where
           go : (n ≤ i) ⊎ (i < n) →
               NoteSays (word_at made (names_start c + 8 * i)) (word_at made (names_start c + 8 * i + 4)) classes pool (text_at c f i)
-          go (inl q) = let z : i ≡ n = omega arith in rw z this-note
+          go (inl q) = let z : i ≡ n = omega arith in rw z this_note
           go (inr q) =
               rw (
                 two_word new place fits note.start note.row (names_start c + 8 * i) (omega arith),
@@ -169,12 +169,12 @@ module _
           size = two_size new place fits note.start note.row ∙ k.noted.size;
           before = two_before new place fits note.start note.row (names_start c) (omega arith) ∙ k.noted.before;
           behind = two_behind new place fits note.start note.row (file_length c) (omega arith) ∙ k.noted.behind;
-          notes = each-note;
+          notes = each_note;
         };
       }
 
-      pub noting-more : {d : List ℕ} → d ≡ put (put new (s + 8 * n) (word_bytes note.start)) (s + 8 * n + 4) (word_bytes note.row) →
+      pub noting_more : {d : List ℕ} → d ≡ put (put new (s + 8 * n) (word_bytes note.start)) (s + 8 * n + 4) (word_bytes note.row) →
           Noting c f classes pool old d (n + 1)
-      noting-more j = rw (j, e) noted_more
+      noting_more j = rw (j, e) noted_more
 
-pub ruleset noting = (noting_starts, name_short, noting_ends, note_inside, noting-more, rules)
+pub ruleset noting = (noting_starts, name_short, noting_ends, note_inside, noting_more, rules)

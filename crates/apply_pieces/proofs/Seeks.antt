@@ -29,8 +29,8 @@ use Rattle.apply_pieces.specs.declared.known.NextPiece.TheVariants as pieces
 use Rattle.apply_pieces.specs.Inner.Known.{PieceAt, raw_of, one_known, all_shown, KnownAt}
 use Rattle.apply_pieces.specs.Inner.Within.{FirstAt}
 use Rattle.apply_pieces.specs.Inner.Sought.{NeverKnown, FirstKnown, SoughtSays}
-use Rattle.apply_pieces.proofs.Knowing.{unclosed, closed_known, closed-turns}
-use Rattle.apply_pieces.proofs.Knowing.{Unknowing, unknowing_starts, seek-on, piece-long, seek_found}
+use Rattle.apply_pieces.proofs.Knowing.{unclosed, closed_known, closed_turns}
+use Rattle.apply_pieces.proofs.Knowing.{Unknowing, unknowing_starts, seek_on, piece_long, seek_found}
 use Rattle.apply_pieces.proofs.Cuts.{found_none, found_first, without_cut, without_up_to, first_cut}
 
 -- Bytes without an `L` stay, and hold no piece.
@@ -67,20 +67,20 @@ module _ (classes : List (List ℕ)) (pool text : List ℕ) where
   no_l a w = unknown_without_l look (drop a text) (found_none w)
 
   module _ (a i : ℕ) (w : Without 0x4C text a i) where
-    no-l-there : first_where (starts 0x4C) (between text a i) ≡ Nowhere
-    no-l-there = ap (first_where (starts 0x4C)) (sym (drop_take a i text)) ∙ found_none (without_up_to w i w.goes (omega arith))
+    no_l_there : first_where (starts 0x4C) (between text a i) ≡ Nowhere
+    no_l_there = ap (first_where (starts 0x4C)) (sym (drop_take a i text)) ∙ found_none (without_up_to w i w.goes (omega arith))
 
     split : drop a text ≡ between text a i ++ drop i text
     split =
         let z : a + (i - a) ≡ i = omega (arith, w.goes) in
         sym (take-append-drop (i - a) (drop a text)) ∙ ap (λ l. between text a i ++ l) (drop-drop (i - a) a text ∙ ap (λ k. drop k text) z)
 
-    plain-unknowing : Unknowing classes pool text a i
-    plain-unknowing = record {
+    plain_unknowing : Unknowing classes pool text a i
+    plain_unknowing = record {
       after = w.goes;
       inside = w.inside;
-      decides = ap (one_known classes pool) split ∙ plain_known look 0 (between text a i) (drop i text) no-l-there;
-      turns = ap (all_shown classes pool) split ∙ plain_turns look 0 (between text a i) (drop i text) no-l-there;
+      decides = ap (one_known classes pool) split ∙ plain_known look 0 (between text a i) (drop i text) no_l_there;
+      turns = ap (all_shown classes pool) split ∙ plain_turns look 0 (between text a i) (drop i text) no_l_there;
     }
 
   module _ (start : ℕ) (h : start < length text) (l : get_or text start 0 ≡ 0x4C) where
@@ -105,7 +105,7 @@ module _ (classes : List (List ℕ)) (pool text : List ℕ) where
               (closed_known k text start h begins (semi - start) (found_first f));
           turns = λ k.
               rw n (rw (y, drop-drop (semi + 1 - start) start text, z) at
-              (closed-turns k text start h begins (semi - start) (found_first f)));
+              (closed_turns k text start h begins (semi - start) (found_first f)));
         }
 
 -- What is first behind a stretch in which nothing is known.
@@ -166,7 +166,7 @@ passed_plain classes pool text a b w = record {
   after = w.goes;
   inside = w.inside;
   short = λ e h i. no_l classes pool (take e text) a (without_up_to w e h (omega arith));
-  long = λ e h i. plain-unknowing classes pool (take e text) a b (without_cut w e h i);
+  long = λ e h i. plain_unknowing classes pool (take e text) a b (without_cut w e h i);
 }
 
 -- the end of a text
@@ -221,15 +221,15 @@ module _
     nothing : (e : ℕ) → e ≤ length text → start ≤ e → Unknowing classes pool (take e text) start start
     nothing e i h = unknowing_starts classes pool (take e text) start (omega (arith, length-take-le e text i))
 
-    pub passed-piece : last_raw classes pool (between text start (semi + 1)) ≡ Unknown → Passed classes pool text start (semi + 1)
-    passed-piece u =
+    pub passed_piece : last_raw classes pool (between text start (semi + 1)) ≡ Unknown → Passed classes pool text start (semi + 1)
+    passed_piece u =
         let s = some in
         record {
           after = omega arith;
           inside = omega (arith, f.inside);
           short = λ e h i. open_short f.before e h (omega arith);
           long = λ e h i.
-              seek-on (nothing e i (omega arith)) (pieces.At start (semi + 1)) (closed e (omega arith) i) refl
+              seek_on (nothing e i (omega arith)) (pieces.At start (semi + 1)) (closed e (omega arith) i) refl
               (ap (last_raw classes pool) (sym (same_piece e (omega arith)))) u;
         }
 
@@ -238,7 +238,7 @@ module _
     first_piece {row} u =
         let s = some in
         let whole : start + length (raw_of classes pool row) ≡ semi + 1 =
-        piece-long (unknowing_starts classes pool text start (omega (arith, f.inside))) (pieces.At start (semi + 1))
+        piece_long (unknowing_starts classes pool text start (omega (arith, f.inside))) (pieces.At start (semi + 1))
         (at_piece classes pool text start (omega (arith, f.inside)) l semi f) refl refl u in
         record {
           ends = omega (arith, f.inside, whole);

@@ -80,21 +80,21 @@ module _
       ∙ sym k.first.turns
 
   module _ (r : Wrote) (d : List ℕ) (w : WroteBy r out next (between text «from» piece ++ display_of classes pool row) d) where
-    pub showing-full : r ≡ NoRoom → length out₀ < at + length (all_shown classes pool text)
-    showing-full e =
+    pub showing_full : r ≡ NoRoom → length out₀ < at + length (all_shown classes pool text)
+    showing_full e =
         k.left NoRoom d (wrote_as NoRoom out next d here
         (none_then out next (between text «from» piece ++ display_of classes pool row) (all_shown classes pool (drop behind text))
         (wrote_none r out next (between text «from» piece ++ display_of classes pool row) d w e)))
 
     module _ {n : ℕ} (f : n ≡ length (raw_of classes pool row)) where
-      pub behind-fits : length text < 2 ^ 64 → Fits w64 (piece + n)
-      behind-fits z = let e = k.first.ends in omega arith
+      pub behind_fits : length text < 2 ^ 64 → Fits w64 (piece + n)
+      behind_fits z = let e = k.first.ends in omega arith
 
-      pub behind-inside : piece + n ≤ length text
-      behind-inside = let e = k.first.ends in omega arith
+      pub behind_inside : piece + n ≤ length text
+      behind_inside = let e = k.first.ends in omega arith
 
-      pub showing-less : length text - (piece + n) < length text - «from»
-      showing-less =
+      pub showing_less : length text - (piece + n) < length text - «from»
+      showing_less =
           let a = k.first.after in
           let b = k.first.filled in
           let c = k.first.ends in
@@ -111,9 +111,9 @@ module _
             k.left v d₁ (wrote_as v out next d₁ here (wrote_then v (all_shown classes pool (drop behind text)) d₁ wrote same))
 
         -- nothing is left
-        pub showing-all : length text ≤ piece + n → WroteBy (Done m) out₀ at (all_shown classes pool text) d
+        pub showing_all : length text ≤ piece + n → WroteBy (Done m) out₀ at (all_shown classes pool text) d
         unfolding parts_from piece_known
-        showing-all h =
+        showing_all h =
             let none : drop (piece + n) text ≡ [] = drop_of_length-le text h in
             let stays : all_shown classes pool [] ≡ [] = unknown_stays (shown (read_back classes pool)) [] refl in
             let nothing : all_shown classes pool (drop (piece + n) text) ≡ [] = ap (all_shown classes pool) none ∙ stays in
@@ -122,28 +122,28 @@ module _
             then (Done m) d (rw nothing (record { past = omega arith; room = omega arith; is = sym (put_nothing d m) }))
 
         module _ (p : KnownPiece) (g : KnownBy p classes pool text (piece + n)) where
-          pub showing-rest : p ≡ Nowhere → (v : Wrote) (d₁ : List ℕ) → WroteBy v d m (between text (piece + n) (length text)) d₁ →
+          pub showing_rest : p ≡ Nowhere → (v : Wrote) (d₁ : List ℕ) → WroteBy v d m (between text (piece + n) (length text)) d₁ →
               WroteBy v out₀ at (all_shown classes pool text) d₁
-          showing-rest h v d₁ u =
+          showing_rest h v d₁ u =
               let none : one_known classes pool (drop (piece + n) text) ≡ false = rw h at g in
               let is : between text (piece + n) (length text) ≡ all_shown classes pool (drop (piece + n) text) =
               take_rest text (piece + n) ∙ sym (unknown_stays (shown (read_back classes pool)) (drop (piece + n) text) none) in
               then v d₁ (wrote_as v d m d₁ is u)
 
-          pub showing-more : {start i : ℕ} → p ≡ At start i → Showing classes pool text out₀ at d (piece + n) start i m
-          showing-more h = record { size = written_length wrote ∙ k.size; left = then; first = rw h at g }
+          pub showing_more : {start i : ℕ} → p ≡ At start i → Showing classes pool text out₀ at d (piece + n) start i m
+          showing_more h = record { size = written_length wrote ∙ k.size; left = then; first = rw h at g }
 
 pub ruleset showing = (
   showing_starts,
   showing_order,
   showing_inside,
   showing_row,
-  showing-full,
-  behind-fits,
-  behind-inside,
-  showing-less,
-  showing-all,
-  showing-rest,
-  showing-more,
+  showing_full,
+  behind_fits,
+  behind_inside,
+  showing_less,
+  showing_all,
+  showing_rest,
+  showing_more,
   rules,
 )

@@ -167,15 +167,15 @@ module _
   telling_ahead = k.ahead_is
 
   module _ (h : 0 < group) where
-    pub telling-order : 64 * (group - 1) ≤ stop
-    telling-order = omega (arith, k.near)
+    pub telling_order : 64 * (group - 1) ≤ stop
+    telling_order = omega (arith, k.near)
 
     module _ (room-there : room + length text ≤ length old) where
-      room-here : room + 64 * (group - 1) + 64 ≤ room + length text
-      room-here = omega (arith, k.inside)
+      room_here : room + 64 * (group - 1) + 64 ≤ room + length text
+      room_here = omega (arith, k.inside)
 
-      pub telling-room : room + 64 * (group - 1) + 20 ≤ length new
-      telling-room = let a = room-here in omega (arith, k.size)
+      pub telling_room : room + 64 * (group - 1) + 20 ≤ length new
+      telling_room = let a = room_here in omega (arith, k.size)
 
       module _
           {next : Ahead} (g : AheadBy next classes pool text (64 * (group - 1))) {d : List ℕ}
@@ -183,29 +183,29 @@ module _
         abbrev at : ℕ
         at = room + 64 * (group - 1)
 
-        told-each : (i : ℕ) → group - 1 ≤ i → i < length text / 64 → (group ≤ i) ⊎ (i < group) →
+        told_each : (i : ℕ) → group - 1 ≤ i → i < length text / 64 → (group ≤ i) ⊎ (i < group) →
             AheadBy (ahead_at (ahead_put new at next) (room + 64 * i)) classes pool text (64 * i)
-        told-each i l u (inl m) =
-            let behind = put_behind new at telling-room next (room + 64 * i) (omega arith) in
+        told_each i l u (inl m) =
+            let behind = put_behind new at telling_room next (room + 64 * i) (omega arith) in
             rw (same_ahead new (ahead_put new at next) (room + 64 * i) behind) (k.told.each i m u)
-        told-each i l u (inr m) =
+        told_each i l u (inr m) =
             let z : i ≡ group - 1 = omega arith in
-            rw (z, put_there new at telling-room next g) g
+            rw (z, put_there new at telling_room next g) g
 
-        pub telling-more : Telling classes pool text room old d (group - 1) (64 * (group - 1)) next
-        telling-more =
-            let a = room-here in
+        pub telling_more : Telling classes pool text room old d (group - 1) (64 * (group - 1)) next
+        telling_more =
+            let a = room_here in
             rw e (record {
               inside = omega (arith, k.inside);
               near = omega arith;
               ahead_is = g;
-              told = record { each = λ i l u. told-each i l u (le_or_lt group i) };
-              size = put_length new at telling-room next ∙ k.size;
-              before = put_before new at telling-room next room (omega arith) ∙ k.before;
-              behind = put_behind new at telling-room next (room + length text) (omega arith) ∙ k.behind;
+              told = record { each = λ i l u. told_each i l u (le_or_lt group i) };
+              size = put_length new at telling_room next ∙ k.size;
+              before = put_before new at telling_room next room (omega arith) ∙ k.before;
+              behind = put_behind new at telling_room next (room + length text) (omega arith) ∙ k.behind;
             })
 
-pub ruleset telling = (telling_starts, telling_ends, telling_ahead, telling-order, telling-room, telling-more, rules)
+pub ruleset telling = (telling_starts, telling_ends, telling_ahead, telling_order, telling_room, telling_more, rules)
 
 -- The group behind a place.
 module _

@@ -87,14 +87,14 @@ module _ (classes : List (List ℕ)) (pool : List ℕ) (c : TreeCounts) (f : Lis
 -- The numbers of a plan.
 module _ (classes rows : List (List ℕ)) (pool : List ℕ) (c : TreeCounts) (f out : List ℕ) (home context number : ℕ) where
   module _ (low : TextsLow classes rows) (told : NotesTold classes pool c f out) (few : number ≤ length rows) (small : c.names < 4294967296) where
-    member-low : (n : ℕ) → n ≤ length rows → PlanLow (member_plan rows n)
-    member-low zero h = omega arith
-    member-low (suc row) h = low.names row (omega arith)
+    member_low : (n : ℕ) → n ≤ length rows → PlanLow (member_plan rows n)
+    member_low zero h = omega arith
+    member_low (suc row) h = low.names row (omega arith)
 
-    noted-low : (name n row : ℕ) → name < c.names → NoteSays n row classes pool (text_at c f name) →
+    noted_low : (name n row : ℕ) → name < c.names → NoteSays n row classes pool (text_at c f name) →
         PlanLow (noted_plan classes pool (text_at c f name) name n row)
-    noted-low name zero row h k = omega arith
-    noted-low name (suc start) row h k = go (eqb (length (text_at c f name)) (length (raw_of classes pool row)))
+    noted_low name zero row h k = omega arith
+    noted_low name (suc start) row h k = go (eqb (length (text_at c f name)) (length (raw_of classes pool row)))
       where
         go : (b : Bool) → PlanLow (pick b (text_plan (unpack_class (get_or classes row [])).display) (plan.Shown name))
         go true = low.displays row k.inside
@@ -104,16 +104,16 @@ module _ (classes rows : List (List ℕ)) (pool : List ℕ) (c : TreeCounts) (f 
     line_low (line.Line n) = omega arith
     line_low line.Unknown = omega arith
 
-    by-low : (t : Token) → NamesBelow c.names t → PlanLow (plan_by classes rows pool c f out home context number t)
-    by-low (Other a b) h = omega arith
-    by-low (MemberName raw shows) h = member-low number few
-    by-low (Descriptor raw shows) h =
-        noted-low raw (word_at out (names_start c + 8 * raw)) (word_at out (names_start c + 8 * raw + 4)) h.0 (told.says raw h.0)
-    by-low (SourceLine raw shows) h = line_low (line_by classes rows pool home context (raw_line raw))
+    by_low : (t : Token) → NamesBelow c.names t → PlanLow (plan_by classes rows pool c f out home context number t)
+    by_low (Other a b) h = omega arith
+    by_low (MemberName raw shows) h = member_low number few
+    by_low (Descriptor raw shows) h =
+        noted_low raw (word_at out (names_start c + 8 * raw)) (word_at out (names_start c + 8 * raw + 4)) h.0 (told.says raw h.0)
+    by_low (SourceLine raw shows) h = line_low (line_by classes rows pool home context (raw_line raw))
 
-    pub plan-low : FormedBy c f → (i : ℕ) → i < c.tokens → PlanLow (plan_at classes rows pool c f out home context number i)
+    pub plan_low : FormedBy c f → (i : ℕ) → i < c.tokens → PlanLow (plan_at classes rows pool c f out home context number i)
     unfolding plan_at
-    plan-low k i h = by-low (token_at c f i) (k.tokens i h)
+    plan_low k i h = by_low (token_at c f i) (k.tokens i h)
 
   -- a name of the tree that is shown is there, and has a known piece
   abbrev ShownFits : Plan → Type 0

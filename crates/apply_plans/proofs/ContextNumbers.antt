@@ -52,41 +52,41 @@ module _ (classes rows : List (List ℕ)) (pool class : List ℕ) where
     texts : both (same e.raw_name n) (same e.descriptor d) ≡ true
     texts = both_right (is_text (raw_of_row cs e.class) class) (both (same e.raw_name n) (same e.descriptor d)) matched
 
-    name-is : e.raw_name ≡ n
-    name-is = same_equal e.raw_name n (both_left (same e.raw_name n) (same e.descriptor d) texts)
+    name_is : e.raw_name ≡ n
+    name_is = same_equal e.raw_name n (both_left (same e.raw_name n) (same e.descriptor d) texts)
 
-    descriptor-is : e.descriptor ≡ d
-    descriptor-is = same_equal e.descriptor d (both_right (same e.raw_name n) (same e.descriptor d) texts)
+    descriptor_is : e.descriptor ≡ d
+    descriptor_is = same_equal e.descriptor d (both_right (same e.raw_name n) (same e.descriptor d) texts)
 
-    known-class : last_raw classes pool class ≡ Row home
-    known-class = go (last_raw classes pool class) refl
+    known_class : last_raw classes pool class ≡ Row home
+    known_class = go (last_raw classes pool class) refl
       where
         go : (o : Found) → last_raw classes pool class ≡ o → last_raw classes pool class ≡ Row home
         go (Row i) f = f ∙ ap Row (sym (h ∙ ap home_row f))
         go Unknown f = clash matched (none_matches cs (key class n d) e (raw_unknown classes pool class f))
 
-    raw-is : text_in pool (unpack_class (get_or classes home [])).raw ≡ class
-    raw-is = raw_has classes pool class known-class
+    raw_is : text_in pool (unpack_class (get_or classes home [])).raw ≡ class
+    raw_is = raw_has classes pool class known_class
 
     key_is : key_of_row classes rows pool home row ≡ key class n d
-    key_is = rw (raw-is, name-is, descriptor-is)
+    key_is = rw (raw_is, name_is, descriptor_is)
 
-    own-meant : Meant classes rows pool home row
-    own-meant =
+    own_meant : Meant classes rows pool home row
+    own_meant =
         record {
-          class_row_lem = ap (last_raw classes pool) raw-is ∙ known-class;
+          class_row_lem = ap (last_raw classes pool) raw_is ∙ known_class;
           own_row_lem = ap (own_row classes rows pool) key_is ∙ own;
         }
 
   module _ {home : ℕ} (h : home ≡ home_row (last_raw classes pool class)) where
-    pub number-meant : (x : Context) {w : ℕ} → w ≡ context_number classes rows pool class x → MeantBy classes rows pool home w
-    number-meant no_method e = record { meant = λ l. absurd (omega arith) }
-    number-meant (in_method n d) {w} e = record { meant = λ l. go (own_row classes rows pool (key class n d)) refl l }
+    pub number_meant : (x : Context) {w : ℕ} → w ≡ context_number classes rows pool class x → MeantBy classes rows pool home w
+    number_meant no_method e = record { meant = λ l. absurd (omega arith) }
+    number_meant (in_method n d) {w} e = record { meant = λ l. go (own_row classes rows pool (key class n d)) refl l }
       where
         go : (o : Found) → own_row classes rows pool (key class n d) ≡ o → 0 < w → Meant classes rows pool home (w - 1)
         go (Row i) f l =
             let z : w - 1 ≡ i = let y : w ≡ suc i = e ∙ ap noted_row f in omega arith in
-            rw z (own-meant n d f h)
+            rw z (own_meant n d f h)
         go Unknown f l = absurd (let y : w ≡ 0 = e ∙ ap noted_row f in omega arith)
 
     -- no row is owned: no line is known
@@ -102,10 +102,10 @@ module _ (classes rows : List (List ℕ)) (pool class : List ℕ) where
             both_more (owned_by (shown cs k.owner) x.kind) (kind_holds x.kind n) (matches cs k x)
             (last_none (λ r. owner_matches cs k (entry_back pool r)) 0 rows f i m)
 
-    pub number-line : (x : Context) {w : ℕ} → w ≡ context_number classes rows pool class x → (n : RawLine) →
+    pub number_line : (x : Context) {w : ℕ} → w ≡ context_number classes rows pool class x → (n : RawLine) →
         line_by classes rows pool home w n ≡ context_line (mapping_in classes rows pool) class x n.0
-    number-line no_method e n = ap (λ v. line_by classes rows pool home v n) e
-    number-line (in_method a d) {w} e n = go (own_row classes rows pool (key class a d)) refl
+    number_line no_method e n = ap (λ v. line_by classes rows pool home v n) e
+    number_line (in_method a d) {w} e n = go (own_row classes rows pool (key class a d)) refl
       where
         go : (o : Found) → own_row classes rows pool (key class a d) ≡ o →
             line_by classes rows pool home w n ≡ context_line (mapping_in classes rows pool) class (in_method a d) n.0

@@ -28,8 +28,8 @@ module _ (f out : List ℕ) (node : ℕ) where
         go zero k = absurd (k refl)
         go (suc n) k = refl
 
-    pub above-inside : ParentBelow f node → nodes_start + 8 * node + 8 ≤ length out → 16 + 8 * p + 4 ≤ length out
-    above-inside k l =
+    pub above_inside : ParentBelow f node → nodes_start + 8 * node + 8 ≤ length out → 16 + 8 * p + 4 ≤ length out
+    above_inside k l =
         let low : p < node = go node h k e in
         omega arith
       where
@@ -37,8 +37,8 @@ module _ (f out : List ℕ) (node : ℕ) where
         go zero q r s = absurd (q refl)
         go (suc n) q r s = let z = r.lower (omega arith) in omega arith
 
-    pub above-fits : ParentBelow f node → nodes_start + 8 * node + 8 ≤ length out → length out < 2 ^ 64 → Fits w64 (8 * p)
-    above-fits k l m = let z = above-inside k l in omega arith
+    pub above_fits : ParentBelow f node → nodes_start + 8 * node + 8 ≤ length out → length out < 2 ^ 64 → Fits w64 (8 * p)
+    above_fits k l m = let z = above_inside k l in omega arith
 
   pub inherited : {b : Bool} → b ≡ true → {w : ℕ} → w ≡ word_above f out node → (l : ℕ) → w ≡ pick b (word_above f out node) l
   inherited e g l = g ∙ sym (ap (λ x. pick x (word_above f out node) l) e)
@@ -46,7 +46,7 @@ module _ (f out : List ℕ) (node : ℕ) where
   pub own_context : {b : Bool} → b ≡ false → (l : ℕ) → l ≡ pick b (word_above f out node) l
   own_context e l = sym (ap (λ x. pick x (word_above f out node) l) e)
 
-pub ruleset above_reading = (none_above, above, above-inside, above-fits, rules)
+pub ruleset above_reading = (none_above, above, above_inside, above_fits, rules)
 
 pub ruleset context_choosing = (inherited, own_context, rules)
 

@@ -66,29 +66,29 @@ module _ (classes rows : List (List ℕ)) (pool : List ℕ) (c : TreeCounts) (f 
     fits : nodes_start + 8 * node + length (word_bytes w) ≤ length out
     fits = omega (arith, bytes_length w, k.there, k.rows_room)
 
-    mid-size : length mid ≡ length out
-    mid-size = ap length g ∙ length_put out (nodes_start + 8 * node) (word_bytes w) fits
+    mid_size : length mid ≡ length out
+    mid_size = ap length g ∙ length_put out (nodes_start + 8 * node) (word_bytes w) fits
 
-    later-word : (p : ℕ) → tokens_start c ≤ p → word_at mid p ≡ word_at out p
-    later-word p h = ap (λ v. word_at v p) g ∙ word_after out (nodes_start + 8 * node) (word_bytes w) fits p (omega (arith, bytes_length w, k.there))
+    later_word : (p : ℕ) → tokens_start c ≤ p → word_at mid p ≡ word_at out p
+    later_word p h = ap (λ v. word_at v p) g ∙ word_after out (nodes_start + 8 * node) (word_bytes w) fits p (omega (arith, bytes_length w, k.there))
 
-    mid-told : NotesTold classes pool c f mid
-    mid-told = record {
-      room = omega (arith, k.told.room, mid-size);
-      says = λ n h. rw (later-word (names_start c + 8 * n) (omega arith), later-word (names_start c + 8 * n + 4) (omega arith)) (k.told.says n h);
+    mid_told : NotesTold classes pool c f mid
+    mid_told = record {
+      room = omega (arith, k.told.room, mid_size);
+      says = λ n h. rw (later_word (names_start c + 8 * n) (omega arith), later_word (names_start c + 8 * n + 4) (omega arith)) (k.told.says n h);
     }
 
-    pub tokens-ready : (home : ℕ) → MeantBy classes rows pool home (context_noted f out node note) →
+    pub tokens_ready : (home : ℕ) → MeantBy classes rows pool home (context_noted f out node note) →
         TokensReady classes rows pool c f home w note.named first count names mid
-    tokens-ready home m = record {
+    tokens_ready home m = record {
       formed = k.formed;
       inside = k.inside;
       few = k.few;
-      told = mid-told;
+      told = mid_told;
       meant = rw e m;
       low = k.low;
-      rows_room = omega (arith, k.rows_room, mid-size);
-      most = omega (arith, k.most, mid-size);
+      rows_room = omega (arith, k.rows_room, mid_size);
+      most = omega (arith, k.most, mid_size);
     }
 
     module _ (small : Fits w32 w) (home : ℕ) where
@@ -100,7 +100,7 @@ module _ (classes rows : List (List ℕ)) (pool : List ℕ) (c : TreeCounts) (f 
           list_same _ _ first first count
           (λ j h. ap (λ v. record { token = token_at c f (first + j); change = plan_change classes pool c f v })
           (plan_kept classes rows pool c f out mid home w (pick (eqb (first + j) note.member) note.named 0) k.formed
-          (λ n l. later-word (names_start c + 8 * n) (omega arith)) (λ n l. later-word (names_start c + 8 * n + 4) (omega arith))
+          (λ n l. later_word (names_start c + 8 * n) (omega arith)) (λ n l. later_word (names_start c + 8 * n + 4) (omega arith))
           (first + j) (omega (arith, k.inside))))
           ∙ ap (λ v. by v out) e
 
@@ -108,9 +108,9 @@ module _ (classes rows : List (List ℕ)) (pool : List ℕ) (c : TreeCounts) (f 
           TokensBy r classes rows pool c f home w note.member note.named first count names mid new →
           NodeBy r classes rows pool c f home node first count note names out new
       node_done (Done more) new t = record {
-        size = t.size ∙ mid-size;
+        size = t.size ∙ mid_size;
         counted = t.counted ∙ ap (λ v. names + length (new_names v)) part_is;
-        room = omega (arith, t.room, mid-size);
+        room = omega (arith, t.room, mid_size);
         contexts = λ j h. front (nodes_start + 8 * j) (omega (arith, k.there))
             ∙ ap (λ v. word_at v (nodes_start + 8 * j)) g
             ∙ word_before out (nodes_start + 8 * node) (word_bytes w) fits (nodes_start + 8 * j) (omega arith);
@@ -120,7 +120,7 @@ module _ (classes rows : List (List ℕ)) (pool : List ℕ) (c : TreeCounts) (f 
             ∙ ap (λ v. between v (tokens_start c) (tokens_start c + 12 * first)) g
             ∙ part_after out (nodes_start + 8 * node) (word_bytes w) fits (tokens_start c) (tokens_start c + 12 * first) (omega (arith, bytes_length w, k.there));
         tokens = t.tokens ∙ ap (λ v. join (map token_row_bytes (numbered (c.names + names) v))) part_is;
-        kept = λ p l m. t.kept p l m ∙ later-word p (omega arith);
+        kept = λ p l m. t.kept p l m ∙ later_word p (omega arith);
         texts = ap (λ v. list_from (planned_text classes pool c f new) names (length (new_names v))) (sym part_is) ∙ t.texts ∙ ap new_names part_is;
         fits = t.fits;
         behind = t.behind ∙ ap (drop (entry_at c more)) g
@@ -132,6 +132,6 @@ module _ (classes rows : List (List ℕ)) (pool : List ℕ) (c : TreeCounts) (f 
       node_done NoRoom new t =
           let over : NoRow c (names + length (new_names (node_planned classes rows pool c f out home node first count note))) mid =
           subst (λ v. NoRow c (names + length (new_names v)) mid) part_is t in
-          record { over = omega (arith, over.over, mid-size) }
+          record { over = omega (arith, over.over, mid_size) }
 
-pub ruleset noding = (node_file, node_out, node_parent, node_word, nodes_fit, node_fits, tokens-ready, node_done, rules)
+pub ruleset noding = (node_file, node_out, node_parent, node_word, nodes_fit, node_fits, tokens_ready, node_done, rules)

@@ -46,7 +46,7 @@ use Rattle.tree_rule.specs.Files.{
 }
 use Rattle.tree_rule.specs.Signatures.{opens, node_signature}
 use Rattle.tree_rule.proofs.RowLaws.{list_length, list_append, list_same, sum_append}
-use Rattle.tree_rule.proofs.Reading.{node-tokens}
+use Rattle.tree_rule.proofs.Reading.{node_tokens}
 use Rattle.apply_rule.specs.Changes.{Context, no_method, context_above, context_by, raw_name_at, owner_name, Signed, signed_by, signed_of, Change, change_of, Changed, changed_from, changed_nodes}
 use Rattle.apply_rule.specs.Applying.{new_names, numbered, all_changed}
 use Rattle.apply_rule.specs.Inner.Plans.{mapping_in, changes_in}
@@ -63,8 +63,8 @@ use Rattle.apply_plans.specs.Inner.Passed.{NodeReady, node_planned, NodeTo, Node
 use Rattle.apply_plans.specs.Inner.Plan.{plan_at}
 use Rattle.apply_plans.specs.Inner.Put.{NoRow}
 use Rattle.apply_plans.specs.Inner.Tokens.{planned}
-use Rattle.apply_plans.proofs.ContextNumbers.{number-meant, noted_context}
-use Rattle.apply_plans.proofs.TokenPlans.{token-change}
+use Rattle.apply_plans.proofs.ContextNumbers.{number_meant, noted_context}
+use Rattle.apply_plans.proofs.TokenPlans.{token_change}
 
 sum_more : (f : List ℕ) (i : ℕ) → sum_from (token_count_at f) 0 (i + 1) ≡ sum_from (token_count_at f) 0 i + token_count_at f i
 unfolding sum_from
@@ -122,14 +122,14 @@ module _ (classes rows : List (List ℕ)) (pool class : List ℕ) (c : TreeCount
       }
 
   module _ {new : List ℕ} {i first names : ℕ} (p : NodesTo i first names classes rows pool class c f old new) where
-    pub plans-end : c.nodes ≤ i → PlansMade names classes rows pool class c f old new
+    pub plans_end : c.nodes ≤ i → PlansMade names classes rows pool class c f old new
     unfolding nodes_from changed_nodes all_changed
-    plans-end h =
+    plans_end h =
         let z : i ≡ c.nodes = omega (arith, p.inside) in
         let none : c.nodes - i ≡ 0 = omega arith in
         let whole : all ≡ p.changed =
         p.rest ∙ ap (λ n. p.changed ++ all_changed (changed_nodes (mapping_in classes rows pool) class (name_in (tree_by c f)) p.contexts (nodes_from c f i first n))) none
-        ∙ append-nil-right in
+        ∙ append_nil_right in
         let all_tokens_lem : first ≡ c.tokens = p.firsts ∙ ap (sum_from (token_count_at f) 0) z ∙ k.formed.sums in
         let e : tokens_start c + 12 * first ≡ names_start c = omega (arith, all_tokens_lem) in
         record {
@@ -142,12 +142,12 @@ module _ (classes rows : List (List ℕ)) (pool class : List ℕ) (c : TreeCount
           behind = p.behind;
         }
       where
-        append-nil-right : p.changed ++ [] ≡ p.changed
-        append-nil-right = mathlib.Core.List.append-nil p.changed
+        append_nil_right : p.changed ++ [] ≡ p.changed
+        append_nil_right = mathlib.Core.List.append-nil p.changed
 
     -- the notes are as they were
-    pub now-told : NotesTold classes pool c f new
-    now-told = record {
+    pub now_told : NotesTold classes pool c f new
+    now_told = record {
       room = omega (arith, k.told.room, p.size);
       says = λ n h. rw (p.kept (names_start c + 8 * n) (omega arith) (omega arith), p.kept (names_start c + 8 * n + 4) (omega arith) (omega arith)) (k.told.says n h);
     }
@@ -157,11 +157,11 @@ module _ (classes rows : List (List ℕ)) (pool class : List ℕ) (c : TreeCount
       node_row = omega (arith, k.formed.size)
 
       module _ {n : ℕ} (e : n ≡ token_count_at f i) where
-        pub node-inside : first + n ≤ c.tokens
-        node-inside = let t = node-tokens c f k.formed i h in let y = p.firsts in omega arith
+        pub node_inside : first + n ≤ c.tokens
+        node_inside = let t = node_tokens c f k.formed i h in let y = p.firsts in omega arith
 
         pub first_fits : c.tokens < 4294967296 → Fits w64 (first + n)
-        first_fits l = let t = node-inside in omega arith
+        first_fits l = let t = node_inside in omega arith
 
         abbrev ts : List Token
         ts = list_from (token_at c f) first n
@@ -170,8 +170,8 @@ module _ (classes rows : List (List ℕ)) (pool class : List ℕ) (c : TreeCount
         s = signed_of class name ts
 
         module _ {note : NodeNote} (g : note ≡ note_signed classes rows pool class first s) where
-          member-few : (q : Key) → (member_note classes rows pool class q).named ≤ length rows
-          member-few q = go (opens q.descriptor) refl
+          member_few : (q : Key) → (member_note classes rows pool class q).named ≤ length rows
+          member_few q = go (opens q.descriptor) refl
             where
               few : (o : Found) → ((j : ℕ) → o ≡ Row j → j < length rows) → noted_row o ≤ length rows
               few (Row j) l = let y = l j refl in omega arith
@@ -181,26 +181,26 @@ module _ (classes rows : List (List ℕ)) (pool class : List ℕ) (c : TreeCount
               go true y = rw y (few (method_row (read_back classes pool) q rows pool) (λ j l. (method_found (read_back classes pool) q rows pool l).0))
               go false y = rw y (few (field_row (read_back classes pool) q rows pool) (λ j l. (field_found (read_back classes pool) q rows pool l).0))
 
-          named-few : (y : NodeSignature) → (note_signed classes rows pool class first (signed_by class name ts y)).named ≤ length rows
-          named-few Absent = omega arith
-          named-few (Present m d o) =
-              member-few (key (owner_name class name ts o) (raw_name_at name ts m) (raw_name_at name ts d))
+          named_few : (y : NodeSignature) → (note_signed classes rows pool class first (signed_by class name ts y)).named ≤ length rows
+          named_few Absent = omega arith
+          named_few (Present m d o) =
+              member_few (key (owner_name class name ts o) (raw_name_at name ts m) (raw_name_at name ts d))
 
-          pub node-ready : NodeReady classes rows pool c f i first n note names new
-          node-ready = record {
+          pub node_ready : NodeReady classes rows pool c f i first n note names new
+          node_ready = record {
             formed = k.formed;
             there = h;
-            inside = node-inside;
-            few = rw g (named-few (node_signature name ts));
-            told = now-told;
+            inside = node_inside;
+            few = rw g (named_few (node_signature name ts));
+            told = now_told;
             low = k.low;
             rows_room = omega (arith, p.room, p.size);
             most = omega (arith, k.most, p.size);
           }
 
           -- the number of its line context
-          above-is : word_above f new i ≡ context_number classes rows pool class (context_above p.contexts (parent_by (parent_at f i)))
-          above-is = go i refl
+          above_is : word_above f new i ≡ context_number classes rows pool class (context_above p.contexts (parent_by (parent_at f i)))
+          above_is = go i refl
             where
               go : (j : ℕ) → i ≡ j → word_above f new i ≡ context_number classes rows pool class (context_above p.contexts (parent_by (parent_at f i)))
               go zero y = rw (y, k.formed.root)
@@ -214,17 +214,17 @@ module _ (classes rows : List (List ℕ)) (pool class : List ℕ) (c : TreeCount
           abbrev here : Context
           here = contextFrom (mapping_in classes rows pool) class (name_in (tree_by c f)) c f p.contexts i first
 
-          context-is : context_noted f new i note ≡ context_number classes rows pool class here
-          context-is =
-              noted_context classes rows pool class first s (context_above p.contexts (parent_by (parent_at f i))) above-is g
+          context_is : context_noted f new i note ≡ context_number classes rows pool class here
+          context_is =
+              noted_context classes rows pool class first s (context_above p.contexts (parent_by (parent_at f i))) above_is g
               ∙ ap (λ v. context_number classes rows pool class (context_by class (signed_of class name (list_from (token_at c f) first v)) (context_above p.contexts (parent_by (parent_at f i))))) e
 
           module _ {given : Found} (v : given ≡ last_raw classes pool class) {home : ℕ} (u : home ≡ home_row given) where
             w : home ≡ home_row (last_raw classes pool class)
             w = u ∙ ap home_row v
 
-            pub node-meant : MeantBy classes rows pool home (context_noted f new i note)
-            node-meant = number-meant classes rows pool class w here context-is
+            pub node_meant : MeantBy classes rows pool home (context_noted f new i note)
+            node_meant = number_meant classes rows pool class w here context_is
 
             abbrev part : List Changed
             part = changesFrom (mapping_in classes rows pool) class (name_in (tree_by c f)) c f p.contexts i first
@@ -254,21 +254,21 @@ module _ (classes rows : List (List ℕ)) (pool class : List ℕ) (c : TreeCount
                 ∙ list_length (token_at c f) first (token_count_at f i) ∙ sym e
 
             -- each token's plan stands for its change
-            planned-is : (j : ℕ) → j < n →
+            planned_is : (j : ℕ) → j < n →
                 planned classes rows pool c f new home (context_noted f new i note) note.member note.named (first + j)
                 ≡ record { token = token_at c f (first + j); change = change_of (mapping_in classes rows pool) class (name_in (tree_by c f)) s here (0 + j) (token_at c f (first + j)) }
             unfolding plan_at
-            planned-is j m =
+            planned_is j m =
                 let zero_at : 0 + j ≡ j = omega arith in
                 ap (λ v. record { token = token_at c f (first + j); change = v })
-                (token-change classes rows pool class c f new now-told w first s here g context-is j (token_at c f (first + j))
-                (k.formed.tokens (first + j) (let y = node-inside in omega arith))
+                (token_change classes rows pool class c f new now_told w first s here g context_is j (token_at c f (first + j))
+                (k.formed.tokens (first + j) (let y = node_inside in omega arith))
                 ∙ ap (λ v. change_of (mapping_in classes rows pool) class (name_in (tree_by c f)) s here v (token_at c f (first + j))) (sym zero_at))
 
             part_is : node_planned classes rows pool c f new home i first n note ≡ part
             part_is =
                 changed_list (change_of (mapping_in classes rows pool) class (name_in (tree_by c f)) s here) (token_at c f)
-                (planned classes rows pool c f new home (context_noted f new i note) note.member note.named) 0 first n planned-is
+                (planned classes rows pool c f new home (context_noted f new i note) note.member note.named) 0 first n planned_is
                 ∙ ap (λ v. changed_from (change_of (mapping_in classes rows pool) class (name_in (tree_by c f)) (signed_of class name (list_from (token_at c f) first v)) here) 0
                 (list_from (token_at c f) first v)) e
 
@@ -280,8 +280,8 @@ module _ (classes rows : List (List ℕ)) (pool class : List ℕ) (c : TreeCount
 
             module _ (r : Planned) (next : List ℕ) (d : NodeBy r classes rows pool c f home i first n note names new next) where
               -- no room for a plan of this node: all nodes do not add less
-              pub plans-over : r ≡ NoRoom → NoRow c (length (new_names all)) old
-              plans-over y =
+              pub plans_over : r ≡ NoRoom → NoRow c (length (new_names all)) old
+              plans_over y =
                   let none : NoRow c (names + length (new_names (node_planned classes rows pool c f new home i first n note))) new = rw y at d in
                   let same = ap (λ l. length (new_names l)) part_is in
                   let whole = ap (λ l. length (new_names l)) split ∙ ap length (new_append (p.changed ++ part) later)
@@ -292,25 +292,25 @@ module _ (classes rows : List (List ℕ)) (pool class : List ℕ) (c : TreeCount
                 done : NodeTo more classes rows pool c f home i first n note names new next
                 done = rw y at d
 
-                more-is : more ≡ names + length (new_names part)
-                more-is = done.counted ∙ ap (λ l. names + length (new_names l)) part_is
+                more_is : more ≡ names + length (new_names part)
+                more_is = done.counted ∙ ap (λ l. names + length (new_names l)) part_is
 
-                contexts-more : (j : ℕ) → j < i + 1 → word_at next (nodes_start + 8 * j) ≡ context_number classes rows pool class (get_or (p.contexts ++ (here ∷ [])) j no_method)
-                contexts-more j m = go (le_or_lt i j)
+                contexts_more : (j : ℕ) → j < i + 1 → word_at next (nodes_start + 8 * j) ≡ context_number classes rows pool class (get_or (p.contexts ++ (here ∷ [])) j no_method)
+                contexts_more j m = go (le_or_lt i j)
                   where
                     go : (i ≤ j) ⊎ (j < i) → word_at next (nodes_start + 8 * j) ≡ context_number classes rows pool class (get_or (p.contexts ++ (here ∷ [])) j no_method)
                     go (inl o) =
                         let z : i ≡ j = omega arith in
                         let x : length p.contexts ≡ j = p.context_count ∙ z in
-                        ap (λ v. word_at next (nodes_start + 8 * v)) (sym z) ∙ done.context ∙ context-is
+                        ap (λ v. word_at next (nodes_start + 8 * v)) (sym z) ∙ done.context ∙ context_is
                         ∙ ap (context_number classes rows pool class) (sym (get_or-append_seam p.contexts here [] no_method))
                         ∙ ap (λ v. context_number classes rows pool class (get_or (p.contexts ++ (here ∷ [])) v no_method)) x
                     go (inr o) =
                         done.contexts j o ∙ p.numbers j o
                         ∙ ap (context_number classes rows pool class) (sym (get_or-append p.contexts (here ∷ []) no_method j (omega (arith, p.context_count))))
 
-                tokens-more : between next (tokens_start c) (tokens_start c + 12 * (first + n)) ≡ join (map token_row_bytes (numbered c.names (p.changed ++ part)))
-                tokens-more =
+                tokens_more : between next (tokens_start c) (tokens_start c + 12 * (first + n)) ≡ join (map token_row_bytes (numbered c.names (p.changed ++ part)))
+                tokens_more =
                     sym (parts_join next (tokens_start c) (tokens_start c + 12 * first) (tokens_start c + 12 * (first + n)) (omega arith) (omega arith))
                     ∙ ap (λ v. v ++ between next (tokens_start c + 12 * first) (tokens_start c + 12 * (first + n))) (done.earlier ∙ p.tokens)
                     ∙ ap (λ v. join (map token_row_bytes (numbered c.names p.changed)) ++ v)
@@ -327,7 +327,7 @@ module _ (classes rows : List (List ℕ)) (pool class : List ℕ) (c : TreeCount
                 texts_more : planned_names classes pool c f next more ≡ new_names (p.changed ++ part)
                 texts_more =
                     let zero_at : 0 + names ≡ names = omega arith in
-                    ap (planned_names classes pool c f next) more-is
+                    ap (planned_names classes pool c f next) more_is
                     ∙ list_append (planned_text classes pool c f next) 0 names (length (new_names part))
                     ∙ ap (λ v. v ++ list_from (planned_text classes pool c f next) (0 + names) (length (new_names part)))
                     (list_same (planned_text classes pool c f next) (planned_text classes pool c f new) 0 0 names (λ j m. text_kept (0 + j) (omega arith)) ∙ p.texts)
@@ -349,31 +349,31 @@ module _ (classes rows : List (List ℕ)) (pool class : List ℕ) (c : TreeCount
                         rw (done.kept (entry_at c j) (omega arith) (omega arith), done.kept (entry_at c j + 4) (omega arith) (omega arith))
                         (fits_kept (word_at new (entry_at c j)) (word_at new (entry_at c j + 4)) (p.fits.fits j o))
 
-                rest-kept : drop (entry_at c more) next ≡ drop (entry_at c more) old
-                rest-kept =
-                    let z : entry_at c names + 8 * length (new_names part) ≡ entry_at c more = omega (arith, more-is) in
+                rest_kept : drop (entry_at c more) next ≡ drop (entry_at c more) old
+                rest_kept =
+                    let z : entry_at c names + 8 * length (new_names part) ≡ entry_at c more = omega (arith, more_is) in
                     done.behind ∙ ap (λ v. drop v new) (sym z) ∙ sym (drop-drop (8 * length (new_names part)) (entry_at c names) new)
                     ∙ ap (drop (8 * length (new_names part))) p.behind
                     ∙ drop-drop (8 * length (new_names part)) (entry_at c names) old ∙ ap (λ v. drop v old) z
 
-                pub plans-more : NodesTo (i + 1) (first + n) more classes rows pool class c f old next
-                plans-more = record {
+                pub plans_more : NodesTo (i + 1) (first + n) more classes rows pool class c f old next
+                plans_more = record {
                   inside = omega arith;
                   firsts = omega (arith, p.firsts, sum_more f i);
                   size = done.size ∙ p.size;
                   contexts = p.contexts ++ (here ∷ []);
                   context_count = length-append p.contexts (here ∷ []) ∙ ap (λ v. v + 1) p.context_count;
-                  numbers = contexts-more;
+                  numbers = contexts_more;
                   changed = p.changed ++ part;
                   changed_count = length-append p.changed part ∙ rw (p.changed_count, part_size);
                   rest = split;
-                  counted = more-is ∙ sym names_length;
+                  counted = more_is ∙ sym names_length;
                   room = omega (arith, done.room, p.size);
-                  tokens = tokens-more;
+                  tokens = tokens_more;
                   kept = λ q l m. done.kept q l (omega arith) ∙ p.kept q l m;
                   texts = texts_more;
                   fits = record { fits = fits_more };
-                  behind = rest-kept;
+                  behind = rest_kept;
                 }
 
-pub ruleset passing = (plans_start, plans-end, now-told, node_row, node-inside, first_fits, node-ready, node-meant, plans-over, plans-more, rules)
+pub ruleset passing = (plans_start, plans_end, now_told, node_row, node_inside, first_fits, node_ready, node_meant, plans_over, plans_more, rules)

@@ -34,20 +34,20 @@ module _ (rows : List (List ℕ)) (n : ℕ) where
   no_member e = rw e
 
   module _ (h : n ≡ 0 → ⊥) where
-    pub member-above : 1 ≤ n
-    member-above = omega arith
+    pub member_above : 1 ≤ n
+    member_above = omega arith
 
     pub member_inside : n ≤ length rows → n - 1 < length rows
     member_inside l = omega arith
 
-    pub some-member : {m : Member} → m ≡ unpack_member (get_or rows (n - 1) []) → plan.Text m.name.place m.name.length ≡ member_plan rows n
-    some-member {m} e = ap (λ x. text_plan x.name) e ∙ go n h
+    pub some_member : {m : Member} → m ≡ unpack_member (get_or rows (n - 1) []) → plan.Text m.name.place m.name.length ≡ member_plan rows n
+    some_member {m} e = ap (λ x. text_plan x.name) e ∙ go n h
       where
         go : (k : ℕ) → (k ≡ 0 → ⊥) → text_plan (unpack_member (get_or rows (k - 1) [])).name ≡ member_plan rows k
         go zero q = absurd (q refl)
         go (suc k) q = let z : suc k - 1 ≡ k = omega arith in rw z
 
-pub ruleset member_plans = (no_member, member-above, member_inside, some-member, rules)
+pub ruleset member_plans = (no_member, member_above, member_inside, some_member, rules)
 
 -- The note about a name.
 module _ (classes : List (List ℕ)) (pool : List ℕ) (c : TreeCounts) (f out : List ℕ) (name : ℕ) {s : ℕ} (e : s ≡ names_start c)
@@ -66,8 +66,8 @@ module _ (classes : List (List ℕ)) (pool : List ℕ) (c : TreeCounts) (f out :
       says : NoteSays number row classes pool (text_at c f name)
       says = rw (g, i, e) (k.says name l)
 
-      pub note-row : row < length classes
-      note-row = go number h says
+      pub note_row : row < length classes
+      note_row = go number h says
         where
           go : (n : ℕ) → (n ≡ 0 → ⊥) → NoteSays n row classes pool (text_at c f name) → row < length classes
           go zero q u = absurd (q refl)
@@ -79,16 +79,16 @@ module _ (classes : List (List ℕ)) (pool : List ℕ) (c : TreeCounts) (f out :
           ap (λ n. noted_plan classes pool (text_at c f name) name n row) z ∙ same
 
       module _ {t : List ℕ} (u : t ≡ text_at c f name) {n : ℕ} (v : n ≡ length (raw_of classes pool row)) where
-        pub whole-note : length t ≡ n → {m : Class} → m ≡ unpack_class (get_or classes row []) →
+        pub whole_note : length t ≡ n → {m : Class} → m ≡ unpack_class (get_or classes row []) →
             plan.Text m.display.place m.display.length ≡ name_plan classes pool c f out name
-        whole-note w {m} x =
+        whole_note w {m} x =
             ap (λ y. text_plan y.display) x
             ∙ sym (ap (λ b. pick b (text_plan (unpack_class (get_or classes row [])).display) (plan.Shown name))
             (eq-eqb (length (text_at c f name)) (length (raw_of classes pool row)) (sym (ap length u) ∙ w ∙ v)))
             ∙ above
 
-        pub part-note : (length t ≡ n → ⊥) → plan.Shown name ≡ name_plan classes pool c f out name
-        part-note w =
+        pub part_note : (length t ≡ n → ⊥) → plan.Shown name ≡ name_plan classes pool c f out name
+        part_note w =
             sym (ap (λ b. pick b (text_plan (unpack_class (get_or classes row [])).display) (plan.Shown name))
             (ne_eqb (length (text_at c f name)) (length (raw_of classes pool row)) (λ x. w (ap length u ∙ x ∙ sym v))))
             ∙ above
@@ -96,7 +96,7 @@ module _ (classes : List (List ℕ)) (pool : List ℕ) (c : TreeCounts) (f out :
 pub file_there : {c : TreeCounts} {f : List ℕ} → FormedBy c f → file_length c ≤ length f
 file_there k = omega (arith, k.size)
 
-pub ruleset name_plans = (note_inside, no_note, note-row, whole-note, part-note, file_there, rules)
+pub ruleset name_plans = (note_inside, no_note, note_row, whole_note, part_note, file_there, rules)
 
 -- A line.
 pub line_some : (l : LineName) {d : DisplayLine} → l ≡ line.Line d → plan.Line d.0 ≡ line_plan l
@@ -124,18 +124,18 @@ module _ (c : TreeCounts) (f : List ℕ) (i : ℕ) {s : ℕ} (e : s ≡ tokens_s
     unfolding plan_at
     there l = sym (ap (plan_by classes rows pool c f out home context number) (told ∙ l))
 
-    pub plan-name : kind ≡ 2 → {p : Plan} → p ≡ name_plan classes pool c f out raw → p ≡ plan_at classes rows pool c f out home context number i
-    plan-name k j = j ∙ there {t = Descriptor raw b} (rw k)
+    pub plan_name : kind ≡ 2 → {p : Plan} → p ≡ name_plan classes pool c f out raw → p ≡ plan_at classes rows pool c f out home context number i
+    plan_name k j = j ∙ there {t = Descriptor raw b} (rw k)
 
-    pub plan-member : kind ≡ 1 → {p : Plan} → p ≡ member_plan rows number → p ≡ plan_at classes rows pool c f out home context number i
-    plan-member k j = j ∙ there {t = MemberName raw b} (rw k)
+    pub plan_member : kind ≡ 1 → {p : Plan} → p ≡ member_plan rows number → p ≡ plan_at classes rows pool c f out home context number i
+    plan_member k j = j ∙ there {t = MemberName raw b} (rw k)
 
-    pub plan-line : kind ≡ 3 → {l : LineName} → l ≡ line_by classes rows pool home context (raw_line raw) → {p : Plan} → p ≡ line_plan l →
+    pub plan_line : kind ≡ 3 → {l : LineName} → l ≡ line_by classes rows pool home context (raw_line raw) → {p : Plan} → p ≡ line_plan l →
         p ≡ plan_at classes rows pool c f out home context number i
-    plan-line k j m = m ∙ ap line_plan j ∙ there {t = SourceLine raw b} (rw k)
+    plan_line k j m = m ∙ ap line_plan j ∙ there {t = SourceLine raw b} (rw k)
 
-    pub plan-other : (kind ≡ 2 → ⊥) → (kind ≡ 1 → ⊥) → (kind ≡ 3 → ⊥) → plan.Stays ≡ plan_at classes rows pool c f out home context number i
-    plan-other x y z = there {t = Other raw b} (rw (ne_eqb kind 1 y, ne_eqb kind 2 x, ne_eqb kind 3 z))
+    pub plan_other : (kind ≡ 2 → ⊥) → (kind ≡ 1 → ⊥) → (kind ≡ 3 → ⊥) → plan.Stays ≡ plan_at classes rows pool c f out home context number i
+    plan_other x y z = there {t = Other raw b} (rw (ne_eqb kind 1 y, ne_eqb kind 2 x, ne_eqb kind 3 z))
 
   pub name_below : FormedBy c f → i < c.tokens → {kind : ℕ} → kind ≡ word_at f (s + 12 * i) → kind ≡ 2 → {raw : ℕ} → raw ≡ word_at f (s + 12 * i + 4) → raw < c.names
   name_below k l {kind} g m {raw} h =
@@ -143,4 +143,4 @@ module _ (c : TreeCounts) (f : List ℕ) (i : ℕ) {s : ℕ} (e : s ≡ tokens_s
       let below : NamesBelow c.names (Descriptor raw (word_at f (tokens_start c + 12 * i + 8))) = rw is at (k.tokens i l) in
       below.0
 
-pub ruleset token_plans = (row_inside, kind_inside, plan-name, plan-member, plan-line, plan-other, name_below, rules)
+pub ruleset token_plans = (row_inside, kind_inside, plan_name, plan_member, plan_line, plan_other, name_below, rules)

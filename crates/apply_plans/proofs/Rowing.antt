@@ -64,14 +64,14 @@ module _ (c : TreeCounts) (f : List ℕ) (at names : ℕ) (out : List ℕ) (k : 
     pub number_fits : Fits w32 names
     number_fits = omega (arith, k.most)
 
-    pub number-more-fits : Fits w32 (c.names + names)
-    number-more-fits = omega (arith, k.most)
+    pub number_more_fits : Fits w32 (c.names + names)
+    number_more_fits = omega (arith, k.most)
 
-    pub more-fits : Fits w64 (names + 1)
-    more-fits = omega (arith, k.most)
+    pub more_fits : Fits w64 (names + 1)
+    more_fits = omega (arith, k.most)
 
-    pub row-file : at + 12 ≤ length f
-    row-file = k.file
+    pub row_file : at + 12 ≤ length f
+    row_file = k.file
 
     pub row_room : at + 12 ≤ length out
     row_room = omega (arith, k.before)
@@ -79,27 +79,27 @@ module _ (c : TreeCounts) (f : List ℕ) (at names : ℕ) (out : List ℕ) (k : 
     abbrev row : List ℕ
     row = three_words (word_at f at) (word_at f (at + 4)) (c.names + names)
 
-    row-size : length (put out at row) ≡ length out
-    row-size = length_put out at row (omega (arith, k.before, three_length (word_at f at) (word_at f (at + 4)) (c.names + names)))
+    row_size : length (put out at row) ≡ length out
+    row_size = length_put out at row (omega (arith, k.before, three_length (word_at f at) (word_at f (at + 4)) (c.names + names)))
 
     module _ {b : List ℕ} (g : b ≡ put out at row) where
-      row-long : length b ≡ length out
-      row-long = ap length g ∙ row-size
+      row_long : length b ≡ length out
+      row_long = ap length g ∙ row_size
 
-      pub first-room : s + 8 * names + 4 ≤ length b
-      first-room = omega (arith, row-long)
+      pub first_room : s + 8 * names + 4 ≤ length b
+      first_room = omega (arith, row_long)
 
-      pub second-room : (x : ℕ) {d : List ℕ} → d ≡ put b (s + 8 * names) (word_bytes x) → s + 8 * names + 4 + 4 ≤ length d
-      second-room x {d} i =
-          let z : length d ≡ length b = ap length i ∙ length_put b (s + 8 * names) (word_bytes x) (omega (arith, bytes_length x, row-long)) in
-          omega (arith, row-long)
+      pub second_room : (x : ℕ) {d : List ℕ} → d ≡ put b (s + 8 * names) (word_bytes x) → s + 8 * names + 4 + 4 ≤ length d
+      second_room x {d} i =
+          let z : length d ≡ length b = ap length i ∙ length_put b (s + 8 * names) (word_bytes x) (omega (arith, bytes_length x, row_long)) in
+          omega (arith, row_long)
 
       pub name_put : (x y : ℕ) {d : List ℕ} → d ≡ put b (s + 8 * names) (word_bytes x) → {n : List ℕ} → n ≡ put d (s + 8 * names + 4) (word_bytes y) →
           NamePut (names + 1) c f at x y names out n
       name_put x y {d} i {n} j =
           let all : n ≡ put (put b (s + 8 * names) (word_bytes x)) (s + 8 * names + 4) (word_bytes y) = rw (← i) j in
           let both : n ≡ put b (s + 8 * names) (word_bytes x ++ word_bytes y) =
-          all ∙ word_more b (s + 8 * names) (word_bytes x) y 4 (bytes_length x) (omega (arith, row-long)) in
+          all ∙ word_more b (s + 8 * names) (word_bytes x) y 4 (bytes_length x) (omega (arith, row_long)) in
           record {
             count = refl;
             room = omega arith;
@@ -107,7 +107,7 @@ module _ (c : TreeCounts) (f : List ℕ) (at names : ℕ) (out : List ℕ) (k : 
           }
 
 pub ruleset name_planning =
-    (names_fit, place_fits, place_more_fits, name_none, number_fits, number-more-fits, more-fits, row-file, row_room, first-room, second-room, name_put, rules)
+    (names_fit, place_fits, place_more_fits, name_none, number_fits, number_more_fits, more_fits, row_file, row_room, first_room, second_room, name_put, rules)
 
 -- The row of a token by its plan.
 module _ (c : TreeCounts) (f : List ℕ) (token : ℕ) (p : Plan) (names : ℕ) (out : List ℕ) (k : PutReady c f token p names out) {s : ℕ} (e : s ≡ tokens_start c) where

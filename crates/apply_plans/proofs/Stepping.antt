@@ -39,7 +39,7 @@ use Rattle.apply_plans.specs.Inner.Entries.{entry_text, entry_at, planned_text, 
 use Rattle.apply_plans.specs.Inner.Plan.{plan_at, plan_change, added, row_by, entry_by, PlanLow}
 use Rattle.apply_plans.specs.Inner.Put.{NoRow, PutReady, PlanPut, PutBy}
 use Rattle.apply_plans.specs.Inner.Tokens.{TurnReady, TokensReady, node_plan, planned, planned_from, TokensTo}
-use Rattle.apply_plans.proofs.Changing.{plan_row, plan_count, plan-low, shown_fits, plan_kept}
+use Rattle.apply_plans.proofs.Changing.{plan_row, plan_count, plan_low, shown_fits, plan_kept}
 
 -- One token.
 module _ (classes rows : List (List ℕ)) (pool : List ℕ) (c : TreeCounts) (f : List ℕ) (home context number token names : ℕ) (out : List ℕ)
@@ -48,20 +48,20 @@ module _ (classes rows : List (List ℕ)) (pool : List ℕ) (c : TreeCounts) (f 
   names_small = omega (arith, k.rows_room, k.most)
 
   module _ {p : Plan} (e : p ≡ plan_at classes rows pool c f out home context number token) where
-    pub turn-ready : PutReady c f token p names out
-    turn-ready = record {
+    pub turn_ready : PutReady c f token p names out
+    turn_ready = record {
       formed = k.formed;
       inside = k.inside;
       rows = k.rows_room;
       most = k.most;
-      low = rw e (plan-low classes rows pool c f out home context number k.low k.told k.few names_small k.formed token k.inside);
+      low = rw e (plan_low classes rows pool c f out home context number k.low k.told k.few names_small k.formed token k.inside);
     }
 
-    pub turn-done : (r : Planned) (new : List ℕ) → PutBy r c f token p names out new →
+    pub turn_done : (r : Planned) (new : List ℕ) → PutBy r c f token p names out new →
         PutBy r c f token (plan_at classes rows pool c f out home context number token) names out new
-    turn-done r new = subst (λ x. PutBy r c f token x names out new) e
+    turn_done r new = subst (λ x. PutBy r c f token x names out new) e
 
-pub ruleset turning = (turn-ready, turn-done, rules)
+pub ruleset turning = (turn_ready, turn_done, rules)
 
 pub own_yes : (token member number : ℕ) → token ≡ member → number ≡ pick (eqb token member) number 0
 own_yes token member number e = sym (rw (eq-eqb token member e))
@@ -197,18 +197,18 @@ module _ {classes rows : List (List ℕ)} {pool : List ℕ} {c : TreeCounts} {f 
     abbrev own : ℕ
     own = pick (eqb (first + n) member) number 0
 
-    own-few : own ≤ length rows
-    own-few = go (eqb (first + n) member)
+    own_few : own ≤ length rows
+    own_few = go (eqb (first + n) member)
       where
         go : (b : Bool) → pick b number 0 ≤ length rows
         go true = k.ready.few
         go false = omega arith
 
-    pub step-ready : {w : ℕ} → w ≡ own → TurnReady classes rows pool c f home context w (first + n) more new
-    step-ready e = rw e (record {
+    pub step_ready : {w : ℕ} → w ≡ own → TurnReady classes rows pool c f home context w (first + n) more new
+    step_ready e = rw e (record {
       formed = k.ready.formed;
       inside = there;
-      few = own-few;
+      few = own_few;
       told = notes_told;
       meant = k.ready.meant;
       low = k.ready.low;
@@ -219,8 +219,8 @@ module _ {classes rows : List (List ℕ)} {pool : List ℕ} {c : TreeCounts} {f 
     abbrev p : Plan
     p = node_plan classes rows pool c f old home context member number (first + n)
 
-    same-plan : plan_at classes rows pool c f new home context own (first + n) ≡ p
-    same-plan = plan_kept classes rows pool c f old new home context own k.ready.formed first_note second_note (first + n) there
+    same_plan : plan_at classes rows pool c f new home context own (first + n) ≡ p
+    same_plan = plan_kept classes rows pool c f old new home context own k.ready.formed first_note second_note (first + n) there
 
     abbrev this : Changed
     this = planned classes rows pool c f old home context member number (first + n)
@@ -254,14 +254,14 @@ module _ {classes rows : List (List ℕ)} {pool : List ℕ} {c : TreeCounts} {f 
 
     module _ {w : ℕ} (e : w ≡ own) (r : Planned) (out : List ℕ)
         (g : PutBy r c f (first + n) (plan_at classes rows pool c f new home context w (first + n)) more new out) where
-      put-by : PutBy r c f (first + n) p more new out
-      put-by = subst (λ x. PutBy r c f (first + n) x more new out) same-plan
+      put_by : PutBy r c f (first + n) p more new out
+      put_by = subst (λ x. PutBy r c f (first + n) x more new out) same_plan
           (subst (λ x. PutBy r c f (first + n) (plan_at classes rows pool c f new home context x (first + n)) more new out) e g)
 
       -- there is no room for the plan of a name: what all tokens add is not less
-      pub step-over : r ≡ NoRoom → NoRow c (names + length (new_names (part count))) old
-      step-over i =
-          let none : NoRow c (more + added p) new = rw i at put-by in
+      pub step_over : r ≡ NoRoom → NoRow c (names + length (new_names (part count))) old
+      step_over i =
+          let none : NoRow c (more + added p) new = rw i at put_by in
           let z : n + 1 + (count - (n + 1)) ≡ count = omega arith in
           let rest : List Changed = list_from (planned classes rows pool c f old home context member number) (first + (n + 1)) (count - (n + 1)) in
           let split : part count ≡ part (n + 1) ++ rest =
@@ -271,7 +271,7 @@ module _ {classes rows : List (List ℕ)} {pool : List ℕ} {c : TreeCounts} {f 
 
       module _ {next : ℕ} (i : r ≡ Done next) where
         done : PlanPut next c f (first + n) p more new out
-        done = rw i at put-by
+        done = rw i at put_by
 
         abbrev at : ℕ
         at = tokens_start c + 12 * (first + n)
@@ -282,8 +282,8 @@ module _ {classes rows : List (List ℕ)} {pool : List ℕ} {c : TreeCounts} {f 
         row_is : length row ≡ 12
         row_is = three_length _ _ _
 
-        entry-is : length (entry_by p) ≡ 8 * added p
-        entry-is = entry_length classes pool c f new at p
+        entry_is : length (entry_by p) ≡ 8 * added p
+        entry_is = entry_length classes pool c f new at p
 
         row_fits : at + length row ≤ length new
         row_fits = let l = there in omega (arith, row_is, k.to.size, k.ready.rows_room)
@@ -291,39 +291,39 @@ module _ {classes rows : List (List ℕ)} {pool : List ℕ} {c : TreeCounts} {f 
         abbrev mid : List ℕ
         mid = put new at row
 
-        mid-size : length mid ≡ length new
-        mid-size = length_put new at row row_fits
+        mid_size : length mid ≡ length new
+        mid_size = length_put new at row row_fits
 
-        entry-room : entry_at c more + length (entry_by p) ≤ length mid
-        entry-room = omega (arith, entry-is, mid-size, done.room)
+        entry_room : entry_at c more + length (entry_by p) ≤ length mid
+        entry_room = omega (arith, entry_is, mid_size, done.room)
 
-        out-size : length out ≡ length new
-        out-size = ap length done.is ∙ length_put mid (entry_at c more) (entry_by p) entry-room ∙ mid-size
+        out_size : length out ≡ length new
+        out_size = ap length done.is ∙ length_put mid (entry_at c more) (entry_by p) entry_room ∙ mid_size
 
         -- what stands between the rows of tokens and the new plan is not touched
-        between-word : (q : ℕ) → at + 12 ≤ q → q + 4 ≤ entry_at c more → word_at out q ≡ word_at new q
-        between-word q l m =
+        between_word : (q : ℕ) → at + 12 ≤ q → q + 4 ≤ entry_at c more → word_at out q ≡ word_at new q
+        between_word q l m =
             ap (λ v. word_at v q) done.is
-            ∙ word_before mid (entry_at c more) (entry_by p) entry-room q m
+            ∙ word_before mid (entry_at c more) (entry_by p) entry_room q m
             ∙ word_after new at row row_fits q (omega (arith, row_is))
 
-        names-first : names ≤ more
-        names-first = omega (arith, k.to.counted)
+        names_first : names ≤ more
+        names_first = omega (arith, k.to.counted)
 
-        tokens-more : between out (tokens_start c + 12 * first) (tokens_start c + 12 * (first + (n + 1))) ≡
+        tokens_more : between out (tokens_start c + 12 * first) (tokens_start c + 12 * (first + (n + 1))) ≡
             join (map token_row_bytes (numbered (c.names + names) (part (n + 1))))
-        tokens-more =
+        tokens_more =
             let z : tokens_start c + 12 * (first + (n + 1)) ≡ at + length row = omega (arith, row_is) in
             let l = there in
             ap (λ v. between v (tokens_start c + 12 * first) (tokens_start c + 12 * (first + (n + 1)))) done.is
-            ∙ part_before mid (entry_at c more) (entry_by p) entry-room (tokens_start c + 12 * first) (tokens_start c + 12 * (first + (n + 1))) (omega arith)
+            ∙ part_before mid (entry_at c more) (entry_by p) entry_room (tokens_start c + 12 * first) (tokens_start c + 12 * (first + (n + 1))) (omega arith)
             ∙ ap (between mid (tokens_start c + 12 * first)) z
             ∙ part_more new at row row_fits (tokens_start c + 12 * first) (omega arith)
             ∙ ap (λ v. v ++ row) k.to.tokens
             ∙ sym rows_more
 
         low : PlanLow p
-        low = plan-low classes rows pool c f old home context own k.ready.low k.ready.told own-few
+        low = plan_low classes rows pool c f old home context own k.ready.low k.ready.told own_few
             (omega (arith, k.ready.rows_room, k.ready.most)) k.ready.formed (first + n) there
 
         -- texts of plans before
@@ -331,13 +331,13 @@ module _ {classes rows : List (List ℕ)} {pool : List ℕ} {c : TreeCounts} {f 
         unfolding planned_text
         text_kept j l =
             let m = there in
-            rw (between-word (entry_at c j) (omega arith) (omega arith), between-word (entry_at c j + 4) (omega arith) (omega arith))
+            rw (between_word (entry_at c j) (omega arith) (omega arith), between_word (entry_at c j + 4) (omega arith) (omega arith))
 
-        text-here : added p ≡ 1 → planned_text classes pool c f out more ∷ [] ≡ name_of this.change
+        text_here : added p ≡ 1 → planned_text classes pool c f out more ∷ [] ≡ name_of this.change
         unfolding planned_text
-        text-here a =
+        text_here a =
             ap (λ v. entry_text classes pool c f (word_at v (entry_at c more)) (word_at v (entry_at c more + 4)) ∷ []) done.is
-            ∙ entry_text_lem classes pool c f mid (entry_at c more) p low (omega (arith, mid-size, done.room)) a
+            ∙ entry_text_lem classes pool c f mid (entry_at c more) p low (omega (arith, mid_size, done.room)) a
 
         texts_more : list_from (planned_text classes pool c f out) names (length (new_names (part (n + 1)))) ≡ new_names (part (n + 1))
         texts_more =
@@ -348,12 +348,12 @@ module _ {classes rows : List (List ℕ)} {pool : List ℕ} {c : TreeCounts} {f 
             ∙ list_append (planned_text classes pool c f out) names (length (new_names (part n))) (added p)
             ∙ ap (λ v. v ++ list_from (planned_text classes pool c f out) (names + length (new_names (part n))) (added p)) so_far
             ∙ ap (λ v. new_names (part n) ++ list_from (planned_text classes pool c f out) v (added p)) (sym k.to.counted)
-            ∙ ap (λ v. new_names (part n) ++ v) (list_added classes pool c f (planned_text classes pool c f out) more p text-here)
+            ∙ ap (λ v. new_names (part n) ++ v) (list_added classes pool c f (planned_text classes pool c f out) more p text_here)
             ∙ sym names_more
 
         -- plans before are as they were, and so are the notes that they go by
         note_kept : (name : ℕ) → name < c.names → word_at out (names_start c + 8 * name) ≡ word_at new (names_start c + 8 * name)
-        note_kept name l = let m = there in between-word (names_start c + 8 * name) (omega arith) (omega arith)
+        note_kept name l = let m = there in between_word (names_start c + 8 * name) (omega arith) (omega arith)
 
         fits_kept : (a b : ℕ) → EntryFits c new a b → EntryFits c out a b
         fits_kept zero b l = (l.0, rw (note_kept b l.0) l.1)
@@ -365,7 +365,7 @@ module _ {classes rows : List (List ℕ)} {pool : List ℕ} {c : TreeCounts} {f 
             go : (more ≤ j) ⊎ (j < more) → EntryFits c out (word_at out (entry_at c j)) (word_at out (entry_at c j + 4))
             go (inr y) =
                 let x = there in
-                rw (between-word (entry_at c j) (omega arith) (omega arith), between-word (entry_at c j + 4) (omega arith) (omega arith))
+                rw (between_word (entry_at c j) (omega arith) (omega arith), between_word (entry_at c j + 4) (omega arith) (omega arith))
                 (fits_kept (word_at new (entry_at c j)) (word_at new (entry_at c j + 4)) (k.to.fits j l y))
             go (inl y) =
                 let little = added_little p in
@@ -373,7 +373,7 @@ module _ {classes rows : List (List ℕ)} {pool : List ℕ} {c : TreeCounts} {f 
                 let here : j ≡ more = omega (arith, done.count) in
                 subst (λ v. EntryFits c out (word_at out (entry_at c v)) (word_at out (entry_at c v + 4))) (sym here)
                 (subst (λ v. EntryFits c out (word_at v (entry_at c more)) (word_at v (entry_at c more + 4))) (sym done.is)
-                (entry_fits classes pool c f mid (entry_at c more) out p low (omega (arith, mid-size, done.room)) one
+                (entry_fits classes pool c f mid (entry_at c more) out p low (omega (arith, mid_size, done.room)) one
                 (λ name x. let t = shown_fits classes rows pool c f old home context own k.ready.formed (first + n) there x in
                 (t.0, rw (note_kept name t.0, first_note name t.0) t.1))))
 
@@ -382,7 +382,7 @@ module _ {classes rows : List (List ℕ)} {pool : List ℕ} {c : TreeCounts} {f 
             let l = there in
             let z : entry_at c more + 8 * added p ≡ entry_at c next = omega (arith, done.count) in
             ap (drop (entry_at c next)) done.is
-            ∙ drop_put mid (entry_at c more) (entry_by p) entry-room (entry_at c next) (omega (arith, entry-is))
+            ∙ drop_put mid (entry_at c more) (entry_by p) entry_room (entry_at c next) (omega (arith, entry_is))
             ∙ drop_put new at row row_fits (entry_at c next) (omega (arith, row_is))
             ∙ ap (λ v. drop v new) (sym z) ∙ sym (drop-drop (8 * added p) (entry_at c more) new)
             ∙ ap (drop (8 * added p)) k.to.behind
@@ -392,25 +392,25 @@ module _ {classes rows : List (List ℕ)} {pool : List ℕ} {c : TreeCounts} {f 
         front =
             let l = there in
             ap (take (tokens_start c + 12 * first)) done.is
-            ∙ take_put mid (entry_at c more) (entry_by p) entry-room (tokens_start c + 12 * first) (omega arith)
+            ∙ take_put mid (entry_at c more) (entry_by p) entry_room (tokens_start c + 12 * first) (omega arith)
             ∙ take_put new at row row_fits (tokens_start c + 12 * first) (omega arith)
             ∙ k.to.before
 
-        pub steps-more : Stepping classes rows pool c f home context member number first count names old out (n + 1) next
-        steps-more = record {
+        pub steps_more : Stepping classes rows pool c f home context member number first count names old out (n + 1) next
+        steps_more = record {
           ready = k.ready;
           inside = omega arith;
           to = record {
-            size = out-size ∙ k.to.size;
+            size = out_size ∙ k.to.size;
             counted = omega (arith, done.count, k.to.counted, names_length);
             room = let z : next ≡ more + added p = done.count in rw z (omega (arith, done.room, k.to.size));
             before = front;
-            tokens = tokens-more;
-            kept = λ q l m. between-word q (let y = there in omega arith) (let y = names-first in omega arith) ∙ k.to.kept q l m;
+            tokens = tokens_more;
+            kept = λ q l m. between_word q (let y = there in omega arith) (let y = names_first in omega arith) ∙ k.to.kept q l m;
             texts = texts_more;
             fits = fits_more;
             behind = rest;
           };
         }
 
-pub ruleset stepping = (steps_start, steps_end, token_fits, step-ready, step-over, steps-more, rules)
+pub ruleset stepping = (steps_start, steps_end, token_fits, step_ready, step_over, steps_more, rules)

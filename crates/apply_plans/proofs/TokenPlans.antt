@@ -54,7 +54,7 @@ use Rattle.apply_pieces.specs.Inner.Notes.{NoteSays, NotesTold}
 use Rattle.apply_members.specs.declared.node.NodeNote.{NodeNote}
 use Rattle.apply_members.specs.Inner.Notes.{noted_row, member_note, note_signed, context_number, home_row}
 use Rattle.apply_plans.specs.Inner.Plan.{member_plan, noted_plan, line_plan, plan_by, plan_change}
-use Rattle.apply_plans.proofs.ContextNumbers.{number-line}
+use Rattle.apply_plans.proofs.ContextNumbers.{number_line}
 
 module _ (classes rows : List (List ℕ)) (pool class : List ℕ) (c : TreeCounts) (f out : List ℕ) where
   -- A member name shows the name of the row that answers for it.
@@ -127,14 +127,14 @@ module _ (classes rows : List (List ℕ)) (pool class : List ℕ) (c : TreeCount
 
   module _ (told : NotesTold classes pool c f out) {home : ℕ} (h : home ≡ home_row (last_raw classes pool class)) (first : ℕ) (s : Signed) (x : Context)
       {note : NodeNote} (e : note ≡ note_signed classes rows pool class first s) {w : ℕ} (g : w ≡ context_number classes rows pool class x) where
-    pub token-change : (k : ℕ) (t : Token) → NamesBelow c.names t →
+    pub token_change : (k : ℕ) (t : Token) → NamesBelow c.names t →
         plan_change classes pool c f (plan_by classes rows pool c f out home w (pick (eqb (first + k) note.member) note.named 0) t)
         ≡ change_of (mapping_in classes rows pool) class (name_in (tree_by c f)) s x k t
-    token-change k (Other a b) n = refl
-    token-change k (MemberName raw display) n = member_change_lem first k s e
-    token-change k (Descriptor raw display) n =
+    token_change k (Other a b) n = refl
+    token_change k (MemberName raw display) n = member_change_lem first k s e
+    token_change k (Descriptor raw display) n =
         noted_change raw (word_at out (names_start c + 8 * raw)) (word_at out (names_start c + 8 * raw + 4)) (told.says raw n.0)
         ∙ ap (λ v. name_change (shown_descriptor (shown (read_back classes pool)) v)) (sym (name_at_lem c f raw n.0))
-    token-change k (SourceLine raw display) n =
-        ap (λ v. plan_change classes pool c f (line_plan v)) (number-line classes rows pool class h x g (raw_line raw))
+    token_change k (SourceLine raw display) n =
+        ap (λ v. plan_change classes pool c f (line_plan v)) (number_line classes rows pool class h x g (raw_line raw))
         ∙ line_change_lem (context_line (mapping_in classes rows pool) class x raw)

@@ -99,16 +99,16 @@ module _ (t : Tables) (used : Used) (class f : List ℕ) (room : ℕ) where
 
   -- accepted: what has been asked, and how long the output is
   record Accepted (n : ℕ) : Type 0 where
-    tables-formed : well_formed t.classes t.members t.pool used ≡ true
-    tree-few : length f ≤ most_tree
-    tree-formed : well_formed_file f ≡ true
+    tables_formed : well_formed t.classes t.members t.pool used ≡ true
+    tree_few : length f ≤ most_tree
+    tree_formed : well_formed_file f ≡ true
     enough : length written ≤ room
     few : length written ≤ most_tree
     size : n ≡ length written
 
   accepted : {n : ℕ} → GivenWhen t used class f room (Done n) → Accepted n
   accepted (when_done e h g x y) =
-      record { tables-formed = e; tree-few = h; tree-formed = g; enough = x; few = y; size = refl }
+      record { tables_formed = e; tree_few = h; tree_formed = g; enough = x; few = y; size = refl }
 
   -- it is what was written, and zeros behind it
   pub accepted_output : {n : ℕ} → apply_answer t used class f room ≡ Done n →
@@ -119,9 +119,9 @@ module _ (t : Tables) (used : Used) (class f : List ℕ) (room : ℕ) where
         k.size,
         omega (arith, k.enough, k.size),
         rw (
-          k.tables-formed,
-          le-leb (length f) most_tree k.tree-few,
-          k.tree-formed,
+          k.tables_formed,
+          le-leb (length f) most_tree k.tree_few,
+          k.tree_formed,
           fits_yes room (length written) k.enough k.few,
           k.size,
         ),
@@ -144,21 +144,21 @@ module _ (t : Tables) (used : Used) (class f : List ℕ) (room : ℕ) where
 
   -- The tree file that comes out of 32-bit rows and bytes is well formed, and is read to the tree with its changes.
   module _ (fits : RowsFit t.members) (small : (i : ℕ) → get_or f i 0 < 256) {n : ℕ} (a : apply_answer t used class f room ≡ Done n) where
-    accepted-part : take n (apply_output t used class f room) ≡ written
-    accepted-part =
+    accepted_part : take n (apply_output t used class f room) ≡ written
+    accepted_part =
         let o = accepted_output a in
         ap (take n) o.2 ∙ take_at written (replicate (room - n) 0) n (sym o.0)
 
-    pub accepted-formed : well_formed_file (take n (apply_output t used class f room)) ≡ true
-    accepted-formed =
+    pub accepted_formed : well_formed_file (take n (apply_output t used class f room)) ≡ true
+    accepted_formed =
         let k = accepted ((given_iff (Done n)).0 a) in
-        ap well_formed_file accepted-part
-        ∙ applied_formed (mapping_of t used) class f k.tree-formed small (mapping_shows_well t used k.tables-formed fits) k.few
+        ap well_formed_file accepted_part
+        ∙ applied_formed (mapping_of t used) class f k.tree_formed small (mapping_shows_well t used k.tables_formed fits) k.few
 
-    pub accepted-reads-back :
+    pub accepted_reads_back :
         read_tree (take n (apply_output t used class f room)) ≡ applied_tree (mapping_of t used) class (read_tree f)
-    accepted-reads-back =
+    accepted_reads_back =
         let k = accepted ((given_iff (Done n)).0 a) in
-        ap read_tree accepted-part
-        ∙ applied_reads_back (mapping_of t used) class f k.tree-formed small (mapping_shows_well t used k.tables-formed fits)
+        ap read_tree accepted_part
+        ∙ applied_reads_back (mapping_of t used) class f k.tree_formed small (mapping_shows_well t used k.tables_formed fits)
         k.few

@@ -76,9 +76,9 @@ module _ (class : List ℕ) (name : ℕ → List ℕ) where
     same_above zero (parent_row p) h e = absurd h
     same_above (suc i) (parent_row p) h e = e p h
 
-    same-below : (n : ℕ) → n ≤ length t.nodes → (k : ℕ) → k < n → get_or cs k no_method ≡ get_or known k no_method
-    same-below zero h k g = absurd (not-suc-le-zero g)
-    same-below (suc n) h k g = go (same-below n (omega arith)) (le_or_lt n k)
+    same_below : (n : ℕ) → n ≤ length t.nodes → (k : ℕ) → k < n → get_or cs k no_method ≡ get_or known k no_method
+    same_below zero h k g = absurd (not-suc-le-zero g)
+    same_below (suc n) h k g = go (same_below n (omega arith)) (le_or_lt n k)
       where
         go : ((j : ℕ) → j < n → get_or cs j no_method ≡ get_or known j no_method) → (n ≤ k) ⊎ (k < n) →
             get_or cs k no_method ≡ get_or known k no_method
@@ -91,22 +91,22 @@ module _ (class : List ℕ) (name : ℕ → List ℕ) where
             (same_above k (get_or t.nodes k no_node).parent (s.parents k inside) (rw z at e))
             ∙ sym (context_above_lem t s k inside)
 
-    pub contexts-only : length cs ≡ length t.nodes → cs ≡ contexts_of class name t.nodes
-    contexts-only size =
+    pub contexts_only : length cs ≡ length t.nodes → cs ≡ contexts_of class name t.nodes
+    contexts_only size =
         let len = contexts_length [] t.nodes in
-        ext_get_or no_method cs known (size ∙ sym len) (λ k h. same-below (length t.nodes) (omega arith) k (rw size at h))
+        ext_get_or no_method cs known (size ∙ sym len) (λ k h. same_below (length t.nodes) (omega arith) k (rw size at h))
 
   -- each node is changed by the context of its row
   module _ (m : Mapping) where
-    node-changed : (done : List Context) (ns : List Node) (k : ℕ) (z : ChangedNode) → k < length ns →
+    node_changed : (done : List Context) (ns : List Node) (k : ℕ) (z : ChangedNode) → k < length ns →
         get_or (changed_nodes m class name done ns) k z ≡
         changed_node m class name (get_or (contexts_from class name done ns) k no_method) (get_or ns k no_node)
     unfolding changed_nodes contexts_from
-    node-changed done [] k z h = absurd (not-suc-le-zero h)
-    node-changed done (n ∷ ns) zero z h = refl
-    node-changed done (n ∷ ns) (suc k) z h = node-changed (done ++ (context_of class name done n ∷ [])) ns k z (omega arith)
+    node_changed done [] k z h = absurd (not-suc-le-zero h)
+    node_changed done (n ∷ ns) zero z h = refl
+    node_changed done (n ∷ ns) (suc k) z h = node_changed (done ++ (context_of class name done n ∷ [])) ns k z (omega arith)
 
 pub contexts_used : (m : Mapping) (class : List ℕ) (t : Tree) (i : ℕ) (z : ChangedNode) → i < length t.nodes →
     get_or (changed_in m class t) i z ≡
     changed_node m class (name_in t) (get_or (contexts_of class (name_in t) t.nodes) i no_method) (get_or t.nodes i no_node)
-contexts_used m class t i z h = node-changed class (name_in t) m [] t.nodes i z h
+contexts_used m class t i z h = node_changed class (name_in t) m [] t.nodes i z h

@@ -116,11 +116,11 @@ turned_fine : (look : List ℕ → Look) → ((p : List ℕ) → LookFine (look 
     LookFine (shown_descriptor look d)
 turned_fine look fine d u =
     pick_fine (piece_known look (parts_from [] d)) (known (turn look d)) unknown
-    (octets_utf8 (turn look d) (turn_octets look (λ q o. piece-fine q (look q) (fine q) o) (utf8_octets d u))) (omega arith)
+    (octets_utf8 (turn look d) (turn_octets look (λ q o. piece_fine q (look q) (fine q) o) (utf8_octets d u))) (omega arith)
   where
-    piece-fine : (q : List ℕ) (l : Look) → LookFine l → Utf8Octets q → Utf8Octets (look_or q l)
-    piece-fine q (known s) f o = utf8_octets s f
-    piece-fine q unknown f o = o
+    piece_fine : (q : List ℕ) (l : Look) → LookFine l → Utf8Octets q → Utf8Octets (look_or q l)
+    piece_fine q (known s) f o = utf8_octets s f
+    piece_fine q unknown f o = o
 
 -- Names of members.
 named_fine : (p : Entry → Bool) (es : List Entry) → Every (λ e. is_utf8 e.name ≡ true) es → LookFine (last_named p es)

@@ -86,32 +86,32 @@ module _ (c : TreeCounts) (f : List ℕ) (k : FormedBy c f) where
     body : drop nodes_start f ≡ nodePart ++ (tokenPart ++ (namePart ++ bytes_in c f))
     body = body_kept c f small k
 
-    node-part-length : length nodePart ≡ 8 * c.nodes
-    node-part-length = joined_length node_row_bytes 8 node_length t.nodes ∙ ap (λ n. 8 * n) (nodes_length c f 0 0 c.nodes)
+    node_part_length : length nodePart ≡ 8 * c.nodes
+    node_part_length = joined_length node_row_bytes 8 node_length t.nodes ∙ ap (λ n. 8 * n) (nodes_length c f 0 0 c.nodes)
 
-    token-part-length : length tokenPart ≡ 12 * c.tokens
-    token-part-length = joined_length token_row_bytes 12 token_length (all_tokens t.nodes) ∙ ap (λ n. 12 * n) all_tokens_length
+    token_part_length : length tokenPart ≡ 12 * c.tokens
+    token_part_length = joined_length token_row_bytes 12 token_length (all_tokens t.nodes) ∙ ap (λ n. 12 * n) all_tokens_length
 
-    name-part-length : length namePart ≡ 8 * c.names
-    name-part-length = joined_length name_row_bytes 8 name_length t.names ∙ ap (λ n. 8 * n) names_length
+    name_part_length : length namePart ≡ 8 * c.names
+    name_part_length = joined_length name_row_bytes 8 name_length t.names ∙ ap (λ n. 8 * n) names_length
 
-    pub node-stretch : between f nodes_start (tokens_start c) ≡ join (map node_row_bytes (tree_by c f).nodes)
-    node-stretch =
+    pub node_stretch : between f nodes_start (tokens_start c) ≡ join (map node_row_bytes (tree_by c f).nodes)
+    node_stretch =
         let z : tokens_start c - nodes_start ≡ 8 * c.nodes = omega arith in
-        rw (z, body) (take_at nodePart (tokenPart ++ (namePart ++ bytes_in c f)) (8 * c.nodes) node-part-length)
+        rw (z, body) (take_at nodePart (tokenPart ++ (namePart ++ bytes_in c f)) (8 * c.nodes) node_part_length)
 
-    behind-tokens : drop (names_start c) f ≡ namePart ++ bytes_in c f
-    behind-tokens =
+    behind_tokens : drop (names_start c) f ≡ namePart ++ bytes_in c f
+    behind_tokens =
         let z : names_start c ≡ nodes_start + 8 * c.nodes + 12 * c.tokens = omega arith in
         ap (λ n. drop n f) z ∙ sym (drop-drop (12 * c.tokens) (nodes_start + 8 * c.nodes) f)
         ∙ ap (drop (12 * c.tokens)) (sym (drop-drop (8 * c.nodes) nodes_start f) ∙ ap (drop (8 * c.nodes)) body
-        ∙ drop_at nodePart (tokenPart ++ (namePart ++ bytes_in c f)) (8 * c.nodes) node-part-length)
-        ∙ drop_at tokenPart (namePart ++ bytes_in c f) (12 * c.tokens) token-part-length
+        ∙ drop_at nodePart (tokenPart ++ (namePart ++ bytes_in c f)) (8 * c.nodes) node_part_length)
+        ∙ drop_at tokenPart (namePart ++ bytes_in c f) (12 * c.tokens) token_part_length
 
-    pub name-stretch : between f (names_start c) (bytes_start c) ≡ join (map name_row_bytes (tree_by c f).names)
-    name-stretch =
+    pub name_stretch : between f (names_start c) (bytes_start c) ≡ join (map name_row_bytes (tree_by c f).names)
+    name_stretch =
         let z : bytes_start c - names_start c ≡ 8 * c.names = omega arith in
-        rw (z, behind-tokens) (take_at namePart (bytes_in c f) (8 * c.names) name-part-length)
+        rw (z, behind_tokens) (take_at namePart (bytes_in c f) (8 * c.names) name_part_length)
 
     -- The whole.
     module _ (m : Mapping) (class : List ℕ) where
@@ -121,10 +121,10 @@ module _ (c : TreeCounts) (f : List ℕ) (k : FormedBy c f) where
       abbrev changes : List Changed
       changes = all_changed nodes
 
-      pub laid-counts :
+      pub laid_counts_lem :
           counts_of (tree_with (tree_by c f) (changed_in m class (tree_by c f))) ≡
           laid_counts c (new_names (all_changed (changed_in m class (tree_by c f))))
-      laid-counts =
+      laid_counts_lem =
           let new : List (List ℕ) = new_names changes in
           rw (
             numbered_nodes_length (length t.names) nodes,
@@ -141,10 +141,10 @@ module _ (c : TreeCounts) (f : List ℕ) (k : FormedBy c f) where
             bytes_count c f k.size,
           )
 
-      pub laid-written :
+      pub laid_written :
           laid_out c f (all_changed (changed_in m class (tree_by c f))) ≡
           written_tree (tree_with (tree_by c f) (changed_in m class (tree_by c f)))
-      laid-written =
+      laid_written =
           let new : List (List ℕ) = new_names changes in
           let rows : List ℕ = join (map name_row_bytes (name_rows (length t.bytes) new)) in
           let body : List ℕ =
@@ -162,11 +162,11 @@ module _ (c : TreeCounts) (f : List ℕ) (k : FormedBy c f) where
             append_assoc namePart rows (t.bytes ++ join new),
             names_length,
             bytes_count c f k.size,
-            node-stretch,
-            name-stretch,
+            node_stretch,
+            name_stretch,
           ) in
-          ap (λ l. count_bytes (laid_counts c new) ++ l) same ∙ ap (λ n. count_bytes n ++ body) (sym laid-counts)
+          ap (λ l. count_bytes (laid_counts c new) ++ l) same ∙ ap (λ n. count_bytes n ++ body) (sym laid_counts_lem)
 
       -- by the counts at its head, it is the file that applying writes
-      pub laid-applied : c ≡ counts_in f → laid_out c f (all_changed (changed_in m class (tree_by c f))) ≡ applied_file m class f
-      laid-applied e = laid-written ∙ ap (λ x. written_tree (applied_tree m class (tree_by x f))) e
+      pub laid_applied : c ≡ counts_in f → laid_out c f (all_changed (changed_in m class (tree_by c f))) ≡ applied_file m class f
+      laid_applied e = laid_written ∙ ap (λ x. written_tree (applied_tree m class (tree_by x f))) e

@@ -73,27 +73,27 @@ module _ (m : Mapping) (class : List ℕ) (name : ℕ → List ℕ) where
   module _ (Q : Changed → Type 0) (P : Token → Type 0)
       (law : (s : Signed) (c : Context) (at : ℕ) (t : Token) → P t →
       Q (record { token = t; change = change_of m class name s c at t })) where
-    node-every : (s : Signed) (c : Context) (at : ℕ) (ts : List Token) → Every P ts →
+    node_every : (s : Signed) (c : Context) (at : ℕ) (ts : List Token) → Every P ts →
         Every Q (changed_from (change_of m class name s c) at ts)
     unfolding changed_from
-    node-every s c at [] e = every_none
-    node-every s c at (t ∷ ts) (every_one p e) = every_one (law s c at t p) (node-every s c (suc at) ts e)
+    node_every s c at [] e = every_none
+    node_every s c at (t ∷ ts) (every_one p e) = every_one (law s c at t p) (node_every s c (suc at) ts e)
 
-    changes-every : (done : List Context) (ns : List Node) → Every P (all_tokens ns) →
+    changes_every : (done : List Context) (ns : List Node) → Every P (all_tokens ns) →
         Every Q (all_changed (changed_nodes m class name done ns))
     unfolding changed_nodes all_changed all_tokens
-    changes-every done [] e = every_none
-    changes-every done (n ∷ ns) e =
+    changes_every done [] e = every_none
+    changes_every done (n ∷ ns) e =
         let context : Context = context_of class name done n in
         every_append (changed_from (change_of m class name (signed_of class name n.tokens) context) 0 n.tokens)
         (all_changed (changed_nodes m class name (done ++ (context ∷ [])) ns))
-        (node-every (signed_of class name n.tokens) context 0 n.tokens (every_front n.tokens (all_tokens ns) e))
-        (changes-every (done ++ (context ∷ [])) ns (every_back n.tokens (all_tokens ns) e))
+        (node_every (signed_of class name n.tokens) context 0 n.tokens (every_front n.tokens (all_tokens ns) e))
+        (changes_every (done ++ (context ∷ [])) ns (every_back n.tokens (all_tokens ns) e))
 
   pub changes_suit : (P : Token → Type 0) (done : List Context) (ns : List Node) → Every P (all_tokens ns) →
       Every (λ x. P x.token × Suits x.token x.change) (all_changed (changed_nodes m class name done ns))
   changes_suit P done ns e =
-      changes-every (λ x. P x.token × Suits x.token x.change) P (λ s c at t p. (p, suits s c at t)) done ns e
+      changes_every (λ x. P x.token × Suits x.token x.change) P (λ s c at t p. (p, suits s c at t)) done ns e
 
 -- One token, where the next name that is appended has the number `next`.
 module _ (old names next : ℕ) (more : old ≤ names) where

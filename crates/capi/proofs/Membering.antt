@@ -40,14 +40,14 @@ pub ruleset members_numbered = (name_found, name_unknown, name_malformed, line_f
 -- What is written is the answer of the look-up, by the counts that C hands over.
 module _ (c m : List (List ℕ)) (p n : List ℕ) (k : Key) {u : Used} (e : u ≡ used_by n) {a : List ℕ} where
   module _ {r : MemberName} (g : a ≡ name_numbers r) where
-    pub field-written : r ≡ field_answer (tables c m p) u k → a ≡ name_numbers (field_answer (tables c m p) (used_by n) k)
-    field-written f = g ∙ ap name_numbers (f ∙ ap (λ x. field_answer (tables c m p) x k) e)
+    pub field_written : r ≡ field_answer (tables c m p) u k → a ≡ name_numbers (field_answer (tables c m p) (used_by n) k)
+    field_written f = g ∙ ap name_numbers (f ∙ ap (λ x. field_answer (tables c m p) x k) e)
 
-    pub method-written : r ≡ method_answer (tables c m p) u k → a ≡ name_numbers (method_answer (tables c m p) (used_by n) k)
-    method-written f = g ∙ ap name_numbers (f ∙ ap (λ x. method_answer (tables c m p) x k) e)
+    pub method_written : r ≡ method_answer (tables c m p) u k → a ≡ name_numbers (method_answer (tables c m p) (used_by n) k)
+    method_written f = g ∙ ap name_numbers (f ∙ ap (λ x. method_answer (tables c m p) x k) e)
 
   pub line_written : (l : RawLine) {r : MemberLine} → r ≡ line_answer (tables c m p) u k l → a ≡ line_numbers r →
       a ≡ line_numbers (line_answer (tables c m p) (used_by n) k l)
   line_written l f g = g ∙ ap line_numbers (f ∙ ap (λ x. line_answer (tables c m p) x k l) e)
 
-pub ruleset members_written = (field-written, method-written, line_written, rules)
+pub ruleset members_written = (field_written, method_written, line_written, rules)

@@ -53,24 +53,24 @@ module _ (s : List ℕ) (lent : Tables) where
 
 module _ (t : Tables) (n : List ℕ) where
   module _ (name : List ℕ) where
-    pub clumarief-display-class-name-once : OneOutcome (λ r. r ≡ display_numbers t (used_by n) name)
-    clumarief-display-class-name-once = one_value (display_numbers t (used_by n) name)
+    pub clumarief_display_class_name_once : OneOutcome (λ r. r ≡ display_numbers t (used_by n) name)
+    clumarief_display_class_name_once = one_value (display_numbers t (used_by n) name)
 
-    pub clumarief-raw-class-name-once : OneOutcome (λ r. r ≡ raw_numbers t (used_by n) name)
-    clumarief-raw-class-name-once = one_value (raw_numbers t (used_by n) name)
+    pub clumarief_raw_class_name_once : OneOutcome (λ r. r ≡ raw_numbers t (used_by n) name)
+    clumarief_raw_class_name_once = one_value (raw_numbers t (used_by n) name)
 
-    pub clumarief-mapped-class-name-once : OneOutcome (λ r. r ≡ mapped_numbers (display_of_class t (used_by n) name))
-    clumarief-mapped-class-name-once = one_value (mapped_numbers (display_of_class t (used_by n) name))
+    pub clumarief_mapped_class_name_once : OneOutcome (λ r. r ≡ mapped_numbers (display_of_class t (used_by n) name))
+    clumarief_mapped_class_name_once = one_value (mapped_numbers (display_of_class t (used_by n) name))
 
   module _ (k : Key) where
-    pub clumarief-display-field-name-once : OneOutcome (λ r. r ≡ field_name_numbers t (used_by n) k)
-    clumarief-display-field-name-once = one_value (field_name_numbers t (used_by n) k)
+    pub clumarief_display_field_name_once : OneOutcome (λ r. r ≡ field_name_numbers t (used_by n) k)
+    clumarief_display_field_name_once = one_value (field_name_numbers t (used_by n) k)
 
-    pub clumarief-display-method-name-once : OneOutcome (λ r. r ≡ method_name_numbers t (used_by n) k)
-    clumarief-display-method-name-once = one_value (method_name_numbers t (used_by n) k)
+    pub clumarief_display_method_name_once : OneOutcome (λ r. r ≡ method_name_numbers t (used_by n) k)
+    clumarief_display_method_name_once = one_value (method_name_numbers t (used_by n) k)
 
-    pub clumarief-display-line-once : (l : ℕ) → OneOutcome (λ r. r ≡ line_numbers_of t (used_by n) k (raw_line l))
-    clumarief-display-line-once l = one_value (line_numbers_of t (used_by n) k (raw_line l))
+    pub clumarief_display_line_once : (l : ℕ) → OneOutcome (λ r. r ≡ line_numbers_of t (used_by n) k (raw_line l))
+    clumarief_display_line_once l = one_value (line_numbers_of t (used_by n) k (raw_line l))
 
   -- the answer in numbers, and the output
   pub clumarief_apply_once : (class file : List ℕ) (room : ℕ) →

@@ -18,7 +18,7 @@ use Rattle.text_places.specs.Places.{last_where, starts, same}
 use Rattle.text_places.proofs.PlaceLaws.{last_inside}
 use Rattle.text_places.proofs.Holds.{last_is}
 use Rattle.text_utf8.specs.Grammar.{Utf8Octets}
-use Rattle.text_utf8.proofs.Boundaries.{octets_as, append_octets, ascii_octets, cons_octets, snoc_octets, replicate_octets, Texts, no_text, text, Fresh, at_low, fresh_end, fresh_ascii, fresh-after, after-octets, take-octets, tail_octets, cut_octets, map_octets}
+use Rattle.text_utf8.proofs.Boundaries.{octets_as, append_octets, ascii_octets, cons_octets, snoc_octets, replicate_octets, Texts, no_text, text, Fresh, at_low, fresh_end, fresh_ascii, fresh_after, after_octets, take_octets, tail_octets, cut_octets, map_octets}
 use Rattle.text_places.specs.declared.spans.Span.{Span}
 use Rattle.text_white.specs.Trim.{trim_both}
 use Rattle.text_white.proofs.Cuts.{trim_octets}
@@ -64,7 +64,7 @@ brackets_fresh b (suc (suc n)) f = go (brackets_at b n) refl (λ g. brackets_fre
     go false e again = f
 
 stripped_octets : {s : List ℕ} → Utf8Octets s → Utf8Octets (take (base_end s (length s)) s)
-stripped_octets {s} o = take-octets o (base_end s (length s)) (brackets_fresh s (length s) (fresh_end s (length s) (omega arith)))
+stripped_octets {s} o = take_octets o (base_end s (length s)) (brackets_fresh s (length s) (fresh_end s (length s) (omega arith)))
 
 letter_low : (s : List ℕ) → word_letter s < 0x80
 letter_low s =
@@ -120,7 +120,7 @@ close_octets {s} o = go (last_where (starts 0x29) s) refl
     go (At i) e =
         let inside = last_inside (starts 0x29) s e in
         let is = last_is 0x29 s e in
-        append_octets (take-octets o (i + 1) (fresh-after o i inside (omega arith))) (raw_type_octets (after-octets o i inside (omega arith)))
+        append_octets (take_octets o (i + 1) (fresh_after o i inside (omega arith))) (raw_type_octets (after_octets o i inside (omega arith)))
 
 pub raw_octets : (method : Bool) {s : List ℕ} → Utf8Octets s → Utf8Octets (raw_signature method s)
 raw_octets true o = close_octets o
@@ -152,9 +152,9 @@ module _ (look : List ℕ → Look) (fine : (q : List ℕ) → Utf8Octets q → 
   turned_none = record { outside = λ p o. o; inside = λ a w o. octets_as (append-nil (a ∷ w) ∙ sym (bytes_made (a ∷ w))) o }
 
   module _ (b : ℕ) (d : List ℕ) (t : Turned d) where
-    outside-more : (p : List ℕ) → Utf8Octets (p ++ (b ∷ d)) → Utf8Octets (p ++ made [] (b ∷ d))
+    outside_more : (p : List ℕ) → Utf8Octets (p ++ (b ∷ d)) → Utf8Octets (p ++ made [] (b ∷ d))
     unfolding made join parts_from
-    outside-more p o = go (eqb b 0x4C) refl
+    outside_more p o = go (eqb b 0x4C) refl
       where
         go : (c : Bool) → eqb b 0x4C ≡ c → Utf8Octets (p ++ join (map (turned look) (pick c (parts_from (b ∷ []) d) (byte b ∷ parts_from [] d))))
         go true e =
@@ -163,9 +163,9 @@ module _ (look : List ℕ → Look) (fine : (q : List ℕ) → Utf8Octets q → 
             append_octets before (t.inside b [] after)
         go false e = octets_as (append_assoc p (b ∷ []) (made [] d)) (t.outside (p ++ (b ∷ [])) (octets_as (sym (append_assoc p (b ∷ []) d)) o))
 
-    inside-more : (a : ℕ) (w : List ℕ) → Utf8Octets ((a ∷ w) ++ (b ∷ d)) → Utf8Octets (made (a ∷ w) (b ∷ d))
+    inside_more : (a : ℕ) (w : List ℕ) → Utf8Octets ((a ∷ w) ++ (b ∷ d)) → Utf8Octets (made (a ∷ w) (b ∷ d))
     unfolding made join parts_from
-    inside-more a w o = go (eqb b 0x3B) refl
+    inside_more a w o = go (eqb b 0x3B) refl
       where
         go : (c : Bool) → eqb b 0x3B ≡ c →
             Utf8Octets (join (map (turned look) (pick c (piece (a ∷ (w ++ (b ∷ []))) ∷ parts_from [] d) (parts_from (a ∷ (w ++ (b ∷ []))) d))))
@@ -177,7 +177,7 @@ module _ (look : List ℕ → Look) (fine : (q : List ℕ) → Utf8Octets q → 
 
   turned_all_lem : (d : List ℕ) → Turned d
   turned_all_lem [] = turned_none
-  turned_all_lem (b ∷ d) = let t = turned_all_lem d in record { outside = outside-more b d t; inside = inside-more b d t }
+  turned_all_lem (b ∷ d) = let t = turned_all_lem d in record { outside = outside_more b d t; inside = inside_more b d t }
 
   pub turn_octets : {d : List ℕ} → Utf8Octets d → Utf8Octets (turn look d)
   unfolding made

@@ -38,16 +38,16 @@ raw_empty (x ∷ l) e = absurd (omega arith)
 
 module _ (s : List ℕ) where
   module _ (n : length s ≡ 0 → ⊥) where
-    pub raw-bracket : get_or s 0 0 ≡ 0x5B → true ≡ raw_kept s
-    raw-bracket h = go s n h
+    pub raw_bracket : get_or s 0 0 ≡ 0x5B → true ≡ raw_kept s
+    raw_bracket h = go s n h
       where
         go : (l : List ℕ) → (length l ≡ 0 → ⊥) → get_or l 0 0 ≡ 0x5B → true ≡ raw_kept l
         go [] m e = absurd (m refl)
         go (x ∷ l) m e = sym (rw (eq-eqb x 0x5B e))
 
     module _ (o : get_or s 0 0 ≡ 0x5B → ⊥) where
-      pub raw-one : length s ≡ 1 → {b : Bool} → b ≡ is_letter (get_or s 0 0) → b ≡ raw_kept s
-      raw-one h {b} f = go s o h f
+      pub raw_one : length s ≡ 1 → {b : Bool} → b ≡ is_letter (get_or s 0 0) → b ≡ raw_kept s
+      raw_one h {b} f = go s o h f
         where
           no_both : (x : ℕ) → both (eqb x 0x4C) (eqb x 0x3B) ≡ false
           no_both x = by (eqb x 0x4C) refl
@@ -56,24 +56,24 @@ module _ (s : List ℕ) where
               by true q = ne_eqb x 0x3B (λ e. let z = eqb-true x 0x4C q in omega arith)
               by false q = refl
 
-          or-false : (t : Bool) → either t false ≡ t
-          or-false true = refl
-          or-false false = refl
+          or_false : (t : Bool) → either t false ≡ t
+          or_false true = refl
+          or_false false = refl
 
           go : (l : List ℕ) → (get_or l 0 0 ≡ 0x5B → ⊥) → length l ≡ 1 → b ≡ is_letter (get_or l 0 0) → b ≡ raw_kept l
           go [] m e g = absurd (omega arith)
-          go (x ∷ []) m e g = g ∙ sym (rw (ne_eqb x 0x5B m, no_both x) (or-false (is_letter x)))
+          go (x ∷ []) m e g = g ∙ sym (rw (ne_eqb x 0x5B m, no_both x) (or_false (is_letter x)))
           go (x ∷ (y ∷ l)) m e g = absurd (omega arith)
 
-      pub raw-long : (length s ≡ 1 → ⊥) → {b : Bool} → b ≡ kept_text s → b ≡ raw_kept s
-      raw-long h {b} f = go s n o h f
+      pub raw_long : (length s ≡ 1 → ⊥) → {b : Bool} → b ≡ kept_text s → b ≡ raw_kept s
+      raw_long h {b} f = go s n o h f
         where
           go : (l : List ℕ) → (length l ≡ 0 → ⊥) → (get_or l 0 0 ≡ 0x5B → ⊥) → (length l ≡ 1 → ⊥) → b ≡ kept_text l → b ≡ raw_kept l
           go [] k m e g = absurd (k refl)
           go (x ∷ []) k m e g = absurd (e refl)
           go (x ∷ (y ∷ l)) k m e g = g ∙ sym (rw (ne_eqb x 0x5B m))
 
-pub ruleset raw_kinds = (raw_empty, raw-bracket, raw-one, raw-long, rules)
+pub ruleset raw_kinds = (raw_empty, raw_bracket, raw_one, raw_long, rules)
 
 -- Moving a name by one: what is from `j` on stands one later, with dots as slashes.
 pub record Moving (d : List ℕ) (at «end» : ℕ) (room : List ℕ) (j : ℕ) : Type 0 where
@@ -102,24 +102,24 @@ module _ (d : List ℕ) (at «end» : ℕ) (i : at ≤ «end») (h : «end» ≤
   name_no_room k = omega (arith, name_length)
 
   module _ (k : 2 ≤ length d - «end») where
-    pub moving-starts : Moving d at «end» d «end»
-    moving-starts = record { low = i; high = omega arith; is = rw (part_none d «end») (sym (put_nothing d («end» + 1))); size = refl }
+    pub moving_starts : Moving d at «end» d «end»
+    moving_starts = record { low = i; high = omega arith; is = rw (part_none d «end») (sym (put_nothing d («end» + 1))); size = refl }
 
-    pub name-fits : length d < 2 ^ 64 → Fits w64 («end» + 2)
-    name-fits b = omega arith
+    pub name_fits : length d < 2 ^ 64 → Fits w64 («end» + 2)
+    name_fits b = omega arith
 
-    pub name-fits-one : length d < 2 ^ 64 → Fits w64 («end» + 1)
-    name-fits-one b = omega arith
+    pub name_fits_one : length d < 2 ^ 64 → Fits w64 («end» + 1)
+    name_fits_one b = omega arith
 
     module _ {room : List ℕ} {j : ℕ} (w : Moving d at «end» room j) where
-      pub moving-write : at < j → j < length room
-      moving-write l = omega (arith, w.size, w.high)
+      pub moving_write : at < j → j < length room
+      moving_write l = omega (arith, w.size, w.high)
 
-      pub moving-read : at < j → j - 1 < length room
-      moving-read l = omega (arith, w.size, w.high)
+      pub moving_read : at < j → j - 1 < length room
+      moving_read l = omega (arith, w.size, w.high)
 
-      pub moving-more : at < j → {x : ℕ} → x ≡ slash (get_or room (j - 1) 0) → Moving d at «end» (set room j x) (j - 1)
-      moving-more l {x} f =
+      pub moving_more : at < j → {x : ℕ} → x ≡ slash (get_or room (j - 1) 0) → Moving d at «end» (set room j x) (j - 1)
+      moving_more l {x} f =
           let up : j - 1 + 1 ≡ j = omega arith in
           let old : get_or room (j - 1) 0 ≡ get_or d (j - 1) 0 =
           ap (λ r. get_or r (j - 1) 0) w.is ∙ get_or_put d (j + 1) (slashed (between d j «end»)) (j - 1) 0 (omega arith) (omega (arith, w.high)) in
@@ -137,19 +137,19 @@ module _ (d : List ℕ) (at «end» : ℕ) (i : at ≤ «end») (h : «end» ≤
       pub name_at_lem : j ≤ at → at < length room
       name_at_lem l = omega (arith, w.size)
 
-      pub name-end : j ≤ at → «end» + 1 < length (set room at 0x4C)
-      name-end l = omega (arith, w.size, length-set room at 0x4C)
+      pub name_end : j ≤ at → «end» + 1 < length (set room at 0x4C)
+      name_end l = omega (arith, w.size, length-set room at 0x4C)
 
       pub name_done : j ≤ at → Written («end» + 2) d at (class_descriptor (between d at «end»)) (set (set room at 0x4C) («end» + 1) 0x3B)
       name_done l =
           let here : j ≡ at = omega (arith, w.low) in
           let n : List ℕ = slashed (between d at «end») in
-          let size-n : length n ≡ «end» - at = slashed_length (between d at «end») ∙ between_length d at «end» h in
+          let size_n : length n ≡ «end» - at = slashed_length (between d at «end») ∙ between_length d at «end» h in
           let first : set room at 0x4C ≡ put d at (0x4C ∷ n) =
           ap (λ r. set r at 0x4C) (w.is ∙ ap (λ m. put d (m + 1) (slashed (between d m «end»))) here) ∙ put_before d at n 0x4C 0 (omega arith) in
           let place : at + length (0x4C ∷ n) ≡ «end» + 1 = omega arith in
           let long : at + length (0x4C ∷ n) ≤ length d = omega arith in
-          let whole-size = length_put d at (0x4C ∷ n) long in
+          let whole_size = length_put d at (0x4C ∷ n) long in
           record {
             past = omega (arith, name_length);
             room = omega (arith, name_length);
@@ -158,7 +158,7 @@ module _ (d : List ℕ) (at «end» : ℕ) (i : at ≤ «end») (h : «end» ≤
                 ∙ ap (λ m. put (put d at (0x4C ∷ n)) m (0x3B ∷ [])) (sym place) ∙ put_put d at (0x4C ∷ n) (0x3B ∷ []) long;
           }
 
-pub ruleset moving = (name_no_room, moving-starts, name-fits, name-fits-one, moving-write, moving-read, moving-more, name_at_lem, name-end, name_done, rules)
+pub ruleset moving = (name_no_room, moving_starts, name_fits, name_fits_one, moving_write, moving_read, moving_more, name_at_lem, name_end, name_done, rules)
 
 -- Types and signatures.
 module _ (d : List ℕ) (at «end» : ℕ) (i : at ≤ «end») (h : «end» ≤ length d) where
@@ -169,11 +169,11 @@ module _ (d : List ℕ) (at «end» : ℕ) (i : at ≤ «end») (h : «end» ≤
       record { past = omega arith; room = omega arith; is = sym (put_same d at («end» - at) (omega arith)) }
 
   module _ {b : Bool} (k : b ≡ raw_kept (between d at «end»)) where
-    pub type-kept : b ≡ true → Written «end» d at (raw_type (between d at «end»)) d
-    type-kept t = let e : raw_type (between d at «end») ≡ between d at «end» = rw (← k, t) in rw e kept_written
+    pub type_kept : b ≡ true → Written «end» d at (raw_type (between d at «end»)) d
+    type_kept t = let e : raw_type (between d at «end») ≡ between d at «end» = rw (← k, t) in rw e kept_written
 
-    pub type-named : b ≡ false → (r : Wrote) (d₁ : List ℕ) → WroteBy r d at (class_descriptor (between d at «end»)) d₁ → WroteBy r d at (raw_type (between d at «end»)) d₁
-    type-named t r d₁ w = let e : raw_type (between d at «end») ≡ class_descriptor (between d at «end») = rw (← k, t) in rw e w
+    pub type_named : b ≡ false → (r : Wrote) (d₁ : List ℕ) → WroteBy r d at (class_descriptor (between d at «end»)) d₁ → WroteBy r d at (raw_type (between d at «end»)) d₁
+    type_named t r d₁ w = let e : raw_type (between d at «end») ≡ class_descriptor (between d at «end») = rw (← k, t) in rw e w
 
   pub signature_field : {m : Bool} → m ≡ false → (r : Wrote) (d₁ : List ℕ) → WroteBy r d at (raw_type (between d at «end»)) d₁ → WroteBy r d at (raw_signature m (between d at «end»)) d₁
   signature_field e r d₁ w = rw e w
@@ -182,34 +182,34 @@ module _ (d : List ℕ) (at «end» : ℕ) (i : at ≤ «end») (h : «end» ≤
     whole : {x : Place} → p ≡ x → raw_signature m (between d at «end») ≡ after_close (between d at «end») x
     whole g = rw e (ap (after_close (between d at «end»)) (sym f ∙ g))
 
-    pub signature-open : p ≡ Nowhere → Written «end» d at (raw_signature m (between d at «end»)) d
-    signature-open g = rw (whole g) kept_written
+    pub signature_open : p ≡ Nowhere → Written «end» d at (raw_signature m (between d at «end»)) d
+    signature_open g = rw (whole g) kept_written
 
     module _ {close : ℕ} (g : p ≡ At close) where
-      pub signature-after : at + close + 1 ≤ «end»
-      signature-after = let n = between_length d at «end» h in let j = last_inside (starts 0x29) (between d at «end») (sym f ∙ g) in omega arith
+      pub signature_after : at + close + 1 ≤ «end»
+      signature_after = let n = between_length d at «end» h in let j = last_inside (starts 0x29) (between d at «end») (sym f ∙ g) in omega arith
 
-      pub signature-fits : length d < 2 ^ 64 → Fits w64 (at + close + 1)
-      signature-fits z = let j = signature-after in omega arith
+      pub signature_fits : length d < 2 ^ 64 → Fits w64 (at + close + 1)
+      signature_fits z = let j = signature_after in omega arith
 
-      pub signature-fits-close : length d < 2 ^ 64 → Fits w64 (at + close)
-      signature-fits-close z = let j = signature-after in omega arith
+      pub signature_fits_close : length d < 2 ^ 64 → Fits w64 (at + close)
+      signature_fits_close z = let j = signature_after in omega arith
 
       -- the arguments stay, and what follows is a type
-      pub signature-method : (r : Wrote) (d₁ : List ℕ) → WroteBy r d (at + close + 1) (raw_type (between d (at + close + 1) «end»)) d₁ → WroteBy r d at (raw_signature m (between d at «end»)) d₁
-      signature-method r d₁ w =
-          let j = signature-after in
+      pub signature_method : (r : Wrote) (d₁ : List ℕ) → WroteBy r d (at + close + 1) (raw_type (between d (at + close + 1) «end»)) d₁ → WroteBy r d at (raw_signature m (between d at «end»)) d₁
+      signature_method r d₁ w =
+          let j = signature_after in
           let front : take (close + 1) (between d at «end») ≡ take (close + 1) (drop at d) = take-take (close + 1) («end» - at) (drop at d) (omega arith) in
           let n : length (take (close + 1) (drop at d)) ≡ close + 1 = length-take-le (close + 1) (drop at d) (omega (arith, length-drop at d)) in
           let kept : Written (at + close + 1) d at (take (close + 1) (between d at «end»)) d =
           rw front (record { past = omega arith; room = omega arith; is = sym (put_same d at (close + 1) (omega arith)) }) in
-          let back : drop (close + 1) (between d at «end») ≡ between d (at + close + 1) «end» = drop-part close in
+          let back : drop (close + 1) (between d at «end») ≡ between d (at + close + 1) «end» = drop_part close in
           rw (whole g, back) (wrote_then r (raw_type (between d (at + close + 1) «end»)) d₁ kept w)
         where
-          drop-part : (c : ℕ) → drop (c + 1) (between d at «end») ≡ between d (at + c + 1) «end»
-          drop-part c =
+          drop_part : (c : ℕ) → drop (c + 1) (between d at «end») ≡ between d (at + c + 1) «end»
+          drop_part c =
               let a : «end» - at - (c + 1) ≡ «end» - (at + c + 1) = omega arith in
               let b : at + (c + 1) ≡ at + c + 1 = omega arith in
               drop_take (c + 1) («end» - at) (drop at d) ∙ rw (a, drop-drop (c + 1) at d, b)
 
-pub ruleset settling = (type-kept, type-named, signature_field, signature-open, signature-after, signature-fits, signature-fits-close, signature-method, rules)
+pub ruleset settling = (type_kept, type_named, signature_field, signature_open, signature_after, signature_fits, signature_fits_close, signature_method, rules)

@@ -90,8 +90,8 @@ module _ (look : List ℕ → Look) where
   unfolding parts_from first_from join
   piece_step x l {i} q e =
       let is = eqb-true x 0x4C q in
-      let no-semicolon : eqb x 0x3B ≡ false = ap (λ y. eqb y 0x3B) is in
-      let f : first_from (starts 0x3B) 1 l ≡ At i = rw no-semicolon at e in
+      let no_semicolon_lem : eqb x 0x3B ≡ false = ap (λ y. eqb y 0x3B) is in
+      let f : first_from (starts 0x3B) 1 l ≡ At i = rw no_semicolon_lem at e in
       let later = first_past 0x3B 1 l f in
       let z : i + 1 ≡ suc (suc (i - 1)) = omega arith in
       rw (q, z) (ap (turned_all look) (closed_from x [] 1 l f))

@@ -40,11 +40,11 @@ module _ (d : List ℕ) (at e method : ℕ) where
   said_crossed h = rw (lt-ltb e at h) (refl, refl)
 
   module _ (i : at ≤ e) where
-    pub said-past : length d < e → SaidWithin (2 ∷ 0 ∷ []) d at e method d
-    said-past h = rw (le-ltb e at i, lt-ltb (length d) e h) (refl, refl)
+    pub said_past : length d < e → SaidWithin (2 ∷ 0 ∷ []) d at e method d
+    said_past h = rw (le-ltb e at i, lt-ltb (length d) e h) (refl, refl)
 
-    pub said-signature : e ≤ length d → (d₁ : List ℕ) (w : Wrote) → WroteBy w d at (raw_signature (not (eqb method 0)) (between d at e)) d₁ →
+    pub said_signature : e ≤ length d → (d₁ : List ℕ) (w : Wrote) → WroteBy w d at (raw_signature (not (eqb method 0)) (between d at e)) d₁ →
         {numbers : List ℕ} → numbers ≡ wrote_numbers w → SaidWithin numbers d at e method d₁
-    said-signature h d₁ w k f = rw (le-ltb e at i, le-ltb (length d) e h) (record { answer = w; are = f; wrote = k })
+    said_signature h d₁ w k f = rw (le-ltb e at i, le-ltb (length d) e h) (record { answer = w; are = f; wrote = k })
 
-pub ruleset signature_saying = (said_crossed, said-past, said-signature, rules)
+pub ruleset signature_saying = (said_crossed, said_past, said_signature, rules)

@@ -25,8 +25,8 @@ use Rattle.json_values.specs.declared.value.Member.TheVariants.{Read, NoMember}
 use Rattle.json_values.specs.Inner.Runs.{Past}
 use Rattle.json_values.specs.Inner.Members.{ReadMember, MemberMeans}
 use Rattle.json_values.proofs.Numbers.{means_next, means_unread}
-use Rattle.json_values.proofs.Listing.{Listing, Turn, listing-on, listing-passed, listing-closed, listing-wrong, empty_reads, listing_starts, starts_passed}
-use Rattle.json_values.proofs.Values.{member_told, member_turn, object_cut, object-none, object-falls, space_inside, read_inside, member_inside}
+use Rattle.json_values.proofs.Listing.{Listing, Turn, listing_on, listing_passed, listing_closed, listing_wrong, empty_reads, listing_starts, starts_passed}
+use Rattle.json_values.proofs.Values.{member_told, member_turn, object_cut, object_none, object_falls, space_inside, read_inside, member_inside}
 use Rattle.json_decode.specs.Decoded.{decoded_is}
 use Rattle.json_comment.specs.declared.answer.Stands.{Stands}
 use Rattle.json_comment.specs.declared.answer.Stands.TheVariants.{Missing, Other, Text}
@@ -107,14 +107,14 @@ module _ (s : List ℕ) {at : ℕ} (w : Past is_ws s 0 at) where
   comment_empty h = unread s w (rw (drop_of_length-le s h))
 
   module _ (h : at < length s) where
-    pub comment-no-brace : (get_or s at 0 ≡ 0x7B → ⊥) → Unreadable ≡ comment_of s
+    pub comment_no_brace : (get_or s at 0 ≡ 0x7B → ⊥) → Unreadable ≡ comment_of s
     unfolding enclosed_of
-    comment-no-brace n = unread s w (rw (drop-cons s at 0 h, ne_eqb (get_or s at 0) 0x7B n))
+    comment_no_brace n = unread s w (rw (drop-cons s at 0 h, ne_eqb (get_or s at 0) 0x7B n))
 
     module _ (o : get_or s at 0 ≡ 0x7B) {place : ℕ} (v : Past is_ws s (at + 1) place) {t : After} (m : Means s t (structural 0x7D (drop place s))) where
-      pub comment-no-members : {end : ℕ} → t ≡ Next end → {r : Comment} → r ≡ end_of (drop end s) Missing Missing → r ≡ comment_of s
+      pub comment_no_members : {end : ℕ} → t ≡ Next end → {r : Comment} → r ≡ end_of (drop end s) Missing Missing → r ≡ comment_of s
       unfolding last_of
-      comment-no-members {end} e g =
+      comment_no_members {end} e g =
           read s w [] end (empty_reads (member_of (value_of 126)) 0x7B 0x7D s at h o v (means_next s (structural 0x7D (drop place s)) t m e).reads) g
 
 -- A member's value by its first byte, and what stands last under a name with it.
@@ -132,15 +132,15 @@ module _ (s : List ℕ) (place : ℕ) (h : place < length s) {value next : ℕ} 
   head_is : head_stands value (drop value s) ≡ stands_as m.meaning value
   head_is = go (drop value s) parts.valued
     where
-      by-head : (x : ℕ) (l : List ℕ) (b : Bool) → eqb x 0x22 ≡ b → value_of 126 (x ∷ l) ≡ got m.meaning (drop next s) → pick b (Text (value + 1)) Other ≡ stands_as m.meaning value
-      by-head x l true e f =
+      by_head : (x : ℕ) (l : List ℕ) (b : Bool) → eqb x 0x22 ≡ b → value_of 126 (x ∷ l) ≡ got m.meaning (drop next s) → pick b (Text (value + 1)) Other ≡ stands_as m.meaning value
+      by_head x l true e f =
           let t = value_text 126 l (ap (λ y. value_of 126 (y ∷ l)) (sym (eqb-true x 0x22 e)) ∙ f) in
           sym (ap (λ y. stands_as y value) t.is)
-      by-head x l false e f = sym (ap (λ y. stands_as y value) (value_other 126 x l e f))
+      by_head x l false e f = sym (ap (λ y. stands_as y value) (value_other 126 x l e f))
 
       go : (l : List ℕ) → value_of 126 l ≡ got m.meaning (drop next s) → head_stands value l ≡ stands_as m.meaning value
       go [] f = never_bad (sym (no_value 126) ∙ f)
-      go (x ∷ l) f = by-head x l (eqb x 0x22) refl f
+      go (x ∷ l) f = by_head x l (eqb x 0x22) refl f
 
   abbrev this : Item
   this = item m.key m.meaning (drop value s)
@@ -183,15 +183,15 @@ module _ {s : List ℕ} {at place : ℕ} {id signature : Stands} (k : Reading s 
   reading_cut w h = unread s w (object_cut 126 k.listing h)
 
   module _ (h : place < length s) {t : Member} (m : MemberMeans s t (member_of (value_of 126) (drop place s))) where
-    pub reading-none : Past is_ws s 0 at → t ≡ NoMember → Unreadable ≡ comment_of s
-    reading-none w e = unread s w (object-none 126 k.listing m e)
+    pub reading_none : Past is_ws s 0 at → t ≡ NoMember → Unreadable ≡ comment_of s
+    reading_none w e = unread s w (object_none 126 k.listing m e)
 
     module _ {value next : ℕ} (e : t ≡ Read value next) where
       told : ReadMember s value next (member_of (value_of 126) (drop place s))
       told = member_told s (member_of (value_of 126) (drop place s)) t m e
 
-      pub value-starts : value < length s
-      value-starts = value_there s place h told
+      pub value_starts : value < length s
+      value_starts = value_there s place h told
 
       turned : Turn (member_of (value_of 126)) s place next (item told.key told.meaning (drop value s))
       turned = member_turn s 126 place k.listing.inside told
@@ -199,43 +199,43 @@ module _ {s : List ℕ} {at place : ℕ} {id signature : Stands} (k : Reading s 
       module _ {id₁ : Stands} (i : id₁ ≡ later_counts (given_for s (place + 1) (0x69 ∷ 0x64 ∷ []) value) id)
           {signature₁ : Stands}
           (g : signature₁ ≡ later_counts (given_for s (place + 1) (0x73 ∷ 0x69 ∷ 0x67 ∷ 0x6E ∷ 0x61 ∷ 0x74 ∷ 0x75 ∷ 0x72 ∷ 0x65 ∷ []) value) signature) where
-        id-now : id₁ ≡ stands_in s (last_of (ascii "id") (k.listing.passed ++ (item told.key told.meaning (drop value s) ∷ [])))
+        id_now : id₁ ≡ stands_in s (last_of (ascii "id") (k.listing.passed ++ (item told.key told.meaning (drop value s) ∷ [])))
         unfolding ascii
-        id-now = later_stands s place h told (ascii "id") k.listing.passed k.id_is i
+        id_now = later_stands s place h told (ascii "id") k.listing.passed k.id_is i
 
-        signature-now : signature₁ ≡ stands_in s (last_of (ascii "signature") (k.listing.passed ++ (item told.key told.meaning (drop value s) ∷ [])))
+        signature_now : signature₁ ≡ stands_in s (last_of (ascii "signature") (k.listing.passed ++ (item told.key told.meaning (drop value s) ∷ [])))
         unfolding ascii
-        signature-now = later_stands s place h told (ascii "signature") k.listing.passed k.signature_is g
+        signature_now = later_stands s place h told (ascii "signature") k.listing.passed k.signature_is g
 
         module _ (u : After) (c : Means s u (structural 0x2C (drop next s))) where
-          pub reading-on : {again : ℕ} → u ≡ Next again → Reading s at again id₁ signature₁
-          reading-on f =
-              let passed = listing-passed k.listing h turned c f in
+          pub reading_on : {again : ℕ} → u ≡ Next again → Reading s at again id₁ signature₁
+          reading_on f =
+              let passed = listing_passed k.listing h turned c f in
               record {
-                listing = listing-on k.listing h turned c f;
-                id_is = rw passed id-now;
-                signature_is = rw passed signature-now;
+                listing = listing_on k.listing h turned c f;
+                id_is = rw passed id_now;
+                signature_is = rw passed signature_now;
               }
 
           module _ (f : u ≡ Unread) (v : After) (d : Means s v (structural 0x7D (drop next s))) where
-            no-comma : structural 0x2C (drop next s) ≡ bad
-            no-comma = means_unread s (structural 0x2C (drop next s)) u c f
+            no_comma : structural 0x2C (drop next s) ≡ bad
+            no_comma = means_unread s (structural 0x2C (drop next s)) u c f
 
-            pub reading-wrong : Past is_ws s 0 at → v ≡ Unread → Unreadable ≡ comment_of s
-            reading-wrong w j = unread s w (listing-wrong k.listing h turned no-comma (means_unread s (structural 0x7D (drop next s)) v d j))
+            pub reading_wrong : Past is_ws s 0 at → v ≡ Unread → Unreadable ≡ comment_of s
+            reading_wrong w j = unread s w (listing_wrong k.listing h turned no_comma (means_unread s (structural 0x7D (drop next s)) v d j))
 
-            pub reading-ends : Past is_ws s 0 at → {end : ℕ} → v ≡ Next end → {r : Comment} → r ≡ end_of (drop end s) id₁ signature₁ → r ≡ comment_of s
-            reading-ends w {end} j q =
+            pub reading_ends : Past is_ws s 0 at → {end : ℕ} → v ≡ Next end → {r : Comment} → r ≡ end_of (drop end s) id₁ signature₁ → r ≡ comment_of s
+            reading_ends w {end} j q =
                 read s w (k.listing.passed ++ (item told.key told.meaning (drop value s) ∷ [])) end
-                (listing-closed k.listing h turned no-comma (means_next s (structural 0x7D (drop next s)) v d j).reads)
-                (q ∙ rw (id-now, signature-now))
+                (listing_closed k.listing h turned no_comma (means_next s (structural 0x7D (drop next s)) v d j).reads)
+                (q ∙ rw (id_now, signature_now))
 
-    pub reading-falls : {value next : ℕ} → t ≡ Read value next → {u : After} → Means s u (structural 0x2C (drop next s)) → {again : ℕ} → u ≡ Next again →
+    pub reading_falls : {value next : ℕ} → t ≡ Read value next → {u : After} → Means s u (structural 0x2C (drop next s)) → {again : ℕ} → u ≡ Next again →
         length s - again < length s - place
-    reading-falls e c f = object-falls 126 k.listing m h e c f
+    reading_falls e c f = object_falls 126 k.listing m h e c f
 
 pub reading_inside : {s : List ℕ} {at place : ℕ} {id signature : Stands} → Reading s at place id signature → place ≤ length s
 reading_inside k = k.listing.inside
 
 pub ruleset reading =
-    (comment_empty, comment-no-brace, comment-no-members, reading_starts, reading_cut, reading-none, value-starts, reading-on, reading-wrong, reading-ends, reading-falls, reading_inside, space_inside, read_inside, member_inside, rules)
+    (comment_empty, comment_no_brace, comment_no_members, reading_starts, reading_cut, reading_none, value_starts, reading_on, reading_wrong, reading_ends, reading_falls, reading_inside, space_inside, read_inside, member_inside, rules)

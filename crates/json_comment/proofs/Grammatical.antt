@@ -51,9 +51,9 @@ past_quote s front l e =
 text_told : (s : List ℕ) (j : Item) {v : List ℕ} → Standing 126 s j → j.named.value ≡ text v → Told s (length s - length j.onward + 1) v
 text_told s j {v} t e = go j.onward refl t.within.cut t.valued
   where
-    by-head : (x : ℕ) (l : List ℕ) → j.onward ≡ x ∷ l → s ≡ t.within.front ++ (x ∷ l) → value_of 126 (x ∷ l) ≡ got j.named.value t.rest →
+    by_head : (x : ℕ) (l : List ℕ) → j.onward ≡ x ∷ l → s ≡ t.within.front ++ (x ∷ l) → value_of 126 (x ∷ l) ≡ got j.named.value t.rest →
         (b : Bool) → eqb x 0x22 ≡ b → Told s (length s - length j.onward + 1) v
-    by-head x l o c f true q =
+    by_head x l o c f true q =
         let is = eqb-true x 0x22 q in
         let w = value_text 126 l (ap (λ y. value_of 126 (y ∷ l)) (sym is) ∙ f) in
         let same_bytes : w.bytes ≡ v = let h : text w.bytes ≡ text v = sym w.is ∙ e in cc in
@@ -65,11 +65,11 @@ text_told s j {v} t e = go j.onward refl t.within.cut t.valued
           rest = t.rest;
           chars = ap (chars_from 0) at ∙ w.chars ∙ ap (λ k. got k t.rest) same_bytes;
         }
-    by-head x l o c f false q = absurd (let h : other ≡ text v = sym (value_other 126 x l q f) ∙ e in let z : ◌≡◌ {A = ℕ} 0 1 = cc in omega arith)
+    by_head x l o c f false q = absurd (let h : other ≡ text v = sym (value_other 126 x l q f) ∙ e in let z : ◌≡◌ {A = ℕ} 0 1 = cc in omega arith)
 
     go : (l : List ℕ) → j.onward ≡ l → s ≡ t.within.front ++ j.onward → value_of 126 j.onward ≡ got j.named.value t.rest → Told s (length s - length j.onward + 1) v
     go [] o c f = never_bad (sym (no_value 126) ∙ ap (value_of 126) (sym o) ∙ f)
-    go (x ∷ l) o c f = by-head x l o (c ∙ ap (λ k. t.within.front ++ k) o) (ap (value_of 126) (sym o) ∙ f) (eqb x 0x22) refl
+    go (x ∷ l) o c f = by_head x l o (c ∙ ap (λ k. t.within.front ++ k) o) (ap (value_of 126) (sym o) ∙ f) (eqb x 0x22) refl
 
 last_as : {k : List ℕ} {m n : Meaning} {ms : List Named} → m ≡ n → Last k m ms → Last k n ms
 last_as e l = rw e at l
@@ -79,24 +79,24 @@ module _ (s : List ℕ) {items : List Item} (e : members_of s ≡ got items []) 
   pub stands_missing : (stands_in s (last_of k items) ≡ Missing) ↔ Unnamed k (names items)
   stands_missing = ((λ m. to (last_of k items) refl m), (λ u. ap (stands_in s) (unnamed_missing k items u)))
     where
-      found-not : (m : Meaning) (p : ℕ) → stands_as m p ≡ Missing → ⊥
-      found-not (text v) p h = let z : ◌≡◌ {A = ℕ} 0 1 = cc in omega arith
-      found-not other p h = let z : ◌≡◌ {A = ℕ} 0 1 = cc in omega arith
+      found_not : (m : Meaning) (p : ℕ) → stands_as m p ≡ Missing → ⊥
+      found_not (text v) p h = let z : ◌≡◌ {A = ℕ} 0 1 = cc in omega arith
+      found_not other p h = let z : ◌≡◌ {A = ℕ} 0 1 = cc in omega arith
 
       to : (f : Found) → last_of k items ≡ f → stands_in s f ≡ Missing → Unnamed k (names items)
       to missing q h = missing_unnamed k items q
-      to (found j) q h = absurd (found-not j.named.value (length s - length j.onward) h)
+      to (found j) q h = absurd (found_not j.named.value (length s - length j.onward) h)
 
   pub stands_other : (stands_in s (last_of k items) ≡ Other) ↔ Last k other (names items)
   stands_other = ((λ m. to (last_of k items) refl m), back)
     where
-      is-other : (m : Meaning) (p : ℕ) → stands_as m p ≡ Other → m ≡ other
-      is-other (text v) p h = absurd (let z : ◌≡◌ {A = ℕ} 0 1 = cc in omega arith)
-      is-other other p h = refl
+      is_other : (m : Meaning) (p : ℕ) → stands_as m p ≡ Other → m ≡ other
+      is_other (text v) p h = absurd (let z : ◌≡◌ {A = ℕ} 0 1 = cc in omega arith)
+      is_other other p h = refl
 
       to : (f : Found) → last_of k items ≡ f → stands_in s f ≡ Other → Last k other (names items)
       to missing q h = absurd (let z : ◌≡◌ {A = ℕ} 0 1 = cc in omega arith)
-      to (found j) q h = last_as (is-other j.named.value (length s - length j.onward) h) (found_last k items q)
+      to (found j) q h = last_as (is_other j.named.value (length s - length j.onward) h) (found_last k items q)
 
       back : Last k other (names items) → stands_in s (last_of k items) ≡ Other
       back l = let (j, q, v) = last_found k items l in ap (stands_in s) q ∙ ap (λ m. stands_as m (length s - length j.onward)) v

@@ -21,7 +21,7 @@ use Rattle.json_grammar.proofs.Items.{before}
 use Rattle.json_string.specs.declared.string.Piece.{Piece}
 use Rattle.json_string.specs.declared.string.Piece.TheVariants.{Byte, Code, Closes, Wrong}
 use Rattle.json_string.specs.Inner.Pieces.{Stood, PieceMeans}
-use Rattle.json_string.proofs.Strings.{Stringing, coded_told, string_starts, starts_passed, string_cut, stood_on, stood_passed, closed-value, string-closed, string-wrong, byte-falls, code-falls}
+use Rattle.json_string.proofs.Strings.{Stringing, coded_told, string_starts, starts_passed, string_cut, stood_on, stood_passed, closed_value, string_closed, string_wrong, byte_falls, code_falls}
 use Rattle.json_decode.specs.Decoded.{decoded_is}
 use Rattle.json_decode.specs.Inner.Octets.{heads}
 
@@ -117,9 +117,9 @@ module _ {s : List ℕ} {start : ℕ} {text : List ℕ} {i at : ℕ} (k : Compar
       unfolding heads
       byte_other h d = other_char here (rw (drop-cons text i 0 h, ne_eqb b (get_or text i 0) (λ f. d (sym f))))
 
-      pub byte-same : i < length text → get_or text i 0 ≡ b → Comparing s start text (i + 1) n
+      pub byte_same : i < length text → get_or text i 0 ≡ b → Comparing s start text (i + 1) n
       unfolding heads
-      byte-same h d = same_char here (rw (drop-cons text i 0 h, eq-eqb b (get_or text i 0) (sym d)))
+      byte_same h d = same_char here (rw (drop-cons text i 0 h, eq-eqb b (get_or text i 0) (sym d)))
 
     module _ {c n : ℕ} (e : t ≡ Code c n) {h : Bool} (f : h ≡ heads (utf8 c) (drop i text)) where
       pub code_other : h ≡ false → false ≡ decoded_is text (chars_from 0 (drop start s))
@@ -131,14 +131,14 @@ module _ {s : List ℕ} {start : ℕ} {text : List ℕ} {i at : ℕ} (k : Compar
       pub code_fits : h ≡ true → {z : ℕ} → z ≡ length (utf8 c) → length text < 2 ^ 64 → Fits w64 (i + z)
       code_fits g z b = let q = (same_char (coded_told e m).stood (sym f ∙ g)).some in omega arith
 
-    pub compare-closed : {n : ℕ} → t ≡ Closes n → eqb i (length text) ≡ decoded_is text (chars_from 0 (drop start s))
-    compare-closed e =
-        let r = string-closed k.string m e in
-        let v : r.value ≡ take i text = closed-value k.string m e ∙ append-nil k.string.passed ∙ k.agrees in
+    pub compare_closed : {n : ℕ} → t ≡ Closes n → eqb i (length text) ≡ decoded_is text (chars_from 0 (drop start s))
+    compare_closed e =
+        let r = string_closed k.string m e in
+        let v : r.value ≡ take i text = closed_value k.string m e ∙ append-nil k.string.passed ∙ k.agrees in
         same_start i text k.some ∙ ap (λ l. same l text) (sym v) ∙ sym (ap (decoded_is text) r.reads)
 
-    pub compare-wrong : t ≡ Wrong → false ≡ decoded_is text (chars_from 0 (drop start s))
-    compare-wrong e = sym (rw (string-wrong k.string m e))
+    pub compare_wrong : t ≡ Wrong → false ≡ decoded_is text (chars_from 0 (drop start s))
+    compare_wrong e = sym (rw (string_wrong k.string m e))
 
 pub code_small : (s : List ℕ) (at : ℕ) {t : Piece} → PieceMeans s at t (piece_of (drop at s)) → {c n : ℕ} → t ≡ Code c n → c < 0x110000
 code_small s at m e = (coded_told e m).known
@@ -147,4 +147,4 @@ pub code_large : (s : List ℕ) (at : ℕ) {t : Piece} → PieceMeans s at t (pi
 code_large s at m e = (coded_told e m).several
 
 pub ruleset comparing =
-    (comparing_starts, compare_cut, byte_past, byte_other, byte-same, code_other, code_same, code_fits, code_small, code_large, compare-closed, compare-wrong, byte-falls, code-falls, rules)
+    (comparing_starts, compare_cut, byte_past, byte_other, byte_same, code_other, code_same, code_fits, code_small, code_large, compare_closed, compare_wrong, byte_falls, code_falls, rules)

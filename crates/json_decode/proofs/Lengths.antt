@@ -15,7 +15,7 @@ use Rattle.json_string.specs.declared.string.Piece.{Piece}
 use Rattle.json_string.specs.declared.string.Piece.TheVariants.{Byte, Code, Closes, Wrong}
 use Rattle.json_decode.specs.Decoded.{decoded_length}
 use Rattle.json_string.specs.Inner.Pieces.{Stood, PieceMeans}
-use Rattle.json_string.proofs.Strings.{Stringing, coded_told, string_starts, starts_passed, string_cut, stood_on, stood_passed, closed-value, string-closed, string-wrong, byte-falls, code-falls}
+use Rattle.json_string.proofs.Strings.{Stringing, coded_told, string_starts, starts_passed, string_cut, stood_on, stood_passed, closed_value, string_closed, string_wrong, byte_falls, code_falls}
 
 module _ (c : ℕ) where
   pub length_one : c < 0x80 → 1 ≡ length (utf8 c)
@@ -56,25 +56,25 @@ module _ {s : List ℕ} {start total at : ℕ} (k : Counting s start total at) w
   count_cut h = sym (rw (string_cut k.string h))
 
   module _ {t : Piece} (m : PieceMeans s at t (piece_of (drop at s))) where
-    pub byte-counts : {b n : ℕ} → t ≡ Byte b n → Counting s start (total + 1) n
-    byte-counts e = counts_on (rw e at m)
+    pub byte_counts : {b n : ℕ} → t ≡ Byte b n → Counting s start (total + 1) n
+    byte_counts e = counts_on (rw e at m)
 
     pub byte_fits : {b n : ℕ} → length s < 2 ^ 64 → t ≡ Byte b n → Fits w64 (total + 1)
     byte_fits b e = count_fits b (rw e at m)
 
-    pub code-counts : {c n r : ℕ} → t ≡ Code c n → r ≡ length (utf8 c) → Counting s start (total + r) n
-    code-counts e f = rw f (counts_on (coded_told e m).stood)
+    pub code_counts : {c n r : ℕ} → t ≡ Code c n → r ≡ length (utf8 c) → Counting s start (total + r) n
+    code_counts e f = rw f (counts_on (coded_told e m).stood)
 
     pub code_fits : {c n r : ℕ} → length s < 2 ^ 64 → t ≡ Code c n → r ≡ length (utf8 c) → Fits w64 (total + r)
     code_fits b e f = rw f (count_fits b (coded_told e m).stood)
 
-    pub count-closed : {n : ℕ} → t ≡ Closes n → Bytes total ≡ decoded_length (chars_from 0 (drop start s))
-    count-closed e =
-        let r = string-closed k.string m e in
-        sym (rw r.reads (ap Bytes (rw (closed-value k.string m e, length-append k.string.passed []) (omega (arith, k.counted)))))
+    pub count_closed : {n : ℕ} → t ≡ Closes n → Bytes total ≡ decoded_length (chars_from 0 (drop start s))
+    count_closed e =
+        let r = string_closed k.string m e in
+        sym (rw r.reads (ap Bytes (rw (closed_value k.string m e, length-append k.string.passed []) (omega (arith, k.counted)))))
 
-    pub count-wrong : t ≡ Wrong → NoString ≡ decoded_length (chars_from 0 (drop start s))
-    count-wrong e = sym (rw (string-wrong k.string m e))
+    pub count_wrong : t ≡ Wrong → NoString ≡ decoded_length (chars_from 0 (drop start s))
+    count_wrong e = sym (rw (string_wrong k.string m e))
 
 pub ruleset counting =
-    (counting_starts, count_cut, byte-counts, byte_fits, code-counts, code_fits, count-closed, count-wrong, byte-falls, code-falls, rules)
+    (counting_starts, count_cut, byte_counts, byte_fits, code_counts, code_fits, count_closed, count_wrong, byte_falls, code_falls, rules)

@@ -21,7 +21,7 @@ use Rattle.json_grammar.proofs.Items.{before}
 use Rattle.json_string.specs.declared.string.Piece.{Piece}
 use Rattle.json_string.specs.declared.string.Piece.TheVariants.{Byte, Code, Closes, Wrong}
 use Rattle.json_string.specs.Inner.Pieces.{Stood, PieceMeans}
-use Rattle.json_string.proofs.Strings.{Stringing, coded_told, string_starts, starts_passed, string_cut, stood_on, stood_passed, closed-value, string-closed, string-wrong, byte-falls, code-falls}
+use Rattle.json_string.proofs.Strings.{Stringing, coded_told, string_starts, starts_passed, string_cut, stood_on, stood_passed, closed_value, string_closed, string_wrong, byte_falls, code_falls}
 use Rattle.json_decode.specs.declared.length.Decoded.{Decoded}
 use Rattle.json_decode.specs.declared.length.Decoded.TheVariants.{Bytes, NoString}
 use Rattle.json_decode.specs.declared.write.Written.{Written}
@@ -77,35 +77,35 @@ module _ {s : List ℕ} {start : ℕ} {d : List ℕ} {at : ℕ} (f : Fitting (ch
       here : Stood s from n (b ∷ []) (piece_of (drop from s))
       here = rw e at m
 
-      pub write-inside : to < length room
-      write-inside = let g = fits_on here in omega arith
+      pub write_inside : to < length room
+      write_inside = let g = fits_on here in omega arith
 
       pub byte_fits : length d < 2 ^ 64 → Fits w64 (to + 1)
       byte_fits z = let g = fits_on here in omega (arith, k.size)
 
       pub write_byte : Writing s start d at (set room to b) (to + 1) n
-      write_byte = rw (put_one room to b write-inside) at (writes_on {n = n} {v = b ∷ []} here)
+      write_byte = rw (put_one room to b write_inside) at (writes_on {n = n} {v = b ∷ []} here)
 
     module _ {c n : ℕ} (e : t ≡ Code c n) where
-      pub write-room : to + length (utf8 c) ≤ length room
-      write-room = fits_on (coded_told e m).stood
+      pub write_room : to + length (utf8 c) ≤ length room
+      write_room = fits_on (coded_told e m).stood
 
       pub code_fits : {z : ℕ} → z ≡ length (utf8 c) → length d < 2 ^ 64 → Fits w64 (to + z)
-      code_fits z b = let g = write-room in omega (arith, k.size)
+      code_fits z b = let g = write_room in omega (arith, k.size)
 
-      pub write-code : {z : ℕ} {after : List ℕ} → after ≡ put room to (utf8 c) → z ≡ length (utf8 c) → Writing s start d at after (to + z) n
-      write-code p z = rw (p, z) (writes_on (coded_told e m).stood)
+      pub write_code : {z : ℕ} {after : List ℕ} → after ≡ put room to (utf8 c) → z ≡ length (utf8 c) → Writing s start d at after (to + z) n
+      write_code p z = rw (p, z) (writes_on (coded_told e m).stood)
 
-    pub write-closed : {n : ℕ} → t ≡ Closes n → room ≡ put d at (decoded (chars_from 0 (drop start s)))
-    write-closed e =
-        let r = string-closed k.string m e in
-        let v : r.value ≡ k.string.passed = closed-value k.string m e ∙ append-nil k.string.passed in
+    pub write_closed : {n : ℕ} → t ≡ Closes n → room ≡ put d at (decoded (chars_from 0 (drop start s)))
+    write_closed e =
+        let r = string_closed k.string m e in
+        let v : r.value ≡ k.string.passed = closed_value k.string m e ∙ append-nil k.string.passed in
         k.is ∙ ap (put d at) (sym v ∙ sym (ap decoded r.reads))
 
-    pub write-wrong : t ≡ Wrong → room ≡ put d at (decoded (chars_from 0 (drop start s)))
-    write-wrong e = never_cut (string-wrong k.string m e)
+    pub write_wrong : t ≡ Wrong → room ≡ put d at (decoded (chars_from 0 (drop start s)))
+    write_wrong e = never_cut (string_wrong k.string m e)
 
-pub ruleset writing = (writing_starts, write_cut, write-inside, byte_fits, write_byte, write-room, code_fits, write-code, code_small, code_large, write-closed, write-wrong, byte-falls, code-falls, rules)
+pub ruleset writing = (writing_starts, write_cut, write_inside, byte_fits, write_byte, write_room, code_fits, write_code, code_small, code_large, write_closed, write_wrong, byte_falls, code_falls, rules)
 
 -- Whether there is a string and room for it.
 pub no_string : (o : Out (List ℕ)) (at n : ℕ) {b : Decoded} → b ≡ decoded_length o → b ≡ NoString → written.NoString ≡ written_of o at n
@@ -150,19 +150,19 @@ module _ (o : Out (List ℕ)) (at : ℕ) (d : List ℕ) {b : Decoded} {m : ℕ} 
     pub done : written.Done (at + m) ≡ written_of o at (length d)
     done =
         let (v, r, g, l) = told o e f in
-        let yes-room : leb (at + length v) (length d) ≡ true = le-leb (at + length v) (length d) (rw l (omega arith)) in
-        sym (rw (g, yes-room, l))
+        let yes_room : leb (at + length v) (length d) ≡ true = le-leb (at + length v) (length d) (rw l (omega arith)) in
+        sym (rw (g, yes_room, l))
 
-    pub done-room : {after : List ℕ} → after ≡ put d at (decoded o) → after ≡ room_of o at d
-    done-room p =
+    pub done_room : {after : List ℕ} → after ≡ put d at (decoded o) → after ≡ room_of o at d
+    done_room p =
         let (v, r, g, l) = told o e f in
-        let yes-room : leb (at + length v) (length d) ≡ true = le-leb (at + length v) (length d) (rw l (omega arith)) in
-        p ∙ sym (rw (g, yes-room))
+        let yes_room : leb (at + length v) (length d) ≡ true = le-leb (at + length v) (length d) (rw l (omega arith)) in
+        p ∙ sym (rw (g, yes_room))
 
     pub end_fits : length d < 2 ^ 64 → Fits w64 (at + m)
     end_fits z = omega arith
 
-pub ruleset deciding = (no_string, no_string_room, beyond, beyond_room, short, short_room, has_room, done, done-room, end_fits, rules)
+pub ruleset deciding = (no_string, no_string_room, beyond, beyond_room, short, short_room, has_room, done, done_room, end_fits, rules)
 
 -- what is written ends inside the room
 ends_inside : (o : Out (List ℕ)) (at : ℕ) (d : List ℕ) {n : ℕ} → written_of o at (length d) ≡ written.Done n → n ≤ length (room_of o at d)

@@ -164,13 +164,13 @@ minus_past (present (octet y o)) i r = rw o
 pub number_all : {a : List ℕ} → Grammar.Number a → (r : List ℕ) → stops r ≡ true → (y : ℕ) × (json_number (a ++ r) ≡ got y r)
 unfolding json_number and_then
 number_all (◌⨾◌ {a = m} m' (◌⨾◌ {a = i} i' (◌⨾◌ {a = f} {b = e} f' e'))) r s =
-    let noE : free is_e r ≡ true = stop_free_of is_e refl refl refl refl refl refl refl r s in
-    let noPoint : free is_point r ≡ true = stop_free_of is_point refl refl refl refl refl refl refl r s in
-    let noDigit : free is_digit r ≡ true = stop_free_of is_digit refl refl refl refl refl refl refl r s in
-    let pointAfter : free is_point (e ++ r) ≡ true = free_exp is_point refl refl e' r noPoint in
-    let digitAfter : free is_digit (e ++ r) ≡ true = free_exp is_digit refl refl e' r noDigit in
-    let (y1, h1) = int_all i' (f ++ (e ++ r)) (free_frac f' (e ++ r) digitAfter) in
-    let (y2, h2) = frac_all f' (e ++ r) pointAfter digitAfter in
-    let (y3, h3) = exp_all e' r noE noDigit in
+    let no_e : free is_e r ≡ true = stop_free_of is_e refl refl refl refl refl refl refl r s in
+    let no_point : free is_point r ≡ true = stop_free_of is_point refl refl refl refl refl refl refl r s in
+    let no_digit : free is_digit r ≡ true = stop_free_of is_digit refl refl refl refl refl refl refl r s in
+    let point_after : free is_point (e ++ r) ≡ true = free_exp is_point refl refl e' r no_point in
+    let digit_after : free is_digit (e ++ r) ≡ true = free_exp is_digit refl refl e' r no_digit in
+    let (y1, h1) = int_all i' (f ++ (e ++ r)) (free_frac f' (e ++ r) digit_after) in
+    let (y2, h2) = frac_all f' (e ++ r) point_after digit_after in
+    let (y3, h3) = exp_all e' r no_e no_digit in
     let whole : (m ++ (i ++ (f ++ e))) ++ r ≡ m ++ (i ++ (f ++ (e ++ r))) = simp append_assoc in
     (y3, rw (whole, minus_past m' i' (f ++ (e ++ r)), h1, h2) h3)

@@ -99,24 +99,24 @@ module _ {X : Type 0} (p : List ℕ → Out X) (closing : ℕ) where
 
   -- An item `x` was read, and `r` is left.
   module _ (x : X) (more : List ℕ → Out (List X)) (r : List ℕ) where
-    after-head : (l : List ℕ) → skip r ≡ l → (c : ℕ) (t : List ℕ) → l ≡ c ∷ t →
+    after_head : (l : List ℕ) → skip r ≡ l → (c : ℕ) (t : List ℕ) → l ≡ c ∷ t →
         after_item closing x more (skip r) ≡ pick (eqb c 0x2C) (before (x ∷ []) (more (skip t))) (pick (eqb c closing) (got (x ∷ []) (skip t)) bad)
     unfolding after_item
-    after-head l e c t f = rw (e, f)
+    after_head l e c t f = rw (e, f)
 
     pub after_comma : {y : ℕ} {q : List ℕ} → structural 0x2C r ≡ got y q → after_item closing x more (skip r) ≡ before (x ∷ []) (more q)
     after_comma e =
         let w = seen 0x2C r e in
-        after-head (skip r) refl 0x2C w.onward w.here ∙ ap (λ l. before (x ∷ []) (more l)) w.rest
+        after_head (skip r) refl 0x2C w.onward w.here ∙ ap (λ l. before (x ∷ []) (more l)) w.rest
 
-    pub after-closed : {y : ℕ} {q : List ℕ} → structural 0x2C r ≡ bad → structural closing r ≡ got y q → after_item closing x more (skip r) ≡ got (x ∷ []) q
-    after-closed n e =
+    pub after_closed : {y : ℕ} {q : List ℕ} → structural 0x2C r ≡ bad → structural closing r ≡ got y q → after_item closing x more (skip r) ≡ got (x ∷ []) q
+    after_closed n e =
         let w = seen closing r e in
-        after-head (skip r) refl closing w.onward w.here ∙ rw (unseen 0x2C r closing w.onward n w.here, eq-eqb closing closing refl, w.rest)
+        after_head (skip r) refl closing w.onward w.here ∙ rw (unseen 0x2C r closing w.onward n w.here, eq-eqb closing closing refl, w.rest)
 
-    pub after-wrong : structural 0x2C r ≡ bad → structural closing r ≡ bad → after_item closing x more (skip r) ≡ bad
+    pub after_wrong : structural 0x2C r ≡ bad → structural closing r ≡ bad → after_item closing x more (skip r) ≡ bad
     unfolding after_item
-    after-wrong n m = go (skip r) refl
+    after_wrong n m = go (skip r) refl
       where
         go : (l : List ℕ) → skip r ≡ l → after_item closing x more l ≡ bad
         go [] e = refl

@@ -21,7 +21,7 @@ readable_iff s = ((λ (items, e). (names items, json_took s e)), (λ (ms, j). le
 
 -- and its members are those of the text: there are no others
 pub members_are : (s : List ℕ) {items : List Item} {ms : List Named} → members_of s ≡ got items [] → JsonText s ms → names items ≡ ms
-members_are s {items} {ms} e j = let (xs, n, f) = json_all j in let same-items : items ≡ xs = cc in ap names same-items ∙ n
+members_are s {items} {ms} e j = let (xs, n, f) = json_all j in let same_items : items ≡ xs = cc in ap names same_items ∙ n
 
 pub unreadable : (s : List ℕ) {ms : List Named} → members_of s ≡ bad → JsonText s ms → ⊥
 unreadable s e j = let (xs, n, f) = json_all j in let z : ◌≡◌ {A = ℕ} 0 1 = cc in omega arith

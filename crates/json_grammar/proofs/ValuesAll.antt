@@ -204,8 +204,8 @@ module _
     unfolding enclosed_of
     opened l t m e g = ap (enclosed_of p opening closing) e ∙ rw (eq-eqb opening opening refl, g)
 
-    pub enclosed-all : {a : List ℕ} {ys : List Y} → Between opening closing P a ys → (r : List ℕ) → Done ys r (enclosed_of p opening closing (skip (a ++ r)))
-    enclosed-all (Grammar.empty {a = a} {b = b} o c) r =
+    pub enclosed_all : {a : List ℕ} {ys : List Y} → Between opening closing P a ys → (r : List ℕ) → Done ys r (enclosed_of p opening closing (skip (a ++ r)))
+    enclosed_all (Grammar.empty {a = a} {b = b} o c) r =
         let s = structural_stands opening opening-dark o (b ++ r) in
         let t = structural_stands closing closing-dark c r in (
           [],
@@ -213,7 +213,7 @@ module _
           opened (skip ((a ++ b) ++ r)) s.tail (b ++ r) (ap skip (append_assoc a b r) ∙ s.seen) s.leaves
               ∙ inside_empty (skip (b ++ r)) t.tail r t.seen t.leaves,
         )
-    enclosed-all (Grammar.filled {a = a} {b = b} {c = c} o i k) r =
+    enclosed_all (Grammar.filled {a = a} {b = b} {c = c} o i k) r =
         let s = structural_stands opening opening-dark o (b ++ (c ++ r)) in
         let flat : (a ++ (b ++ c)) ++ r ≡ a ++ (b ++ (c ++ r)) = append_assoc a (b ++ c) r ∙ ap (λ l. a ++ l) (append_assoc b c r) in
         let (xs, g, e) = items_all i c r k (length (skip (b ++ (c ++ r)))) (omega arith) in
@@ -266,12 +266,12 @@ module _ (Inner : List ℕ → Meaning → Type 0) (inner : List ℕ → Out Mea
       (xs : List Item) × (map named_of xs ≡ ms) × (enclosed_of (member_of inner) 0x7B 0x7D (skip (a ++ r)) ≡ got xs (skip r))
   unfolding member_of string_of and_then
   object_all o r =
-      enclosed-all named_of (Grammar.Member Inner) (member_of inner) 0x7D (member_all Inner inner k.all) member_shorter refl (λ t. refl) refl refl refl 0x7B refl o r
+      enclosed_all named_of (Grammar.Member Inner) (member_of inner) 0x7D (member_all Inner inner k.all) member_shorter refl (λ t. refl) refl refl refl 0x7B refl o r
 
   array_all : {a : List ℕ} {ms : List Meaning} → Grammar.Array Inner a ms → (r : List ℕ) →
       (xs : List Meaning) × (map (λ x. x) xs ≡ ms) × (enclosed_of inner 0x5B 0x5D (skip (a ++ r)) ≡ got xs (skip r))
   array_all o r =
-      enclosed-all (λ x. x) Inner inner 0x5D (λ a m v r e. (m, refl, k.all a m v r e)) inner_shorter k.empty k.closing refl refl refl 0x5B refl o r
+      enclosed_all (λ x. x) Inner inner 0x5D (λ a m v r e. (m, refl, k.all a m v r e)) inner_shorter k.empty k.closing refl refl refl 0x5B refl o r
 
   flat_nested : (x : ℕ) (s r : List ℕ) (m : Meaning) → eqb x 0x7B ≡ false → eqb x 0x5B ≡ false → flat_of (x ∷ s) ≡ got m r → nested_of inner (x ∷ s) ≡ got m r
   unfolding nested_of

@@ -139,44 +139,44 @@ module _ {X : Type 0} (P : List ℕ → X → Type 0) (p : List ℕ → Out X) (
       (λ q ys z. items_took n q ys z) (skip t.left_over) refl t.goes
 
   module _ (opening : ℕ) where
-    enclosed-as : (s : List ℕ) {xs ys : List X} {r q : List ℕ} → xs ≡ ys → r ≡ q →
+    enclosed_as : (s : List ℕ) {xs ys : List X} {r q : List ℕ} → xs ≡ ys → r ≡ q →
         Took (λ a. Between opening closing P a xs) s r → Took (λ a. Between opening closing P a ys) s q
-    enclosed-as s {r = r} e f t = took_to f (meant_as (Between opening closing P) s r e t)
+    enclosed_as s {r = r} e f t = took_to f (meant_as (Between opening closing P) s r e t)
 
-    empty-took : (s m r : List ℕ) → Took (Grammar.Structural opening) s m → Took (Grammar.Structural closing) m r → Took (λ a. Between opening closing P a []) s r
-    empty-took s m r o c = record {
+    empty_took : (s m r : List ℕ) → Took (Grammar.Structural opening) s m → Took (Grammar.Structural closing) m r → Took (λ a. Between opening closing P a []) s r
+    empty_took s m r o c = record {
       part = o.part ++ c.part;
       cut = o.cut ∙ ap (λ l. o.part ++ l) c.cut ∙ sym (append_assoc o.part c.part r);
       is = Grammar.empty o.is c.is;
     }
 
-    filled-took : (s m : List ℕ) (xs : List X) (r : List ℕ) → Took (Grammar.Structural opening) s m → ItemsTook m xs r → Took (λ a. Between opening closing P a xs) s r
-    filled-took s m xs r o i = record {
+    filled_took : (s m : List ℕ) (xs : List X) (r : List ℕ) → Took (Grammar.Structural opening) s m → ItemsTook m xs r → Took (λ a. Between opening closing P a xs) s r
+    filled_took s m xs r o i = record {
       part = o.part ++ (i.items ++ i.close);
       cut =
           o.cut ∙ ap (λ l. o.part ++ l) (i.cut ∙ sym (append_assoc i.items i.close r)) ∙ sym (append_assoc o.part (i.items ++ i.close) r);
       is = Grammar.filled o.is i.are i.closed;
     }
 
-    inside-took : (s l : List ℕ) (xs : List X) (r : List ℕ) → Took (Grammar.Structural opening) s l → skip l ≡ l →
+    inside_took : (s l : List ℕ) (xs : List X) (r : List ℕ) → Took (Grammar.Structural opening) s l → skip l ≡ l →
         inside_of p closing l ≡ got xs r → Took (λ a. Between opening closing P a xs) s r
     unfolding inside_of
-    inside-took s [] xs r o k e = never_bad e
-    inside-took s (y ∷ t) xs r o k e = go (eqb y closing) refl e
+    inside_took s [] xs r o k e = never_bad e
+    inside_took s (y ∷ t) xs r o k e = go (eqb y closing) refl e
       where
         go : (b : Bool) → eqb y closing ≡ b → pick b (got [] (skip t)) (items_of p closing (length (y ∷ t)) (y ∷ t)) ≡ got xs r →
             Took (λ a. Between opening closing P a xs) s r
-        go true q f = enclosed-as s (same_value f) (same_rest f) (empty-took s (y ∷ t) (skip t) o (structural_here closing (y ∷ t) t y k q))
-        go false q f = filled-took s (y ∷ t) xs r o (items_took (length (y ∷ t)) (y ∷ t) xs r f)
+        go true q f = enclosed_as s (same_value f) (same_rest f) (empty_took s (y ∷ t) (skip t) o (structural_here closing (y ∷ t) t y k q))
+        go false q f = filled_took s (y ∷ t) xs r o (items_took (length (y ∷ t)) (y ∷ t) xs r f)
 
-    pub enclosed-took : (s : List ℕ) (xs : List X) (r : List ℕ) → skip s ≡ s → enclosed_of p opening closing s ≡ got xs r →
+    pub enclosed_took : (s : List ℕ) (xs : List X) (r : List ℕ) → skip s ≡ s → enclosed_of p opening closing s ≡ got xs r →
         Took (λ a. Between opening closing P a xs) s r
     unfolding enclosed_of
-    enclosed-took [] xs r k e = never_bad e
-    enclosed-took (x ∷ s) xs r k e = go (eqb x opening) refl e
+    enclosed_took [] xs r k e = never_bad e
+    enclosed_took (x ∷ s) xs r k e = go (eqb x opening) refl e
       where
         go : (b : Bool) → eqb x opening ≡ b → pick b (inside_of p closing (skip s)) bad ≡ got xs r → Took (λ a. Between opening closing P a xs) (x ∷ s) r
-        go true q f = inside-took (x ∷ s) (skip s) xs r (structural_here opening (x ∷ s) s x k q) (skip_twice s) f
+        go true q f = inside_took (x ∷ s) (skip s) xs r (structural_here opening (x ∷ s) s x k q) (skip_twice s) f
         go false q f = never_bad f
 
 -- Members.
@@ -233,11 +233,11 @@ nested_took Inner inner inner-took (x ∷ s) m r e = go (eqb x 0x7B) refl (eqb x
         Took (λ a. Grammar.Nested Inner a m) l r
     go true p b q f =
         let t = and_got (enclosed_of (member_of inner) 0x7B 0x7D l) f in
-        let o = enclosed-took (λ b i. Grammar.Member Inner b i.named) (member_of inner) (member_took Inner inner inner-took) 0x7D 0x7B l t.first t.left_over (no_ws x s 0x7B p refl) t.reads in
+        let o = enclosed_took (λ b i. Grammar.Member Inner b i.named) (member_of inner) (member_took Inner inner inner-took) 0x7D 0x7B l t.first t.left_over (no_ws x s 0x7B p refl) t.reads in
         meant_as (Grammar.Nested Inner) l r (same_value t.goes) (took_to (same_rest t.goes) (took_as (λ a i. Grammar.object (named_object i)) o))
     go false p true q f =
         let t = and_got (enclosed_of inner 0x5B 0x5D l) f in
-        let o = enclosed-took Inner inner inner-took 0x5D 0x5B l t.first t.left_over (no_ws x s 0x5B q refl) t.reads in
+        let o = enclosed_took Inner inner inner-took 0x5D 0x5B l t.first t.left_over (no_ws x s 0x5B q refl) t.reads in
         meant_as (Grammar.Nested Inner) l r (same_value t.goes) (took_to (same_rest t.goes) (took_as (λ a i. Grammar.array i) o))
     go false p false q f = took_as (λ a i. Grammar.flat i) (flat_took l f)
 
@@ -256,7 +256,7 @@ object_took : (s : List ℕ) (items : List Item) (r : List ℕ) → skip s ≡ s
     Took (λ a. Grammar.Object (Grammar.Value 126) a (names items)) s r
 object_took s items r k e =
     took_as (λ a i. named_object i)
-    (enclosed-took (λ b i. Grammar.Member (Grammar.Value 126) b i.named) (member_of (value_of 126)) (member_took (Grammar.Value 126) (value_of 126) (value_took 126)) 0x7D 0x7B s items r k e)
+    (enclosed_took (λ b i. Grammar.Member (Grammar.Value 126) b i.named) (member_of (value_of 126)) (member_took (Grammar.Value 126) (value_of 126) (value_took 126)) 0x7D 0x7B s items r k e)
 
 -- what is read is a JSON text with these members
 pub json_took : (s : List ℕ) {items : List Item} {r : List ℕ} → members_of s ≡ got items r → Grammar.JsonText s (names items)

@@ -44,21 +44,21 @@ module _ (a b c d : ℕ) where
   value_first e = sym (rw (eq-eqb a 16 e))
 
   module _ (p : a ≡ 16 → ⊥) where
-    pub value-second : b ≡ 16 → 65536 ≡ hex_value a b c d
-    value-second e = sym (rw (ne_eqb a 16 p, eq-eqb b 16 e))
+    pub value_second : b ≡ 16 → 65536 ≡ hex_value a b c d
+    value_second e = sym (rw (ne_eqb a 16 p, eq-eqb b 16 e))
 
     module _ (q : b ≡ 16 → ⊥) where
-      pub value-third : c ≡ 16 → 65536 ≡ hex_value a b c d
-      value-third e = sym (rw (ne_eqb a 16 p, ne_eqb b 16 q, eq-eqb c 16 e))
+      pub value_third : c ≡ 16 → 65536 ≡ hex_value a b c d
+      value_third e = sym (rw (ne_eqb a 16 p, ne_eqb b 16 q, eq-eqb c 16 e))
 
       module _ (r : c ≡ 16 → ⊥) where
-        pub value-fourth : d ≡ 16 → 65536 ≡ hex_value a b c d
-        value-fourth e = sym (rw (ne_eqb a 16 p, ne_eqb b 16 q, ne_eqb c 16 r, eq-eqb d 16 e))
+        pub value_fourth : d ≡ 16 → 65536 ≡ hex_value a b c d
+        value_fourth e = sym (rw (ne_eqb a 16 p, ne_eqb b 16 q, ne_eqb c 16 r, eq-eqb d 16 e))
 
         pub value_all : (d ≡ 16 → ⊥) → ((a * 16 + b) * 16 + c) * 16 + d ≡ hex_value a b c d
         value_all e = sym (rw (ne_eqb a 16 p, ne_eqb b 16 q, ne_eqb c 16 r, ne_eqb d 16 e))
 
-pub ruleset hex_values = (value_first, value-second, value-third, value-fourth, value_all, rules)
+pub ruleset hex_values = (value_first, value_second, value_third, value_fourth, value_all, rules)
 
 pub hexdig_most : (x : ℕ) → hexdig x ≤ 16
 hexdig_most x = go (within 0x30 0x39 x) refl (within 0x41 0x46 x) refl (within 0x61 0x66 x) refl

@@ -58,25 +58,25 @@ module _ (s : List ℕ) (base high : ℕ) (i : base + 6 ≤ length s) where
         let e : suc (base + 6 + 1) ≡ base + 6 + 2 = omega arith in
         rw (drop-cons s (base + 6) 0 (omega arith), ← add-one (base + 6), drop-cons s (base + 6 + 1) 0 (omega arith), e)
 
-    pub second-no-escape : (get_or s (base + 6) 0 ≡ 0x5C → ⊥) → second high (drop (base + 6) s) ≡ Reader.wrong
+    pub second_no_escape : (get_or s (base + 6) 0 ≡ 0x5C → ⊥) → second high (drop (base + 6) s) ≡ Reader.wrong
     unfolding second
-    second-no-escape n = rw (two_here, ne_eqb (get_or s (base + 6) 0) 0x5C n)
+    second_no_escape n = rw (two_here, ne_eqb (get_or s (base + 6) 0) 0x5C n)
 
     module _ (e : get_or s (base + 6) 0 ≡ 0x5C) where
-      pub second-no-u : (get_or s (base + 6 + 1) 0 ≡ 0x75 → ⊥) → second high (drop (base + 6) s) ≡ Reader.wrong
+      pub second_no_u : (get_or s (base + 6 + 1) 0 ≡ 0x75 → ⊥) → second high (drop (base + 6) s) ≡ Reader.wrong
       unfolding second
-      second-no-u n = rw (two_here, eq-eqb (get_or s (base + 6) 0) 0x5C e, ne_eqb (get_or s (base + 6 + 1) 0) 0x75 n)
+      second_no_u n = rw (two_here, eq-eqb (get_or s (base + 6) 0) 0x5C e, ne_eqb (get_or s (base + 6 + 1) 0) 0x75 n)
 
       module _ (f : get_or s (base + 6 + 1) 0 ≡ 0x75) {low : ℕ} (g : low ≡ hex4 (drop (base + 6 + 2) s)) where
         seen : second high (drop (base + 6) s) ≡ pick (within 0xDC00 0xDFFF low) (Reader.stands (utf8 (0x10000 + (high - 0xD800) * 0x400 + (low - 0xDC00))) 11) Reader.wrong
         unfolding second
         seen = rw (two_here, eq-eqb (get_or s (base + 6) 0) 0x5C e, eq-eqb (get_or s (base + 6 + 1) 0) 0x75 f, ← g)
 
-        pub second-low : low < 0xDC00 → second high (drop (base + 6) s) ≡ Reader.wrong
-        second-low l = seen ∙ rw (within_low 0xDC00 0xDFFF low l)
+        pub second_low : low < 0xDC00 → second high (drop (base + 6) s) ≡ Reader.wrong
+        second_low l = seen ∙ rw (within_low 0xDC00 0xDFFF low l)
 
-        pub second-high : 0xDFFF < low → second high (drop (base + 6) s) ≡ Reader.wrong
-        second-high l = seen ∙ rw (within_high 0xDC00 0xDFFF low l)
+        pub second_high : 0xDFFF < low → second high (drop (base + 6) s) ≡ Reader.wrong
+        second_high l = seen ∙ rw (within_high 0xDC00 0xDFFF low l)
 
         module _ (l : 0xDC00 ≤ low) (u : low ≤ 0xDFFF) where
           inside : base + 12 ≤ length s
@@ -91,13 +91,13 @@ module _ (s : List ℕ) (base high : ℕ) (i : base + 6 ≤ length s) where
             room = let c = utf8_short (0x10000 + (high - 0xD800) * 0x400 + (low - 0xDC00)) in omega arith;
           }
 
-          pub second-stood : high ≤ 0xDBFF → Coded s base (base + 6 + 6) (0x10000 + (high - 0xD800) * 0x400 + (low - 0xDC00)) (second high (drop (base + 6) s))
-          second-stood most = record { stood = stood; several = omega arith; known = omega arith }
+          pub second_stood : high ≤ 0xDBFF → Coded s base (base + 6 + 6) (0x10000 + (high - 0xD800) * 0x400 + (low - 0xDC00)) (second high (drop (base + 6) s))
+          second_stood most = record { stood = stood; several = omega arith; known = omega arith }
 
           pub second_fits : length s < 2 ^ 64 → Fits w64 (base + 6 + 6)
           second_fits b = let k = inside in omega arith
 
-pub ruleset seconds = (second_short, second-no-escape, second-no-u, second-low, second-high, second-stood, second_fits, rules)
+pub ruleset seconds = (second_short, second_no_escape, second_no_u, second_low, second_high, second_stood, second_fits, rules)
 
 -- A code point by four digits.
 module _ (s : List ℕ) (base : ℕ) (i : base + 2 ≤ length s) {code : ℕ} (g : code ≡ hex4 (drop (base + 2) s)) where
@@ -113,40 +113,40 @@ module _ (s : List ℕ) (base : ℕ) (i : base + 2 ≤ length s) {code : ℕ} (g
     fits : code < 65536
     fits = let m = hex4_most (drop (base + 2) s) in omega arith
 
-    pub unicode-inside : base + 6 ≤ length s
-    unicode-inside = let k = four_inside s (base + 2) (rw (← g) fits) i in omega arith
+    pub unicode_inside : base + 6 ≤ length s
+    unicode_inside = let k = four_inside s (base + 2) (rw (← g) fits) i in omega arith
 
-    pub unicode-fits : length s < 2 ^ 64 → Fits w64 (base + 6)
-    unicode-fits b = let k = unicode-inside in omega arith
+    pub unicode_fits : length s < 2 ^ 64 → Fits w64 (base + 6)
+    unicode_fits b = let k = unicode_inside in omega arith
 
     alone : within 0xD800 0xDBFF code ≡ false → within 0xDC00 0xDFFF code ≡ false → Stood s base (base + 6) (utf8 code) (unicode (drop (base + 2) s))
-    alone p q = record { size = 5; is = whole ∙ rw (ne_eqb code 65536 n, p, q); next = omega arith; inside = unicode-inside; room = let c = utf8_short code in omega arith }
+    alone p q = record { size = 5; is = whole ∙ rw (ne_eqb code 65536 n, p, q); next = omega arith; inside = unicode_inside; room = let c = utf8_short code in omega arith }
 
     below : code < 0xD800 → Stood s base (base + 6) (utf8 code) (unicode (drop (base + 2) s))
     below l = alone (within_low 0xD800 0xDBFF code l) (within_low 0xDC00 0xDFFF code (omega arith))
 
-    pub unicode-one : code < 0x80 → Stood s base (base + 6) (code ∷ []) (unicode (drop (base + 2) s))
-    unicode-one l = rw (utf8_one code l) at below (omega arith)
+    pub unicode_one : code < 0x80 → Stood s base (base + 6) (code ∷ []) (unicode (drop (base + 2) s))
+    unicode_one l = rw (utf8_one code l) at below (omega arith)
 
-    pub unicode-below : 0x80 ≤ code → code < 0xD800 → Coded s base (base + 6) code (unicode (drop (base + 2) s))
-    unicode-below l h = record { stood = below h; several = l; known = omega arith }
+    pub unicode_below : 0x80 ≤ code → code < 0xD800 → Coded s base (base + 6) code (unicode (drop (base + 2) s))
+    unicode_below l h = record { stood = below h; several = l; known = omega arith }
 
-    pub unicode-above : 0xDFFF < code → Coded s base (base + 6) code (unicode (drop (base + 2) s))
-    unicode-above l = record {
+    pub unicode_above : 0xDFFF < code → Coded s base (base + 6) code (unicode (drop (base + 2) s))
+    unicode_above l = record {
       stood = alone (within_high 0xD800 0xDBFF code (omega arith)) (within_high 0xDC00 0xDFFF code l);
       several = omega arith;
       known = let k = fits in omega arith;
     }
 
-    pub unicode-pair : 0xD800 ≤ code → code ≤ 0xDBFF → (r : Piece) → PieceMeans s base r (second code (drop (base + 6) s)) → PieceMeans s base r (unicode (drop (base + 2) s))
-    unicode-pair l u r m =
+    pub unicode_pair : 0xD800 ≤ code → code ≤ 0xDBFF → (r : Piece) → PieceMeans s base r (second code (drop (base + 6) s)) → PieceMeans s base r (unicode (drop (base + 2) s))
+    unicode_pair l u r m =
         let e : base + 2 + 4 ≡ base + 6 = omega arith in
         piece_as s base r (whole ∙ rw (ne_eqb code 65536 n, within_yes 0xD800 0xDBFF code l u, drop-drop 4 (base + 2) s, e)) m
 
-    pub unicode-lone : 0xDBFF < code → code ≤ 0xDFFF → unicode (drop (base + 2) s) ≡ Reader.wrong
-    unicode-lone l u = whole ∙ rw (ne_eqb code 65536 n, within_high 0xD800 0xDBFF code l, within_yes 0xDC00 0xDFFF code l u)
+    pub unicode_lone : 0xDBFF < code → code ≤ 0xDFFF → unicode (drop (base + 2) s) ≡ Reader.wrong
+    unicode_lone l u = whole ∙ rw (ne_eqb code 65536 n, within_high 0xD800 0xDBFF code l, within_yes 0xDC00 0xDFFF code l u)
 
-pub ruleset unicodes = (unicode_none, unicode-inside, unicode-fits, unicode-one, unicode-below, unicode-above, unicode-pair, unicode-lone, rules)
+pub ruleset unicodes = (unicode_none, unicode_inside, unicode_fits, unicode_one, unicode_below, unicode_above, unicode_pair, unicode_lone, rules)
 
 -- Escapes.
 row : (t : Bool) (b n : ℕ) {p : Reader.Piece} → eqb b 0 ≡ false → p ≡ pick (eqb n 0) Reader.wrong (Reader.stands (n ∷ []) 1) →
@@ -169,8 +169,8 @@ module _ (s : List ℕ) (base : ℕ) where
     next_here : drop (base + 1) s ≡ get_or s (base + 1) 0 ∷ drop (base + 2) s
     next_here = let e : suc (base + 1) ≡ base + 2 = omega arith in rw (drop-cons s (base + 1) 0 h, e)
 
-    pub escape-room : base + 2 ≤ length s
-    escape-room = omega arith
+    pub escape_room : base + 2 ≤ length s
+    escape_room = omega arith
 
     pub escape_unicode : get_or s (base + 1) 0 ≡ 0x75 → (r : Piece) → PieceMeans s base r (unicode (drop (base + 2) s)) → PieceMeans s base r (escape (drop (base + 1) s))
     unfolding escape
@@ -181,13 +181,13 @@ module _ (s : List ℕ) (base : ℕ) where
       unfolding escape
       small = rw (next_here, ne_eqb (get_or s (base + 1) 0) 0x75 n, b) (by_short (get_or s (base + 1) 0))
 
-      pub escape-wrong : byte ≡ 0 → escape (drop (base + 1) s) ≡ Reader.wrong
-      escape-wrong z = small ∙ rw (eq-eqb byte 0 z)
+      pub escape_wrong : byte ≡ 0 → escape (drop (base + 1) s) ≡ Reader.wrong
+      escape_wrong z = small ∙ rw (eq-eqb byte 0 z)
 
-      pub escape-short : (byte ≡ 0 → ⊥) → Stood s base (base + 1 + 1) (byte ∷ []) (escape (drop (base + 1) s))
-      escape-short z = record { size = 1; is = small ∙ rw (ne_eqb byte 0 z); next = omega arith; inside = omega arith; room = omega arith }
+      pub escape_short : (byte ≡ 0 → ⊥) → Stood s base (base + 1 + 1) (byte ∷ []) (escape (drop (base + 1) s))
+      escape_short z = record { size = 1; is = small ∙ rw (ne_eqb byte 0 z); next = omega arith; inside = omega arith; room = omega arith }
 
-pub ruleset escapes = (escape_end, escape-room, escape_unicode, escape-wrong, escape-short, rules)
+pub ruleset escapes = (escape_end, escape_room, escape_unicode, escape_wrong, escape_short, rules)
 
 -- What stands at a place.
 pub piece_end : (s : List ℕ) (at : ℕ) → length s ≤ at → piece_of (drop at s) ≡ Reader.wrong
@@ -200,18 +200,18 @@ module _ (s : List ℕ) (at : ℕ) (h : at < length s) where
   piece_closes e = record { is = rw (drop_here s at h, eq-eqb (get_or s at 0) 0x22 e); next = refl; inside = omega arith }
 
   module _ (n : get_or s at 0 ≡ 0x22 → ⊥) where
-    pub piece-escape : get_or s at 0 ≡ 0x5C → (r : Piece) → PieceMeans s at r (escape (drop (at + 1) s)) → PieceMeans s at r (piece_of (drop at s))
+    pub piece_escape : get_or s at 0 ≡ 0x5C → (r : Piece) → PieceMeans s at r (escape (drop (at + 1) s)) → PieceMeans s at r (piece_of (drop at s))
     unfolding piece_of
-    piece-escape e r m = piece_as s at r (rw (drop_here s at h, ne_eqb (get_or s at 0) 0x22 n, eq-eqb (get_or s at 0) 0x5C e)) m
+    piece_escape e r m = piece_as s at r (rw (drop_here s at h, ne_eqb (get_or s at 0) 0x22 n, eq-eqb (get_or s at 0) 0x5C e)) m
 
     module _ (k : get_or s at 0 ≡ 0x5C → ⊥) where
-      pub piece-control : get_or s at 0 < 0x20 → piece_of (drop at s) ≡ Reader.wrong
+      pub piece_control : get_or s at 0 < 0x20 → piece_of (drop at s) ≡ Reader.wrong
       unfolding piece_of
-      piece-control l = rw (drop_here s at h, ne_eqb (get_or s at 0) 0x22 n, ne_eqb (get_or s at 0) 0x5C k, within_low 0x20 0xFF (get_or s at 0) l)
+      piece_control l = rw (drop_here s at h, ne_eqb (get_or s at 0) 0x22 n, ne_eqb (get_or s at 0) 0x5C k, within_low 0x20 0xFF (get_or s at 0) l)
 
-      pub piece-plain : ((i : ℕ) → Fits w8 (get_or s i 0)) → 0x20 ≤ get_or s at 0 → Stood s at (at + 1) (get_or s at 0 ∷ []) (piece_of (drop at s))
+      pub piece_plain : ((i : ℕ) → Fits w8 (get_or s i 0)) → 0x20 ≤ get_or s at 0 → Stood s at (at + 1) (get_or s at 0 ∷ []) (piece_of (drop at s))
       unfolding piece_of
-      piece-plain b l = record {
+      piece_plain b l = record {
         size = 0;
         is = rw (drop_here s at h, ne_eqb (get_or s at 0) 0x22 n, ne_eqb (get_or s at 0) 0x5C k, within_yes 0x20 0xFF (get_or s at 0) l (omega (arith, b at)));
         next = omega arith;
@@ -219,4 +219,4 @@ module _ (s : List ℕ) (at : ℕ) (h : at < length s) where
         room = omega arith;
       }
 
-pub ruleset pieces_here = (piece_end, piece_closes, piece-escape, piece-control, piece-plain, rules)
+pub ruleset pieces_here = (piece_end, piece_closes, piece_escape, piece_control, piece_plain, rules)

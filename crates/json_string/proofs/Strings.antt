@@ -23,7 +23,7 @@ use Rattle.json_string.specs.declared.string.Piece.TheVariants.{Byte, Code, Clos
 use Rattle.json_string.specs.Inner.Means.{Reached}
 use Rattle.json_string.specs.Inner.Pieces.{Stood, Coded, Closed, PieceMeans}
 use Rattle.json_string.specs.Inner.Plain.{is_plain, plain_run}
-use Rattle.json_string.proofs.PieceLaws.{piece_end, piece-plain}
+use Rattle.json_string.proofs.PieceLaws.{piece_end, piece_plain}
 
 -- the answer is a code point
 pub coded_told : {s : List ℕ} {at : ℕ} {t : Piece} {p : Reader.Piece} {c n : ℕ} → t ≡ Code c n → PieceMeans s at t p → Coded s at n c p
@@ -67,21 +67,21 @@ module _ {s : List ℕ} {start at : ℕ} (k : Stringing s start at) where
   stood_falls h m = omega (arith, m.next, m.inside)
 
   module _ {t : Piece} (m : PieceMeans s at t (piece_of (drop at s))) where
-    pub byte-on : {b n : ℕ} → t ≡ Byte b n → Stringing s start n
-    byte-on e = stood_on (rw e at m)
+    pub byte_on : {b n : ℕ} → t ≡ Byte b n → Stringing s start n
+    byte_on e = stood_on (rw e at m)
 
-    pub code-on : {c n : ℕ} → t ≡ Code c n → Stringing s start n
-    code-on e = stood_on (coded_stood e m)
+    pub code_on : {c n : ℕ} → t ≡ Code c n → Stringing s start n
+    code_on e = stood_on (coded_stood e m)
 
-    pub byte-falls : {b n : ℕ} → at < length s → t ≡ Byte b n → length s - n < length s - at
-    byte-falls h e = stood_falls h (rw e at m)
+    pub byte_falls : {b n : ℕ} → at < length s → t ≡ Byte b n → length s - n < length s - at
+    byte_falls h e = stood_falls h (rw e at m)
 
-    pub code-falls : {c n : ℕ} → at < length s → t ≡ Code c n → length s - n < length s - at
-    code-falls h e = stood_falls h (coded_stood e m)
+    pub code_falls : {c n : ℕ} → at < length s → t ≡ Code c n → length s - n < length s - at
+    code_falls h e = stood_falls h (coded_stood e m)
 
-    pub string-closed : {n : ℕ} → t ≡ Closes n → Reached s n (chars_from 0 (drop start s))
+    pub string_closed : {n : ℕ} → t ≡ Closes n → Reached s n (chars_from 0 (drop start s))
     unfolding and_then
-    string-closed {n} e =
+    string_closed {n} e =
         let c = closed e in
         record {
           inside = c.inside;
@@ -92,13 +92,13 @@ module _ {s : List ℕ} {start at : ℕ} (k : Stringing s start at) where
         closed : t ≡ Closes n → Closed s at n (piece_of (drop at s))
         closed f = rw f at m
 
-    pub closed-value : {n : ℕ} (e : t ≡ Closes n) → (string-closed e).value ≡ k.passed ++ []
-    unfolding string-closed
-    closed-value e = refl
+    pub closed_value : {n : ℕ} (e : t ≡ Closes n) → (string_closed e).value ≡ k.passed ++ []
+    unfolding string_closed
+    closed_value e = refl
 
-    pub string-wrong : t ≡ Wrong → chars_from 0 (drop start s) ≡ bad
+    pub string_wrong : t ≡ Wrong → chars_from 0 (drop start s) ≡ bad
     unfolding and_then
-    string-wrong e = k.decides ∙ rw (chars_wrong (drop at s) (rw e at m))
+    string_wrong e = k.decides ∙ rw (chars_wrong (drop at s) (rw e at m))
 
 -- A byte that is a char by itself.
 plain_facts : (b : ℕ) → is_plain b ≡ true → (b ≡ 0x22 → ⊥) × (b ≡ 0x5C → ⊥) × (0x20 ≤ b)
@@ -111,7 +111,7 @@ plain_facts b = go (eqb b 0x22) (eqb b 0x5C) refl refl
 
 pub plain_stood : (s : List ℕ) (at : ℕ) → at < length s → {b : Bool} → b ≡ is_plain (get_or s at 0) → b ≡ true → ((i : ℕ) → Fits w8 (get_or s i 0)) →
     Stood s at (at + 1) (get_or s at 0 ∷ []) (piece_of (drop at s))
-plain_stood s at h g e w = let f = plain_facts (get_or s at 0) (sym g ∙ e) in piece-plain s at h f.0 f.1 w f.2
+plain_stood s at h g e w = let f = plain_facts (get_or s at 0) (sym g ∙ e) in piece_plain s at h f.0 f.1 w f.2
 
 pub ruleset plain_pieces = (piece_end, plain_stood, rules)
 
@@ -147,4 +147,4 @@ module _ (s : List ℕ) (start : ℕ) {r : ℕ} (e : r ≡ start + plain_run (dr
   pub run_on : Stringing s start r
   run_on = record { goes = omega arith; passed = between s start r; decides = run_decides }
 
-pub ruleset stringing = (plain_on, plain_falls, run_on, string_cut, byte-on, code-on, byte-falls, code-falls, string-closed, string-wrong, rules)
+pub ruleset stringing = (plain_on, plain_falls, run_on, string_cut, byte_on, code_on, byte_falls, code_falls, string_closed, string_wrong, rules)

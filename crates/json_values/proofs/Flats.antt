@@ -78,31 +78,31 @@ module _ (s : List ℕ) (at : ℕ) (h : at < length s) where
       (means_map s (chars_from 0 (drop (at + 1) s)) text r m)
 
   module _ (n1 : get_or s at 0 ≡ 0x22 → ⊥) where
-    pub flat-false : get_or s at 0 ≡ 0x66 → (r : After) → Means s r (past_word (0x66 ∷ 0x61 ∷ 0x6C ∷ 0x73 ∷ 0x65 ∷ []) (drop at s)) → Means s r (flat_of (drop at s))
+    pub flat_false : get_or s at 0 ≡ 0x66 → (r : After) → Means s r (past_word (0x66 ∷ 0x61 ∷ 0x6C ∷ 0x73 ∷ 0x65 ∷ []) (drop at s)) → Means s r (flat_of (drop at s))
     unfolding flat_of ascii
-    flat-false e r m =
+    flat_false e r m =
         means_as s (past_word (0x66 ∷ 0x61 ∷ 0x6C ∷ 0x73 ∷ 0x65 ∷ []) (drop at s)) (flat_of (drop at s)) r
         (rw (drop_here s at h, ne_eqb (get_or s at 0) 0x22 n1, eq-eqb (get_or s at 0) 0x66 e)) m
 
     module _ (n2 : get_or s at 0 ≡ 0x66 → ⊥) where
-      pub flat-null : get_or s at 0 ≡ 0x6E → (r : After) → Means s r (past_word (0x6E ∷ 0x75 ∷ 0x6C ∷ 0x6C ∷ []) (drop at s)) → Means s r (flat_of (drop at s))
+      pub flat_null : get_or s at 0 ≡ 0x6E → (r : After) → Means s r (past_word (0x6E ∷ 0x75 ∷ 0x6C ∷ 0x6C ∷ []) (drop at s)) → Means s r (flat_of (drop at s))
       unfolding flat_of ascii
-      flat-null e r m =
+      flat_null e r m =
           means_as s (past_word (0x6E ∷ 0x75 ∷ 0x6C ∷ 0x6C ∷ []) (drop at s)) (flat_of (drop at s)) r
           (rw (drop_here s at h, ne_eqb (get_or s at 0) 0x22 n1, ne_eqb (get_or s at 0) 0x66 n2, eq-eqb (get_or s at 0) 0x6E e)) m
 
       module _ (n3 : get_or s at 0 ≡ 0x6E → ⊥) where
-        pub flat-true : get_or s at 0 ≡ 0x74 → (r : After) → Means s r (past_word (0x74 ∷ 0x72 ∷ 0x75 ∷ 0x65 ∷ []) (drop at s)) → Means s r (flat_of (drop at s))
+        pub flat_true : get_or s at 0 ≡ 0x74 → (r : After) → Means s r (past_word (0x74 ∷ 0x72 ∷ 0x75 ∷ 0x65 ∷ []) (drop at s)) → Means s r (flat_of (drop at s))
         unfolding flat_of ascii
-        flat-true e r m =
+        flat_true e r m =
             means_as s (past_word (0x74 ∷ 0x72 ∷ 0x75 ∷ 0x65 ∷ []) (drop at s)) (flat_of (drop at s)) r
             (rw (drop_here s at h, ne_eqb (get_or s at 0) 0x22 n1, ne_eqb (get_or s at 0) 0x66 n2, ne_eqb (get_or s at 0) 0x6E n3, eq-eqb (get_or s at 0) 0x74 e)) m
 
-        pub flat-number : (get_or s at 0 ≡ 0x74 → ⊥) → (r : After) → Means s r (json_number (drop at s)) → Means s r (flat_of (drop at s))
+        pub flat_number : (get_or s at 0 ≡ 0x74 → ⊥) → (r : After) → Means s r (json_number (drop at s)) → Means s r (flat_of (drop at s))
         unfolding flat_of
-        flat-number n4 r m =
+        flat_number n4 r m =
             means_as s (as_other (json_number (drop at s))) (flat_of (drop at s)) r
             (rw (drop_here s at h, ne_eqb (get_or s at 0) 0x22 n1, ne_eqb (get_or s at 0) 0x66 n2, ne_eqb (get_or s at 0) 0x6E n3, ne_eqb (get_or s at 0) 0x74 n4))
             (means_map s (json_number (drop at s)) (λ v. other) r m)
 
-pub ruleset flats = (flat_end, flat_string, flat-false, flat-null, flat-true, flat-number, rules)
+pub ruleset flats = (flat_end, flat_string, flat_false, flat_null, flat_true, flat_number, rules)

@@ -9,7 +9,7 @@ use lib.Seq.{drop-cons}
 use borrow.Author.Tests.{eq-eqb}
 use Rattle.json_grammar.specs.Reader.{Out, got, bad, and_then, is_ws, skip, structural, items_of, inside_of, enclosed_of, after_item}
 use Rattle.json_grammar.proofs.ValuesTook.{skip_twice}
-use Rattle.json_grammar.proofs.Items.{before, before_nothing, before_both, structural_shorter, inside_closed, inside_items, after_comma, after-closed, after-wrong, items_none, items_item}
+use Rattle.json_grammar.proofs.Items.{before, before_nothing, before_both, structural_shorter, inside_closed, inside_items, after_comma, after_closed, after_wrong, items_none, items_item}
 use Rattle.json_string.specs.declared.after.After.{After}
 use Rattle.json_string.specs.declared.after.After.TheVariants.{Next, Unread}
 use Rattle.json_string.specs.Inner.Means.{Reached, Means}
@@ -82,8 +82,8 @@ module _ {X : Type 0} {p : List ℕ → Out X} {closing : ℕ} {whole : Out (Lis
         go zero e d = absurd (omega arith)
         go (suc n) e d = record { left = n; enough = e; decides = d ∙ ap (before k.passed) (items_item p closing n (drop place s) t.reads) }
 
-    pub listing-on : {u : After} {again : ℕ} → Means s u (structural 0x2C (drop next s)) → u ≡ Next again → Listing p closing whole s again
-    listing-on {u} {again} m e =
+    pub listing_on : {u : After} {again : ℕ} → Means s u (structural 0x2C (drop next s)) → u ≡ Next again → Listing p closing whole s again
+    listing_on {u} {again} m e =
         let r = means_next s (structural 0x2C (drop next s)) u m e in
         let f = structural_shorter 0x2C (drop next s) r.reads in
         record {
@@ -103,30 +103,30 @@ module _ {X : Type 0} {p : List ℕ → Out X} {closing : ℕ} {whole : Out (Lis
             let c = t.goes in
             omega arith
 
-    pub listing-passed : {u : After} {again : ℕ} (m : Means s u (structural 0x2C (drop next s))) (e : u ≡ Next again) → (listing-on m e).passed ≡ k.passed ++ (x ∷ [])
-    unfolding listing-on
-    listing-passed m e = refl
+    pub listing_passed : {u : After} {again : ℕ} (m : Means s u (structural 0x2C (drop next s))) (e : u ≡ Next again) → (listing_on m e).passed ≡ k.passed ++ (x ∷ [])
+    unfolding listing_on
+    listing_passed m e = refl
 
-    pub listing-falls : {u : After} {again : ℕ} → Means s u (structural 0x2C (drop next s)) → u ≡ Next again → length s - again < length s - place
-    listing-falls {u} {again} m e =
+    pub listing_falls : {u : After} {again : ℕ} → Means s u (structural 0x2C (drop next s)) → u ≡ Next again → length s - again < length s - place
+    listing_falls {u} {again} m e =
         let r = means_next s (structural 0x2C (drop next s)) u m e in
         let f = structural_shorter 0x2C (drop next s) r.reads in
         omega (arith, r.inside, length-drop again s, length-drop next s, t.goes)
 
     -- the closing character, or nothing that may stand here
     module _ (n : structural 0x2C (drop next s) ≡ bad) where
-      pub listing-closed : {y : ℕ} {q : List ℕ} → structural closing (drop next s) ≡ got y q → whole ≡ got (k.passed ++ (x ∷ [])) q
+      pub listing_closed : {y : ℕ} {q : List ℕ} → structural closing (drop next s) ≡ got y q → whole ≡ got (k.passed ++ (x ∷ [])) q
       unfolding and_then
-      listing-closed e = passes.decides ∙ rw (after-closed p closing x (items_of p closing passes.left) (drop next s) n e)
+      listing_closed e = passes.decides ∙ rw (after_closed p closing x (items_of p closing passes.left) (drop next s) n e)
 
-      pub listing-wrong : structural closing (drop next s) ≡ bad → whole ≡ bad
+      pub listing_wrong : structural closing (drop next s) ≡ bad → whole ≡ bad
       unfolding and_then
-      listing-wrong e = passes.decides ∙ rw (after-wrong p closing x (items_of p closing passes.left) (drop next s) n e)
+      listing_wrong e = passes.decides ∙ rw (after_wrong p closing x (items_of p closing passes.left) (drop next s) n e)
 
-    pub listing-ends : {u : After} → Means s u (structural 0x2C (drop next s)) → u ≡ Unread → (r : After) → Means s r (structural closing (drop next s)) → Means s r whole
-    listing-ends {u} m e (Next n) q = record {
+    pub listing_ends : {u : After} → Means s u (structural 0x2C (drop next s)) → u ≡ Unread → (r : After) → Means s r (structural closing (drop next s)) → Means s r whole
+    listing_ends {u} m e (Next n) q = record {
       inside = q.inside;
       value = k.passed ++ (x ∷ []);
-      reads = listing-closed (means_unread s (structural 0x2C (drop next s)) u m e) q.reads;
+      reads = listing_closed (means_unread s (structural 0x2C (drop next s)) u m e) q.reads;
     }
-    listing-ends {u} m e Unread q = listing-wrong (means_unread s (structural 0x2C (drop next s)) u m e) q
+    listing_ends {u} m e Unread q = listing_wrong (means_unread s (structural 0x2C (drop next s)) u m e) q

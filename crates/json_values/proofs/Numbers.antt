@@ -17,7 +17,7 @@ use Rattle.json_string.specs.declared.after.After.{After}
 use Rattle.json_string.specs.declared.after.After.TheVariants.{Next, Unread}
 use Rattle.json_string.specs.Inner.Means.{Reached, Means}
 use Rattle.json_values.specs.Inner.Runs.{Past, PastOne}
-use Rattle.json_values.proofs.Spaces.{passing_starts, passing_ends, passing-stops, passing_more, apart}
+use Rattle.json_values.proofs.Spaces.{passing_starts, passing_ends, passing_stops, passing_more, apart}
 
 -- What an answer means, case by case.
 pub means_next : {A : Type 0} (s : List ℕ) (o : Out A) (t : After) {n : ℕ} → Means s t o → t ≡ Next n → Reached s n o
@@ -41,7 +41,7 @@ module _ (s : List ℕ) (at : ℕ) (h : at < length s) where
   pub digit_here : 0x30 ≤ get_or s at 0 → get_or s at 0 ≤ 0x39 → is_digit (get_or s at 0) ≡ true
   digit_here l u = within_yes 0x30 0x39 (get_or s at 0) l u
 
-pub ruleset passing_digits = (passing_starts, passing_ends, passing-stops, passing_more, digit_low, digit_high, digit_here, rules)
+pub ruleset passing_digits = (passing_starts, passing_ends, passing_stops, passing_more, digit_low, digit_high, digit_here, rules)
 
 pub digits_end : (s : List ℕ) (at : ℕ) → length s ≤ at → digits (drop at s) ≡ bad
 unfolding digits and_then
@@ -89,18 +89,18 @@ module _ (s : List ℕ) (at : ℕ) (h : at < length s) where
         go (inl l) (inr u) = within_high 0x31 0x39 (get_or s at 0) u ∙ sym (within_high 0x30 0x39 (get_or s at 0) u)
         go (inr l) o = within_low 0x31 0x39 (get_or s at 0) (omega arith) ∙ sym (within_low 0x30 0x39 (get_or s at 0) l)
 
-    int-digits : int (drop at s) ≡ digits (drop at s)
+    int_digits : int (drop at s) ≡ digits (drop at s)
     unfolding int digits and_then
-    int-digits = rw (drop-cons s at 0 h, apart 0x30 (get_or s at 0) n, no_zero) (go (within 0x30 0x39 (get_or s at 0)))
+    int_digits = rw (drop-cons s at 0 h, apart 0x30 (get_or s at 0) n, no_zero) (go (within 0x30 0x39 (get_or s at 0)))
       where
         go : (b : Bool) → pick b (got (get_or s at 0) (past_digits (drop (suc at) s))) bad ≡ and_then (pick b (got (get_or s at 0) (drop (suc at) s)) bad) (λ x r. got x (past_digits r))
         go true = refl
         go false = refl
 
-    pub int-other : (r : After) → Means s r (digits (drop at s)) → Means s r (int (drop at s))
-    int-other r m = means_as s (digits (drop at s)) (int (drop at s)) r int-digits m
+    pub int_other : (r : After) → Means s r (digits (drop at s)) → Means s r (int (drop at s))
+    int_other r m = means_as s (digits (drop at s)) (int (drop at s)) r int_digits m
 
-pub ruleset digit_reading = (digits_end, digits_low, digits_high, next_inside, digits_reached, int_end, int_zero, int-other, rules)
+pub ruleset digit_reading = (digits_end, digits_low, digits_high, next_inside, digits_reached, int_end, int_zero, int_other, rules)
 
 -- Options.
 module _ (s : List ℕ) (at : ℕ) where
@@ -113,28 +113,28 @@ module _ (s : List ℕ) (at : ℕ) where
   exp_end i h = record { inside = i; value = 0; reads = rw (drop_of_length-le s h) }
 
   module _ (h : at < length s) where
-    pub frac-other : (get_or s at 0 ≡ 0x2E → ⊥) → Reached s at (frac (drop at s))
+    pub frac_other : (get_or s at 0 ≡ 0x2E → ⊥) → Reached s at (frac (drop at s))
     unfolding optional
-    frac-other n = record { inside = omega arith; value = 0; reads = rw (drop_here s at h, apart 0x2E (get_or s at 0) n) }
+    frac_other n = record { inside = omega arith; value = 0; reads = rw (drop_here s at h, apart 0x2E (get_or s at 0) n) }
 
-    pub frac-goes : get_or s at 0 ≡ 0x2E → (r : After) → Means s r (digits (drop (at + 1) s)) → Means s r (frac (drop at s))
+    pub frac_goes : get_or s at 0 ≡ 0x2E → (r : After) → Means s r (digits (drop (at + 1) s)) → Means s r (frac (drop at s))
     unfolding optional
-    frac-goes e r m =
+    frac_goes e r m =
         means_as s (digits (drop (at + 1) s)) (frac (drop at s)) r (rw (drop_here s at h, within_yes 0x2E 0x2E (get_or s at 0) (omega arith) (omega arith))) m
 
-    pub exp-other : (get_or s at 0 ≡ 0x65 → ⊥) → (get_or s at 0 ≡ 0x45 → ⊥) → Reached s at (exp (drop at s))
+    pub exp_other : (get_or s at 0 ≡ 0x65 → ⊥) → (get_or s at 0 ≡ 0x45 → ⊥) → Reached s at (exp (drop at s))
     unfolding optional
-    exp-other n m = record { inside = omega arith; value = 0; reads = rw (drop_here s at h, apart 0x65 (get_or s at 0) n, apart 0x45 (get_or s at 0) m) }
+    exp_other n m = record { inside = omega arith; value = 0; reads = rw (drop_here s at h, apart 0x65 (get_or s at 0) n, apart 0x45 (get_or s at 0) m) }
 
-    e-goes : is_e (get_or s at 0) ≡ true → (p : ℕ) (r : After) → PastOne is_sign s (at + 1) p → Means s r (digits (drop p s)) → Means s r (exp (drop at s))
+    e_goes : is_e (get_or s at 0) ≡ true → (p : ℕ) (r : After) → PastOne is_sign s (at + 1) p → Means s r (digits (drop p s)) → Means s r (exp (drop at s))
     unfolding optional
-    e-goes e p r q m = means_as s (digits (drop p s)) (exp (drop at s)) r (rw (drop_here s at h, e, q.rest)) m
+    e_goes e p r q m = means_as s (digits (drop p s)) (exp (drop at s)) r (rw (drop_here s at h, e, q.rest)) m
 
-    pub exp-small : get_or s at 0 ≡ 0x65 → (p : ℕ) (r : After) → PastOne is_sign s (at + 1) p → Means s r (digits (drop p s)) → Means s r (exp (drop at s))
-    exp-small e = e-goes (ap is_e e)
+    pub exp_small : get_or s at 0 ≡ 0x65 → (p : ℕ) (r : After) → PastOne is_sign s (at + 1) p → Means s r (digits (drop p s)) → Means s r (exp (drop at s))
+    exp_small e = e_goes (ap is_e e)
 
-    pub exp-large : get_or s at 0 ≡ 0x45 → (p : ℕ) (r : After) → PastOne is_sign s (at + 1) p → Means s r (digits (drop p s)) → Means s r (exp (drop at s))
-    exp-large e = e-goes (ap is_e e)
+    pub exp_large : get_or s at 0 ≡ 0x45 → (p : ℕ) (r : After) → PastOne is_sign s (at + 1) p → Means s r (digits (drop p s)) → Means s r (exp (drop at s))
+    exp_large e = e_goes (ap is_e e)
 
   -- a sign, or none
   pub sign_end : (p : ℕ → Bool) → at ≤ length s → length s ≤ at → PastOne p s at at
@@ -142,31 +142,31 @@ module _ (s : List ℕ) (at : ℕ) where
   sign_end p i h = record { inside = i; rest = rw (drop_of_length-le s h) }
 
   module _ (h : at < length s) where
-    pub sign-minus : get_or s at 0 ≡ 0x2D → PastOne is_sign s at (at + 1)
+    pub sign_minus : get_or s at 0 ≡ 0x2D → PastOne is_sign s at (at + 1)
     unfolding past
-    sign-minus e = record { inside = omega arith; rest = rw (drop_here s at h, ap is_sign e) }
+    sign_minus e = record { inside = omega arith; rest = rw (drop_here s at h, ap is_sign e) }
 
-    pub sign-plus : get_or s at 0 ≡ 0x2B → PastOne is_sign s at (at + 1)
+    pub sign_plus : get_or s at 0 ≡ 0x2B → PastOne is_sign s at (at + 1)
     unfolding past
-    sign-plus e = record { inside = omega arith; rest = rw (drop_here s at h, ap is_sign e) }
+    sign_plus e = record { inside = omega arith; rest = rw (drop_here s at h, ap is_sign e) }
 
-    pub sign-none : (get_or s at 0 ≡ 0x2D → ⊥) → (get_or s at 0 ≡ 0x2B → ⊥) → PastOne is_sign s at at
+    pub sign_none : (get_or s at 0 ≡ 0x2D → ⊥) → (get_or s at 0 ≡ 0x2B → ⊥) → PastOne is_sign s at at
     unfolding past
-    sign-none n m = record { inside = omega arith; rest = rw (drop_here s at h, apart 0x2D (get_or s at 0) n, apart 0x2B (get_or s at 0) m) }
+    sign_none n m = record { inside = omega arith; rest = rw (drop_here s at h, apart 0x2D (get_or s at 0) n, apart 0x2B (get_or s at 0) m) }
 
-    pub minus-here : get_or s at 0 ≡ 0x2D → PastOne is_minus s at (at + 1)
+    pub minus_here : get_or s at 0 ≡ 0x2D → PastOne is_minus s at (at + 1)
     unfolding past
-    minus-here e = record { inside = omega arith; rest = rw (drop_here s at h, ap is_minus e) }
+    minus_here e = record { inside = omega arith; rest = rw (drop_here s at h, ap is_minus e) }
 
-    pub minus-none : (get_or s at 0 ≡ 0x2D → ⊥) → PastOne is_minus s at at
+    pub minus_none : (get_or s at 0 ≡ 0x2D → ⊥) → PastOne is_minus s at at
     unfolding past
-    minus-none n = record { inside = omega arith; rest = rw (drop_here s at h, apart 0x2D (get_or s at 0) n) }
+    minus_none n = record { inside = omega arith; rest = rw (drop_here s at h, apart 0x2D (get_or s at 0) n) }
 
 pub one_inside : (p : ℕ → Bool) (s : List ℕ) (start r : ℕ) → PastOne p s start r → r ≤ length s
 one_inside p s start r q = q.inside
 
 pub ruleset options =
-    (frac_end, exp_end, frac-other, frac-goes, exp-other, exp-small, exp-large, sign_end, sign-minus, sign-plus, sign-none, minus-here, minus-none, next_inside, one_inside, rules)
+    (frac_end, exp_end, frac_other, frac_goes, exp_other, exp_small, exp_large, sign_end, sign_minus, sign_plus, sign_none, minus_here, minus_none, next_inside, one_inside, rules)
 
 -- A number.
 module _ (s : List ℕ) (at p : ℕ) (q : PastOne is_minus s at p) (t : After) (i : Means s t (int (drop p s))) where
@@ -175,24 +175,24 @@ module _ (s : List ℕ) (at p : ℕ) (q : PastOne is_minus s at p) (t : After) (
   number_no_int e = rw (q.rest, means_unread s (int (drop p s)) t i e)
 
   module _ {whole : ℕ} (e : t ≡ Next whole) where
-    pub whole-inside : whole ≤ length s
-    whole-inside = (means_next s (int (drop p s)) t i e).inside
+    pub whole_inside : whole ≤ length s
+    whole_inside = (means_next s (int (drop p s)) t i e).inside
 
     module _ (u : After) (f : Means s u (frac (drop whole s))) where
       first : json_number (drop at s) ≡ and_then (frac (drop whole s)) (λ y r. exp r)
       unfolding json_number and_then
       first = rw (q.rest, (means_next s (int (drop p s)) t i e).reads)
 
-      pub number-no-frac : u ≡ Unread → json_number (drop at s) ≡ bad
+      pub number_no_frac : u ≡ Unread → json_number (drop at s) ≡ bad
       unfolding and_then
-      number-no-frac g = first ∙ rw (means_unread s (frac (drop whole s)) u f g)
+      number_no_frac g = first ∙ rw (means_unread s (frac (drop whole s)) u f g)
 
       module _ {fraction : ℕ} (g : u ≡ Next fraction) where
-        pub fraction-inside : fraction ≤ length s
-        fraction-inside = (means_next s (frac (drop whole s)) u f g).inside
+        pub fraction_inside : fraction ≤ length s
+        fraction_inside = (means_next s (frac (drop whole s)) u f g).inside
 
-        pub number-means : (r : After) → Means s r (exp (drop fraction s)) → Means s r (json_number (drop at s))
+        pub number_means : (r : After) → Means s r (exp (drop fraction s)) → Means s r (json_number (drop at s))
         unfolding and_then
-        number-means r m = means_as s (exp (drop fraction s)) (json_number (drop at s)) r (first ∙ rw (means_next s (frac (drop whole s)) u f g).reads) m
+        number_means r m = means_as s (exp (drop fraction s)) (json_number (drop at s)) r (first ∙ rw (means_next s (frac (drop whole s)) u f g).reads) m
 
-pub ruleset numbering = (number_no_int, whole-inside, number-no-frac, fraction-inside, number-means, one_inside, rules)
+pub ruleset numbering = (number_no_int, whole_inside, number_no_frac, fraction_inside, number_means, one_inside, rules)

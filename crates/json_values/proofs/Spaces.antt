@@ -52,9 +52,9 @@ module _ {p : ℕ → Bool} {s : List ℕ} {start at : ℕ} (k : Passing p s sta
   passing_ends h = record { inside = k.inside; rest = k.decides ∙ rw (drop_of_length-le s h) }
 
   module _ (h : at < length s) where
-    pub passing-stops : p (get_or s at 0) ≡ false → Past p s start at
+    pub passing_stops : p (get_or s at 0) ≡ false → Past p s start at
     unfolding past_all
-    passing-stops e = record { inside = k.inside; rest = k.decides ∙ rw (drop-cons s at 0 h, e) }
+    passing_stops e = record { inside = k.inside; rest = k.decides ∙ rw (drop-cons s at 0 h, e) }
 
     pub passing_more : p (get_or s at 0) ≡ true → Passing p s start (at + 1)
     unfolding past_all
@@ -63,7 +63,7 @@ module _ {p : ℕ → Bool} {s : List ℕ} {start at : ℕ} (k : Passing p s sta
 pub told_space : (x : ℕ) {b y : Bool} → b ≡ is_ws x → b ≡ y → is_ws x ≡ y
 told_space x w y = sym w ∙ y
 
-pub ruleset passing = (passing_starts, passing_ends, passing-stops, passing_more, told_space, rules)
+pub ruleset passing = (passing_starts, passing_ends, passing_stops, passing_more, told_space, rules)
 
 -- A structural character.
 module _ (s : List ℕ) (at c : ℕ) {place : ℕ} (k : Past is_ws s at place) where
@@ -76,19 +76,19 @@ module _ (s : List ℕ) (at c : ℕ) {place : ℕ} (k : Past is_ws s at place) w
   structural_ends h = seen ∙ rw (drop_of_length-le s h)
 
   module _ (h : place < length s) where
-    pub structural-other : (get_or s place 0 ≡ c → ⊥) → structural c (drop at s) ≡ bad
+    pub structural_other : (get_or s place 0 ≡ c → ⊥) → structural c (drop at s) ≡ bad
     unfolding and_then
-    structural-other n = seen ∙ rw (drop-cons s place 0 h, apart c (get_or s place 0) n)
+    structural_other n = seen ∙ rw (drop-cons s place 0 h, apart c (get_or s place 0) n)
 
-    pub structural-past : place + 1 ≤ length s
-    structural-past = omega arith
+    pub structural_past : place + 1 ≤ length s
+    structural_past = omega arith
 
-    pub structural-reached : get_or s place 0 ≡ c → {r : ℕ} → Past is_ws s (place + 1) r → Reached s r (structural c (drop at s))
+    pub structural_reached : get_or s place 0 ≡ c → {r : ℕ} → Past is_ws s (place + 1) r → Reached s r (structural c (drop at s))
     unfolding and_then
-    structural-reached e {r} q = record {
+    structural_reached e {r} q = record {
       inside = q.inside;
       value = get_or s place 0;
       reads = seen ∙ rw (drop-cons s place 0 h, within_yes c c (get_or s place 0) (omega arith) (omega arith), ← add-one, q.rest);
     }
 
-pub ruleset structure = (structural_ends, structural-other, structural-past, structural-reached, rules)
+pub ruleset structure = (structural_ends, structural_other, structural_past, structural_reached, rules)

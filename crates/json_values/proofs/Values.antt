@@ -22,7 +22,7 @@ use Rattle.json_values.proofs.Flats.{means_map}
 use Rattle.json_values.specs.declared.value.Member.{Member}
 use Rattle.json_values.specs.declared.value.Member.TheVariants.{Read, NoMember}
 use Rattle.json_values.specs.Inner.Members.{ReadMember, MemberMeans}
-use Rattle.json_values.proofs.Listing.{Listing, Turn, listing_none, listing-on, listing-falls, listing-ends, listing_empty, listing_starts}
+use Rattle.json_values.proofs.Listing.{Listing, Turn, listing_none, listing_on, listing_falls, listing_ends, listing_empty, listing_starts}
 
 -- what is left starts no earlier than what was given
 goes : (s : List ℕ) (place next : ℕ) → place ≤ length s → next ≤ length s → length (drop next s) ≤ length (drop place s) → place ≤ next
@@ -55,17 +55,17 @@ module _ (s : List ℕ) (depth at : ℕ) where
         go zero m = absurd (m refl)
         go (suc d) m = let e : suc d - 1 ≡ d = omega arith in rw (e, add-one, ← drop-cons s at 0 h)
 
-    pub value-object : get_or s at 0 ≡ 0x7B → (r : After) → Means s r (enclosed_of (member_of (value_of (depth - 1))) 0x7B 0x7D (drop at s)) → Means s r (value_of depth (drop at s))
+    pub value_object : get_or s at 0 ≡ 0x7B → (r : After) → Means s r (enclosed_of (member_of (value_of (depth - 1))) 0x7B 0x7D (drop at s)) → Means s r (value_of depth (drop at s))
     unfolding nested_of
-    value-object e r m =
+    value_object e r m =
         means_as s (as_other (enclosed_of (member_of (value_of (depth - 1))) 0x7B 0x7D (drop at s))) (value_of depth (drop at s)) r
         (nested ∙ rw (eq-eqb (get_or s at 0) 0x7B e, ← drop_here s at h))
         (means_map s (enclosed_of (member_of (value_of (depth - 1))) 0x7B 0x7D (drop at s)) (λ v. other) r m)
 
     module _ (o : get_or s at 0 ≡ 0x7B → ⊥) where
-      pub value-array : get_or s at 0 ≡ 0x5B → (r : After) → Means s r (enclosed_of (value_of (depth - 1)) 0x5B 0x5D (drop at s)) → Means s r (value_of depth (drop at s))
+      pub value_array : get_or s at 0 ≡ 0x5B → (r : After) → Means s r (enclosed_of (value_of (depth - 1)) 0x5B 0x5D (drop at s)) → Means s r (value_of depth (drop at s))
       unfolding nested_of
-      value-array e r m =
+      value_array e r m =
           means_as s (as_other (enclosed_of (value_of (depth - 1)) 0x5B 0x5D (drop at s))) (value_of depth (drop at s)) r
           (nested ∙ rw (ne_eqb (get_or s at 0) 0x7B o, eq-eqb (get_or s at 0) 0x5B e, ← drop_here s at h))
           (means_map s (enclosed_of (value_of (depth - 1)) 0x5B 0x5D (drop at s)) (λ v. other) r m)
@@ -76,7 +76,7 @@ module _ (s : List ℕ) (depth at : ℕ) where
           means_as s (flat_of (drop at s)) (value_of depth (drop at s)) r
           (nested ∙ rw (ne_eqb (get_or s at 0) 0x7B o, ne_eqb (get_or s at 0) 0x5B a, ← drop_here s at h)) m
 
-pub ruleset valuing = (value_end, value_flat, value-object, value-array, value_other, rules)
+pub ruleset valuing = (value_end, value_flat, value_object, value_array, value_other, rules)
 
 -- Members.
 member_reads : (depth : ℕ) (l : List ℕ) {k a : List ℕ} {y : ℕ} {b : List ℕ} {v : Meaning} {c : List ℕ} → string_of l ≡ got k a → structural 0x3A a ≡ got y b → value_of depth b ≡ got v c →
@@ -90,40 +90,40 @@ module _ (s : List ℕ) (depth at : ℕ) where
   member_end h = rw (drop_of_length-le s h)
 
   module _ (h : at < length s) where
-    pub member-unquoted : (get_or s at 0 ≡ 0x22 → ⊥) → member_of (value_of depth) (drop at s) ≡ bad
+    pub member_unquoted : (get_or s at 0 ≡ 0x22 → ⊥) → member_of (value_of depth) (drop at s) ≡ bad
     unfolding member_of string_of and_then
-    member-unquoted n = rw (drop-cons s at 0 h, ne_eqb (get_or s at 0) 0x22 n)
+    member_unquoted n = rw (drop-cons s at 0 h, ne_eqb (get_or s at 0) 0x22 n)
 
     module _ (q : get_or s at 0 ≡ 0x22) where
-      pub name-string : string_of (drop at s) ≡ chars_from 0 (drop (at + 1) s)
+      pub name_string : string_of (drop at s) ≡ chars_from 0 (drop (at + 1) s)
       unfolding string_of
-      name-string = rw (drop-cons s at 0 h, eq-eqb (get_or s at 0) 0x22 q, add-one)
+      name_string = rw (drop-cons s at 0 h, eq-eqb (get_or s at 0) 0x22 q, add-one)
 
       module _ {t : After} (m : Means s t (chars_from 0 (drop (at + 1) s))) where
-        pub member-unnamed : t ≡ Unread → member_of (value_of depth) (drop at s) ≡ bad
+        pub member_unnamed : t ≡ Unread → member_of (value_of depth) (drop at s) ≡ bad
         unfolding member_of and_then
-        member-unnamed e = rw (name-string, means_unread s (chars_from 0 (drop (at + 1) s)) t m e)
+        member_unnamed e = rw (name_string, means_unread s (chars_from 0 (drop (at + 1) s)) t m e)
 
         module _ {named : ℕ} (e : t ≡ Next named) where
           module _ {u : After} (c : Means s u (structural 0x3A (drop named s))) where
-            pub member-no-colon : u ≡ Unread → member_of (value_of depth) (drop at s) ≡ bad
+            pub member_no_colon : u ≡ Unread → member_of (value_of depth) (drop at s) ≡ bad
             unfolding member_of and_then
-            member-no-colon f =
-                rw (name-string, (means_next s (chars_from 0 (drop (at + 1) s)) t m e).reads, means_unread s (structural 0x3A (drop named s)) u c f)
+            member_no_colon f =
+                rw (name_string, (means_next s (chars_from 0 (drop (at + 1) s)) t m e).reads, means_unread s (structural 0x3A (drop named s)) u c f)
 
             module _ {value : ℕ} (f : u ≡ Next value) {w : After} (v : Means s w (value_of depth (drop value s))) where
-              pub member-no-value : w ≡ Unread → member_of (value_of depth) (drop at s) ≡ bad
+              pub member_no_value : w ≡ Unread → member_of (value_of depth) (drop at s) ≡ bad
               unfolding member_of and_then
-              member-no-value g =
+              member_no_value g =
                   rw (
-                    name-string,
+                    name_string,
                     (means_next s (chars_from 0 (drop (at + 1) s)) t m e).reads,
                     (means_next s (structural 0x3A (drop named s)) u c f).reads,
                     means_unread s (value_of depth (drop value s)) w v g,
                   )
 
-              pub member-read : {next : ℕ} → w ≡ Next next → ReadMember s value next (member_of (value_of depth) (drop at s))
-              member-read g =
+              pub member_read : {next : ℕ} → w ≡ Next next → ReadMember s value next (member_of (value_of depth) (drop at s))
+              member_read g =
                   let a = means_next s (chars_from 0 (drop (at + 1) s)) t m e in
                   let b = means_next s (structural 0x3A (drop named s)) u c f in
                   let d = means_next s (value_of depth (drop value s)) w v g in
@@ -132,10 +132,10 @@ module _ (s : List ℕ) (depth at : ℕ) where
                     inside = d.inside;
                     key = a.value;
                     meaning = d.value;
-                    reads = member_reads depth (drop at s) (name-string ∙ a.reads) b.reads d.reads;
+                    reads = member_reads depth (drop at s) (name_string ∙ a.reads) b.reads d.reads;
                   }
 
-pub ruleset membering = (member_end, member-unquoted, member-unnamed, member-no-colon, member-no-value, member-read, read_inside, rules)
+pub ruleset membering = (member_end, member_unquoted, member_unnamed, member_no_colon, member_no_value, member_read, read_inside, rules)
 
 -- Arrays.
 array_turn : (s : List ℕ) (depth place : ℕ) (t : After) {next : ℕ} → place ≤ length s → (m : Means s t (value_of depth (drop place s))) (e : t ≡ Next next) →
@@ -149,20 +149,20 @@ module _ {s : List ℕ} (depth : ℕ) {place : ℕ} {whole : Out (List Meaning)}
   array_cut h = listing_none k (value_end s depth place h)
 
   module _ {t : After} (m : Means s t (value_of depth (drop place s))) where
-    pub array-none : t ≡ Unread → whole ≡ bad
-    array-none e = listing_none k (means_unread s (value_of depth (drop place s)) t m e)
+    pub array_none : t ≡ Unread → whole ≡ bad
+    array_none e = listing_none k (means_unread s (value_of depth (drop place s)) t m e)
 
     module _ (h : place < length s) {next : ℕ} (e : t ≡ Next next) {u : After} (c : Means s u (structural 0x2C (drop next s))) where
-      pub array-on : {again : ℕ} → u ≡ Next again → Listing (value_of depth) 0x5D whole s again
-      array-on f = listing-on k h (array_turn s depth place t k.inside m e) c f
+      pub array_on : {again : ℕ} → u ≡ Next again → Listing (value_of depth) 0x5D whole s again
+      array_on f = listing_on k h (array_turn s depth place t k.inside m e) c f
 
-      pub array-falls : {again : ℕ} → u ≡ Next again → length s - again < length s - place
-      array-falls f = listing-falls k h (array_turn s depth place t k.inside m e) c f
+      pub array_falls : {again : ℕ} → u ≡ Next again → length s - again < length s - place
+      array_falls f = listing_falls k h (array_turn s depth place t k.inside m e) c f
 
-      pub array-ends : u ≡ Unread → (r : After) → Means s r (structural 0x5D (drop next s)) → Means s r whole
-      array-ends f r q = listing-ends k h (array_turn s depth place t k.inside m e) c f r q
+      pub array_ends : u ≡ Unread → (r : After) → Means s r (structural 0x5D (drop next s)) → Means s r whole
+      array_ends f r q = listing_ends k h (array_turn s depth place t k.inside m e) c f r q
 
-pub ruleset arraying = (array_cut, array-none, array-on, array-falls, array-ends, listing_empty, listing_starts, space_inside, read_inside, place_inside, rules)
+pub ruleset arraying = (array_cut, array_none, array_on, array_falls, array_ends, listing_empty, listing_starts, space_inside, read_inside, place_inside, rules)
 
 -- Objects.
 pub member_told : (s : List ℕ) (o : Out Item) (t : Member) {value next : ℕ} → MemberMeans s t o → t ≡ Read value next → ReadMember s value next o
@@ -187,22 +187,22 @@ module _ {s : List ℕ} (depth : ℕ) {place : ℕ} {whole : Out (List Item)} (k
   object_cut h = listing_none k (member_end s depth place h)
 
   module _ {t : Member} (m : MemberMeans s t (member_of (value_of depth) (drop place s))) where
-    pub object-none : t ≡ NoMember → whole ≡ bad
-    object-none e = listing_none k (member_untold s (member_of (value_of depth) (drop place s)) t m e)
+    pub object_none : t ≡ NoMember → whole ≡ bad
+    object_none e = listing_none k (member_untold s (member_of (value_of depth) (drop place s)) t m e)
 
     module _ (h : place < length s) {value next : ℕ} (e : t ≡ Read value next) where
       turn : ReadMember s value next (member_of (value_of depth) (drop place s))
       turn = member_told s (member_of (value_of depth) (drop place s)) t m e
 
       module _ {u : After} (c : Means s u (structural 0x2C (drop next s))) where
-        pub object-on : {again : ℕ} → u ≡ Next again → Listing (member_of (value_of depth)) 0x7D whole s again
-        object-on f = listing-on k h (member_turn s depth place k.inside turn) c f
+        pub object_on : {again : ℕ} → u ≡ Next again → Listing (member_of (value_of depth)) 0x7D whole s again
+        object_on f = listing_on k h (member_turn s depth place k.inside turn) c f
 
-        pub object-falls : {again : ℕ} → u ≡ Next again → length s - again < length s - place
-        object-falls f = listing-falls k h (member_turn s depth place k.inside turn) c f
+        pub object_falls : {again : ℕ} → u ≡ Next again → length s - again < length s - place
+        object_falls f = listing_falls k h (member_turn s depth place k.inside turn) c f
 
-        pub object-ends : u ≡ Unread → (r : After) → Means s r (structural 0x7D (drop next s)) → Means s r whole
-        object-ends f r q = listing-ends k h (member_turn s depth place k.inside turn) c f r q
+        pub object_ends : u ≡ Unread → (r : After) → Means s r (structural 0x7D (drop next s)) → Means s r whole
+        object_ends f r q = listing_ends k h (member_turn s depth place k.inside turn) c f r q
 
 pub ruleset objecting =
-    (object_cut, object-none, object-on, object-falls, object-ends, listing_empty, listing_starts, space_inside, read_inside, member_inside, place_inside, rules)
+    (object_cut, object_none, object_on, object_falls, object_ends, listing_empty, listing_starts, space_inside, read_inside, member_inside, place_inside, rules)

@@ -45,13 +45,13 @@ module _ (s : List ℕ) (by : ℕ) {p : Place} (e : p ≡ first_where (starts 0x
   comment_none g = sym (ap (λ x. lines.Comment (place_from by x)) (sym e ∙ g))
 
   module _ {i : ℕ} (g : p ≡ At i) where
-    pub comment-fits : by + length s ≤ largest → Fits w64 (by + i)
-    comment-fits h = let j = first_inside (starts 0x7B) s (sym e ∙ g) in omega arith
+    pub comment_fits : by + length s ≤ largest → Fits w64 (by + i)
+    comment_fits h = let j = first_inside (starts 0x7B) s (sym e ∙ g) in omega arith
 
-    pub comment-at : lines.Comment (At (by + i)) ≡ comment_at by s
-    comment-at = sym (ap (λ x. lines.Comment (place_from by x)) (sym e ∙ g))
+    pub comment_at_lem : lines.Comment (At (by + i)) ≡ comment_at by s
+    comment_at_lem = sym (ap (λ x. lines.Comment (place_from by x)) (sym e ∙ g))
 
-pub ruleset commenting = (comment_none, comment-fits, comment-at, rules)
+pub ruleset commenting = (comment_none, comment_fits, comment_at_lem, rules)
 
 -- Classes.
 module _ (s : List ℕ) (by : ℕ) (h : by + length s ≤ largest) {t : Arrow} (e : t ≡ class_sides s) where
@@ -59,16 +59,16 @@ module _ (s : List ℕ) (by : ℕ) (h : by + length s ≤ largest) {t : Arrow} (
   class_none g = sym (ap (class_by by) (sym e ∙ g))
 
   module _ {l r : Span} (g : t ≡ Sides l r) where
-    pub class-left : Lies (shift by l) largest
-    class-left = shift_lies by l (length s) largest h (class_lies s (sym e ∙ g)).0
+    pub class_left : Lies (shift by l) largest
+    class_left = shift_lies by l (length s) largest h (class_lies s (sym e ∙ g)).0
 
-    pub class-right : Lies (shift by r) largest
-    class-right = shift_lies by r (length s) largest h (class_lies s (sym e ∙ g)).1
+    pub class_right : Lies (shift by r) largest
+    class_right = shift_lies by r (length s) largest h (class_lies s (sym e ∙ g)).1
 
-    pub class-read : {a b : Span} → a ≡ shift by l → b ≡ shift by r → lines.Class a b ≡ class_at by s
-    class-read {a} f k = ap (lines.Class a) k ∙ ap (λ x. lines.Class x (shift by r)) f ∙ sym (ap (class_by by) (sym e ∙ g))
+    pub class_read : {a b : Span} → a ≡ shift by l → b ≡ shift by r → lines.Class a b ≡ class_at by s
+    class_read {a} f k = ap (lines.Class a) k ∙ ap (λ x. lines.Class x (shift by r)) f ∙ sym (ap (class_by by) (sym e ∙ g))
 
-pub ruleset classing = (class_none, class-left, class-right, class-read, rules)
+pub ruleset classing = (class_none, class_left, class_right, class_read, rules)
 
 -- Methods.
 module _ (s : List ℕ) (by : ℕ) (raw : Span) (h : by + length s ≤ largest) {t : MethodParts} (e : t ≡ method_of s) where
@@ -76,13 +76,13 @@ module _ (s : List ℕ) (by : ℕ) (raw : Span) (h : by + length s ≤ largest) 
   method_none g = sym (ap (method_by by raw) (sym e ∙ g))
 
   module _ {m : Method} (g : t ≡ methods.Parts m) where
-    pub method-shift : MethodIn (shift_method by m) largest
-    method-shift = shift_method_lies by m (length s) largest h (method_lies s (sym e ∙ g))
+    pub method_shift : MethodIn (shift_method by m) largest
+    method_shift = shift_method_lies by m (length s) largest h (method_lies s (sym e ∙ g))
 
-    pub method-line : {n : Method} → n ≡ shift_method by m → lines.Method n raw ≡ method_at by raw s
-    method-line f = ap (λ x. lines.Method x raw) f ∙ sym (ap (method_by by raw) (sym e ∙ g))
+    pub method_line : {n : Method} → n ≡ shift_method by m → lines.Method n raw ≡ method_at by raw s
+    method_line f = ap (λ x. lines.Method x raw) f ∙ sym (ap (method_by by raw) (sym e ∙ g))
 
-pub ruleset method_lines = (method_none, method-shift, method-line, rules)
+pub ruleset method_lines = (method_none, method_shift, method_line, rules)
 
 -- Fields.
 module _ (s : List ℕ) (by : ℕ) (raw : Span) (h : by + length s ≤ largest) {t : field.Field} (e : t ≡ field_of s) where
@@ -90,16 +90,16 @@ module _ (s : List ℕ) (by : ℕ) (raw : Span) (h : by + length s ≤ largest) 
   field_none g = sym (ap (field_by by raw) (sym e ∙ g))
 
   module _ {d n : Span} (g : t ≡ fields.Parts d n) where
-    pub field-declared : Lies (shift by d) largest
-    field-declared = shift_lies by d (length s) largest h (field_lies s (sym e ∙ g)).0
+    pub field_declared : Lies (shift by d) largest
+    field_declared = shift_lies by d (length s) largest h (field_lies s (sym e ∙ g)).0
 
-    pub field-name : Lies (shift by n) largest
-    field-name = shift_lies by n (length s) largest h (field_lies s (sym e ∙ g)).1
+    pub field_name_lem : Lies (shift by n) largest
+    field_name_lem = shift_lies by n (length s) largest h (field_lies s (sym e ∙ g)).1
 
-    pub field-line : {a b : Span} → a ≡ shift by d → b ≡ shift by n → lines.Field a b raw ≡ field_at by raw s
-    field-line {a} f k = ap (λ x. lines.Field a x raw) k ∙ ap (λ x. lines.Field x (shift by n) raw) f ∙ sym (ap (field_by by raw) (sym e ∙ g))
+    pub field_line : {a b : Span} → a ≡ shift by d → b ≡ shift by n → lines.Field a b raw ≡ field_at by raw s
+    field_line {a} f k = ap (λ x. lines.Field a x raw) k ∙ ap (λ x. lines.Field x (shift by n) raw) f ∙ sym (ap (field_by by raw) (sym e ∙ g))
 
-pub ruleset field_lines = (field_none, field-declared, field-name, field-line, rules)
+pub ruleset field_lines = (field_none, field_declared, field_name_lem, field_line, rules)
 
 -- Members.
 module _ (s : List ℕ) (by : ℕ) (h : by + length s ≤ largest) {t : Arrow} (e : t ≡ arrow_of s) where
@@ -110,17 +110,17 @@ module _ (s : List ℕ) (by : ℕ) (h : by + length s ≤ largest) {t : Arrow} (
     lie : Lies l (length s) × Lies r (length s)
     lie = arrow_lies s (sym e ∙ g)
 
-    pub member-order : l.start ≤ l.«end»
-    member-order = lie.0.order
+    pub member_order : l.start ≤ l.«end»
+    member_order = lie.0.order
 
     pub member_inside : l.«end» ≤ length s
     member_inside = lie.0.within
 
-    pub member-raw : Lies (shift by r) largest
-    member-raw = shift_lies by r (length s) largest h lie.1
+    pub member_raw : Lies (shift by r) largest
+    member_raw = shift_lies by r (length s) largest h lie.1
 
-    pub member-base : Fits w64 (by + l.start)
-    member-base = let o = lie.0.order in let w = lie.0.within in omega arith
+    pub member_base : Fits w64 (by + l.start)
+    member_base = let o = lie.0.order in let w = lie.0.within in omega arith
 
     pub member_room : by + l.start + length (between s l.start l.«end») ≤ largest
     member_room = let o = lie.0.order in let w = lie.0.within in let n = part_length s l lie.0 in omega arith
@@ -131,16 +131,16 @@ module _ (s : List ℕ) (by : ℕ) (h : by + length s ≤ largest) {t : Arrow} (
           ap (member_by by s) (sym e ∙ g) ∙ ap (λ x. by_side (by + l.start) x (part_of s l) (first_where (starts 0x28) (part_of s l))) (sym f)
           ∙ ap (by_side (by + l.start) raw (part_of s l)) (sym q ∙ k)
 
-      pub member-field : p ≡ Nowhere → {z : Line} → z ≡ field_at (by + l.start) raw (between s l.start l.«end») → z ≡ member_at by s
-      member-field k u = u ∙ sym (whole k)
+      pub member_field : p ≡ Nowhere → {z : Line} → z ≡ field_at (by + l.start) raw (between s l.start l.«end») → z ≡ member_at by s
+      member_field k u = u ∙ sym (whole k)
 
-      pub member-opens : {i : ℕ} → p ≡ At i → Opens (between s l.start l.«end») i
-      member-opens k = sym q ∙ k
+      pub member_opens : {i : ℕ} → p ≡ At i → Opens (between s l.start l.«end») i
+      member_opens k = sym q ∙ k
 
-      pub member-method : {i : ℕ} → p ≡ At i → {z : Line} → z ≡ method_at (by + l.start) raw (between s l.start l.«end») → z ≡ member_at by s
-      member-method k u = u ∙ sym (whole k)
+      pub member_method : {i : ℕ} → p ≡ At i → {z : Line} → z ≡ method_at (by + l.start) raw (between s l.start l.«end») → z ≡ member_at by s
+      member_method k u = u ∙ sym (whole k)
 
-pub ruleset membering = (member_none, member-order, member_inside, member-raw, member-base, member_room, member-field, member-opens, member-method, rules)
+pub ruleset membering = (member_none, member_order, member_inside, member_raw, member_base, member_room, member_field, member_opens, member_method, rules)
 
 -- The line.
 hash_head : (s : List ℕ) (p : Span) → Lies p (length s) → (p.start ≡ p.«end» → ⊥) → starts 0x23 (part_of s p) ≡ eqb (get_or s p.start 0) 0x23
@@ -174,8 +174,8 @@ module _ (s : List ℕ) {p : Span} (e : p ≡ trim_both s) where
     pub line_room : length s < 2 ^ 64 → p.start + length (between s p.start p.«end») ≤ largest
     line_room b = let o = lies.order in let w = lies.within in let z = part_length s p lies in omega arith
 
-    pub line-comment : get_or s p.start 0 ≡ 0x23 → {z : Line} → z ≡ comment_at p.start (between s p.start p.«end») → z ≡ line_of s
-    line-comment c u = u ∙ sym (in_it ∙ rw (ne_eqb p.start p.«end» n, hash_head s p lies n, eq-eqb (get_or s p.start 0) 0x23 c))
+    pub line_comment : get_or s p.start 0 ≡ 0x23 → {z : Line} → z ≡ comment_at p.start (between s p.start p.«end») → z ≡ line_of s
+    line_comment c u = u ∙ sym (in_it ∙ rw (ne_eqb p.start p.«end» n, hash_head s p lies n, eq-eqb (get_or s p.start 0) 0x23 c))
 
     module _ (c : get_or s p.start 0 ≡ 0x23 → ⊥) where
       told : (b : Bool) → starts_white s ≡ b → {z : Line} → z ≡ pick b (member_at p.start (between s p.start p.«end»)) (class_at p.start (between s p.start p.«end»)) → z ≡ line_of s
@@ -190,4 +190,4 @@ module _ (s : List ℕ) {p : Span} (e : p ≡ trim_both s) where
       pub line_class : p.start ≤ 0 → {z : Line} → z ≡ class_at p.start (between s p.start p.«end») → z ≡ line_of s
       line_class t u = told false (white ∙ le-ltb 0 p.start t) u
 
-pub ruleset kinding = (line_blank, line_order, line_inside, line_first, line_room, line-comment, line_member, line_class, rules)
+pub ruleset kinding = (line_blank, line_order, line_inside, line_first, line_room, line_comment, line_member, line_class, rules)

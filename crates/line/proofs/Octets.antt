@@ -18,7 +18,7 @@ use Rattle.text_places.specs.Places.{first_where, last_where, starts, starts_pai
 use Rattle.text_places.proofs.PlaceLaws.{first_inside, last_inside}
 use Rattle.text_places.proofs.Holds.{first_is, last_is, pair_stands, pair_inside}
 use Rattle.text_utf8.specs.Grammar.{Utf8Octets}
-use Rattle.text_utf8.proofs.Boundaries.{octets_as, Texts, no_text, text, Fresh, fresh_as, octets_fresh, fresh_ascii, fresh-after, after-octets, take-octets, drop-octets, part_octets}
+use Rattle.text_utf8.proofs.Boundaries.{octets_as, Texts, no_text, text, Fresh, fresh_as, octets_fresh, fresh_ascii, fresh_after, after_octets, take_octets, drop_octets, part_octets}
 use Rattle.text_places.specs.declared.spans.Span.{Span}
 use Rattle.text_white.specs.Trim.{trim_both, starts_white, first_white, last_white}
 use Rattle.text_white.proofs.Cuts.{trim_octets, first_white_fresh, last_white_fresh, Splitting, split_texts}
@@ -76,8 +76,8 @@ arrow_octets {s} o {l} {r} e = go (first_where (starts_pair 0x2D 0x3E) s) refl e
         let room = pair_inside 0x2D 0x3E s q in
         let (dash, head) = pair_stands 0x2D 0x3E s q in
         let two : i + 1 + 1 ≡ i + 2 = omega arith in
-        let left = take-octets o i (fresh_ascii s i (omega arith)) in
-        let right = octets_as (ap (λ n. drop n s) two) (after-octets o (i + 1) (omega arith) (omega arith)) in (
+        let left = take_octets o i (fresh_ascii s i (omega arith)) in
+        let right = octets_as (ap (λ n. drop n s) two) (after_octets o (i + 1) (omega arith) (omega arith)) in (
           octets_as (take_part s i (omega arith) (trim_both (take i s)) (trim_lies (take i s)) ∙ ap (part_of s) a) (trim_octets left),
           octets_as (stands_part (drop_stands s (i + 2)) (trim_both (drop (i + 2) s)) (trim_lies (drop (i + 2) s)) ∙ ap (part_of s) b) (trim_octets right),
         )
@@ -89,7 +89,7 @@ class_octets {s} o {l} {r} e = go (eqb (get_or s (length s - 1) 0) 0x3A) refl e
         Utf8Octets (part_of s l) × Utf8Octets (part_of s r)
     go true q f =
         let colon = eqb-true (get_or s (length s - 1) 0) 0x3A q in
-        let front = take-octets o (length s - 1) (fresh_ascii s (length s - 1) (omega arith)) in
+        let front = take_octets o (length s - 1) (fresh_ascii s (length s - 1) (omega arith)) in
         let (a, b) = arrow_octets front f in
         let (c, d) = arrow_lies (take (length s - 1) s) f in
         (octets_as (take_part s (length s - 1) (omega arith) l c) a, octets_as (take_part s (length s - 1) (omega arith) r d) b)
@@ -106,8 +106,8 @@ field_octets {s} o {d} {n} e = go (last_white s) refl e
         let a : trim_both (take i s) ≡ d = cc in
         let b : shift i (trim_both (drop i s)) ≡ n = cc in
         let white = last_white_fresh s q in (
-          octets_as (take_part s i (omega arith) (trim_both (take i s)) (trim_lies (take i s)) ∙ ap (part_of s) a) (trim_octets (take-octets o i white)),
-          octets_as (stands_part (drop_stands s i) (trim_both (drop i s)) (trim_lies (drop i s)) ∙ ap (part_of s) b) (trim_octets (drop-octets o i white)),
+          octets_as (take_part s i (omega arith) (trim_both (take i s)) (trim_lies (take i s)) ∙ ap (part_of s) a) (trim_octets (take_octets o i white)),
+          octets_as (stands_part (drop_stands s i) (trim_both (drop i s)) (trim_lies (drop i s)) ∙ ap (part_of s) b) (trim_octets (drop_octets o i white)),
         )
 
 -- A method's name, with its owner.
@@ -133,8 +133,8 @@ name_octets {s} o = go (last_where (starts 0x2E) s) refl
     go (At i) q =
         let here = last_inside (starts 0x2E) s q in
         let dot = last_is 0x2E s q in (
-          octets_as (sym (start_part s i)) (take-octets o i (fresh_ascii s i (omega arith))),
-          octets_as (sym (end_part s (i + 1))) (after-octets o i here (omega arith)),
+          octets_as (sym (start_part s i)) (take_octets o i (fresh_ascii s i (omega arith))),
+          octets_as (sym (end_part s (i + 1))) (after_octets o i here (omega arith)),
         )
 
 name_stands : {s : List ℕ} {by : ℕ} {t : List ℕ} → Stands s by t → (q : Qualified) → NameIn q (length t) → NameOctets t q → NameOctets s (shift_name by q)
@@ -164,9 +164,9 @@ signature_octets {s} o {n} {a} {t} e = go (first_where (starts 0x28) s) refl (la
         let named : qualified_of (take i s) ≡ n = cc in
         let enclosed : span (i + 1) j ≡ a = cc in
         let lies : Lies (span (i + 1) j) (length s) = lies_as (sym enclosed) (signature_lies s e).1 in
-        let front = take-octets o i (fresh_ascii s i (omega arith)) in (
+        let front = take_octets o i (fresh_ascii s i (omega arith)) in (
           name_as s named (name_take s i (omega arith) (qualified_of (take i s)) (name_lies (take i s)) (name_octets front)),
-          octets_as (ap (part_of s) enclosed) (part_octets o (i + 1) j lies.order (fresh-after o i before (omega arith)) (fresh_ascii s j (omega arith))),
+          octets_as (ap (part_of s) enclosed) (part_octets o (i + 1) j lies.order (fresh_after o i before (omega arith)) (fresh_ascii s j (omega arith))),
         )
 
     go : (p : Place) → first_where (starts 0x28) s ≡ p → (q : Place) → last_where (starts 0x29) s ≡ q → method_signature_at s p q ≡ signature.Parts n a t →
@@ -192,24 +192,24 @@ stands_as_lem e k = rw e at k
 
 module _ {left : List ℕ} (o : Utf8Octets left) where
   from_octets : (rest : ℕ) (raw : LineRange) {m : Method} → Fresh (drop rest left) → method_from left rest raw ≡ Parts m → MethodOctets left m
-  from_octets rest raw {m} f e = by-white (first_white (drop rest left)) refl e
+  from_octets rest raw {m} f e = by_white (first_white (drop rest left)) refl e
     where
-      type-on : Utf8Octets (drop rest left)
-      type-on = drop-octets o rest f
+      type_on : Utf8Octets (drop rest left)
+      type_on = drop_octets o rest f
 
-      by-signature : (white : ℕ) → first_white (drop rest left) ≡ At white → (t : Signature) →
+      by_signature : (white : ℕ) → first_white (drop rest left) ≡ At white → (t : Signature) →
           method_signature (part_of (drop (rest + white) left) (trim_both (drop (rest + white) left))) ≡ t →
           with_signature (span rest (rest + white)) (rest + white + (trim_both (drop (rest + white) left)).start) raw t ≡ Parts m → MethodOctets left m
-      by-signature white p signature.NoSignature q g = absurd (let z : ◌≡◌ {A = ℕ} 0 1 = cc in omega arith)
-      by-signature white p (signature.Parts named arguments lines) q g =
+      by_signature white p signature.NoSignature q g = absurd (let z : ◌≡◌ {A = ℕ} 0 1 = cc in omega arith)
+      by_signature white p (signature.Parts named arguments lines) q g =
           let after : List ℕ = drop (rest + white) left in
           let part : Span = trim_both after in
           let by : ℕ = rest + white + part.start in
           let i = first_inside starts_white (drop rest left) p in
           let room = length-drop rest left in
-          let left-room = length-drop (rest + white) left in
+          let left_room = length-drop (rest + white) left in
           let fresh = first_white_fresh (drop rest left) p in
-          let behind : Utf8Octets after = octets_as (drop-drop white rest left) (drop-octets type-on white fresh) in
+          let behind : Utf8Octets after = octets_as (drop-drop white rest left) (drop_octets type_on white fresh) in
           let place : part_of after part ≡ part_of left (shift (rest + white) part) = stands_part (drop_stands left (rest + white)) part (trim_lies after) in
           let lies : Lies (shift (rest + white) part) (length left) = shift_lies (rest + white) part (length after) (length left) (omega arith) (trim_lies after) in
           let stands : Stands left by (part_of after part) = stands_as_lem (sym place) (part_stands left (shift (rest + white) part) lies) in
@@ -218,19 +218,19 @@ module _ {left : List ℕ} (o : Utf8Octets left) where
           let size : rest + white - rest ≡ white = omega arith in
           method_as left g
           (settled_octets left (span rest (rest + white)) (shift_name by named) (shift by arguments) raw lines
-          (octets_as (ap (λ n. take n (drop rest left)) (sym size)) (take-octets type-on white fresh))
+          (octets_as (ap (λ n. take n (drop rest left)) (sym size)) (take_octets type_on white fresh))
           (name_stands stands named c a) (octets_as (stands_part stands arguments d) b))
 
-      by-white : (p : Place) → first_white (drop rest left) ≡ p → type_at left rest raw p ≡ Parts m → MethodOctets left m
-      by-white Nowhere q g = absurd (let z : ◌≡◌ {A = ℕ} 0 1 = cc in omega arith)
-      by-white (At white) q g = by-signature white q (method_signature (part_of (drop (rest + white) left) (trim_both (drop (rest + white) left)))) refl g
+      by_white : (p : Place) → first_white (drop rest left) ≡ p → type_at left rest raw p ≡ Parts m → MethodOctets left m
+      by_white Nowhere q g = absurd (let z : ◌≡◌ {A = ℕ} 0 1 = cc in omega arith)
+      by_white (At white) q g = by_signature white q (method_signature (part_of (drop (rest + white) left) (trim_both (drop (rest + white) left)))) refl g
 
   -- what is left behind a raw range starts behind a colon
   leading_fresh : {a b rest : ℕ} → leading_range left ≡ leading.Taken a b rest → Fresh (drop rest left)
   leading_fresh e =
       let c = leading_behind left e in
       let k = c.stands in
-      fresh_as (ap (λ n. drop n left) (sym c.next)) (fresh-after o c.colon c.inside (omega arith))
+      fresh_as (ap (λ n. drop n left) (sym c.next)) (fresh_after o c.colon c.inside (omega arith))
 
   pub method_octets : {m : Method} → method_of left ≡ Parts m → MethodOctets left m
   method_octets {m} e = go (leading_range left) refl e

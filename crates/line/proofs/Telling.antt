@@ -13,7 +13,7 @@ use Rattle.text_places.specs.Places.{first_where, starts}
 use Rattle.text_places.proofs.PlaceLaws.{first_inside}
 use Rattle.text_places.proofs.Holds.{first_is}
 use Rattle.text_utf8.specs.Grammar.{Utf8Octets}
-use Rattle.text_utf8.proofs.Boundaries.{octets_as, fresh_ascii, drop-octets}
+use Rattle.text_utf8.proofs.Boundaries.{octets_as, fresh_ascii, drop_octets}
 use Rattle.text_places.specs.declared.spans.Span.{Span}
 use Rattle.text_white.specs.Trim.{trim_both, starts_white}
 use Rattle.text_white.proofs.Cuts.{trim_octets}
@@ -54,7 +54,7 @@ module _ (s : List ℕ) (by e : ℕ) (t : List ℕ) (k : Stands s by t) (o : Utf
       go (At i) f =
           let inside = first_inside (starts 0x7B) t f in
           let is = first_is 0x7B t f in
-          let rest : Utf8Octets (part_of t (span i (length t))) = octets_as (sym (take_rest t i)) (drop-octets o i (fresh_ascii t i (omega arith))) in
+          let rest : Utf8Octets (part_of t (span i (length t))) = octets_as (sym (take_rest t i)) (drop_octets o i (fresh_ascii t i (omega arith))) in
           octets_as (stands_part k (span i (length t)) (record { order = omega arith; within = omega arith }) ∙ ap (λ n. part_of s (span (by + i) n)) (sym q)) rest
 
   class_line_octets : LineOctets s e (class_at by t)
@@ -68,8 +68,8 @@ module _ (s : List ℕ) (by e : ℕ) (t : List ℕ) (k : Stands s by t) (o : Utf
           (octets_as (stands_part k l c) a, octets_as (stands_part k r d) b)
 
   module _ (raw : Span) (i : Utf8Octets (part_of s raw)) where
-    field-line-octets : LineOctets s e (field_at by raw t)
-    field-line-octets = go (field_of t) refl
+    field_line_octets : LineOctets s e (field_at by raw t)
+    field_line_octets = go (field_of t) refl
       where
         go : (f : field.Field) → field_of t ≡ f → LineOctets s e (field_by by raw f)
         go fields.NoField f = tt
@@ -78,16 +78,16 @@ module _ (s : List ℕ) (by e : ℕ) (t : List ℕ) (k : Stands s by t) (o : Utf
             let (x, y) = field_lies t f in
             (octets_as (stands_part k d x) a, octets_as (stands_part k n y) b, i)
 
-    method-line-octets : LineOctets s e (method_at by raw t)
-    method-line-octets = go (method_of t) refl
+    method_line_octets : LineOctets s e (method_at by raw t)
+    method_line_octets = go (method_of t) refl
       where
         go : (m : method.MethodParts) → method_of t ≡ m → LineOctets s e (method_by by raw m)
         go methods.NoMethod f = tt
         go (methods.Parts m) f = (method_stands k m (method_lies t f) (method_octets o f), i)
 
-    side-octets : (p : Place) → LineOctets s e (by_side by raw t p)
-    side-octets Nowhere = field-line-octets
-    side-octets (At j) = method-line-octets
+    side_octets : (p : Place) → LineOctets s e (by_side by raw t p)
+    side_octets Nowhere = field_line_octets
+    side_octets (At j) = method_line_octets
 
 stands_deeper : {s : List ℕ} {by : ℕ} {t : List ℕ} → Stands s by t → (q : Span) → Lies q (length t) → by + length t ≤ length s → Stands s (by + q.start) (part_of t q)
 stands_deeper {s} {by} {t} k q l h =
@@ -102,7 +102,7 @@ member_octets s by e t k h o = go (arrow_of t) refl
     go (Sides l r) f =
         let (a, b) = arrow_octets o f in
         let (c, d) = arrow_lies t f in
-        side-octets s (by + l.start) e (part_of t l) (stands_deeper k l c h) a (shift by r) (octets_as (stands_part k r d) b) (first_where (starts 0x28) (part_of t l))
+        side_octets s (by + l.start) e (part_of t l) (stands_deeper k l c h) a (shift by r) (octets_as (stands_part k r d) b) (first_where (starts 0x28) (part_of t l))
 
 -- a line that is well formed tells well_formed_lem texts alone
 pub line_octets : {s : List ℕ} → Utf8Octets s → LineOctets s (trim_both s).«end» (line_of s)

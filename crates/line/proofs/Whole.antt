@@ -61,16 +61,16 @@ module _ (by n : ℕ) (s : List ℕ) (h : by + length s ≤ n) where
         go fields.NoField e = tt
         go (fields.Parts d a) e = (shift_lies by d (length s) n h (field_lies s e).0, shift_lies by a (length s) n h (field_lies s e).1, i)
 
-    method-in : LineIn (method_at by raw s) n
-    method-in = go (method_of s) refl
+    method_in : LineIn (method_at by raw s) n
+    method_in = go (method_of s) refl
       where
         go : (m : method.MethodParts) → method_of s ≡ m → LineIn (method_by by raw m) n
         go methods.NoMethod e = tt
         go (methods.Parts m) e = (shift_method_lies by m (length s) n h (method_lies s e), i)
 
-    side-in : (p : Place) → LineIn (by_side by raw s p) n
-    side-in Nowhere = field_in
-    side-in (At k) = method-in
+    side_in : (p : Place) → LineIn (by_side by raw s p) n
+    side_in Nowhere = field_in
+    side_in (At k) = method_in
 
 member_in : (by n : ℕ) (s : List ℕ) → by + length s ≤ n → LineIn (member_at by s) n
 member_in by n s h = go (arrow_of s) refl
@@ -82,7 +82,7 @@ member_in by n s h = go (arrow_of s) refl
         let o = i.order in
         let w = i.within in
         let z = part_length s l i in
-        side-in (by + l.start) n (part_of s l) (omega arith) (shift by r) (shift_lies by r (length s) n h (arrow_lies s e).1) (first_where (starts 0x28) (part_of s l))
+        side_in (by + l.start) n (part_of s l) (omega arith) (shift by r) (shift_lies by r (length s) n h (arrow_lies s e).1) (first_where (starts 0x28) (part_of s l))
 
 parts_in : (s : List ℕ) (p : Span) → Lies p (length s) → LineIn (line_in s p) p.«end»
 parts_in s p i = go (is_empty p) (starts 0x23 (part_of s p)) (starts_white s)

@@ -99,8 +99,8 @@ module _ {s : List ℕ} {start at : ℕ} (k : Passing s start at) where
   passing_ends h = sym (k.decides ∙ ap (λ l. first_filled at (comma_parts l)) (drop_of_length-le s h) ∙ none_left at)
 
   module _ (h : at < length s) {p : Place} (e : p ≡ first_where (starts 0x2C) (between s at (length s))) where
-    comma-is : p ≡ first_where (starts 0x2C) (drop at s)
-    comma-is = rw (take_rest s at) at e
+    comma_is : p ≡ first_where (starts 0x2C) (drop at s)
+    comma_is = rw (take_rest s at) at e
 
     -- the last part
     module _ (g : p ≡ Nowhere) {l : Span} (f : l ≡ trim_both (between s at (length s))) where
@@ -111,36 +111,36 @@ module _ {s : List ℕ} {start at : ℕ} (k : Passing s start at) where
       unfolding first_filled
       last_step q r =
           let whole : at + length (drop at s) + 0 ≡ length s = omega (arith, length-drop at s) in
-          k.decides ∙ ap (first_filled at) (none_from 0 (drop at s) (sym comma-is ∙ g)) ∙ rw (whole, r)
+          k.decides ∙ ap (first_filled at) (none_from 0 (drop at s) (sym comma_is ∙ g)) ∙ rw (whole, r)
 
-      pub last-blank : {b : Bool} → b ≡ is_empty l → b ≡ true → NoArgument ≡ next_argument s start
-      last-blank i z = sym (last_step l last_is ∙ rw (sym i ∙ z))
+      pub last_blank : {b : Bool} → b ≡ is_empty l → b ≡ true → NoArgument ≡ next_argument s start
+      last_blank i z = sym (last_step l last_is ∙ rw (sym i ∙ z))
 
       reach : at + l.«end» ≤ length s
       reach = let a = trimmed_inside (drop at s) last_is in omega (arith, length-drop at s)
 
-      pub last-start-fits : length s < 2 ^ 64 → Fits w64 (at + l.start)
-      last-start-fits b = let r = reach in let o = trimmed_order (drop at s) last_is in omega arith
+      pub last_start_fits : length s < 2 ^ 64 → Fits w64 (at + l.start)
+      last_start_fits b = let r = reach in let o = trimmed_order (drop at s) last_is in omega arith
 
-      pub last-end-fits : length s < 2 ^ 64 → Fits w64 (at + l.«end»)
-      last-end-fits b = let r = reach in omega arith
+      pub last_end_fits : length s < 2 ^ 64 → Fits w64 (at + l.«end»)
+      last_end_fits b = let r = reach in omega arith
 
-      pub last-argument : {b : Bool} → b ≡ is_empty l → b ≡ false → Argument (at + l.start) (at + l.«end») (length s) ≡ next_argument s start
-      last-argument i z = sym (last_step l last_is ∙ rw (sym i ∙ z))
+      pub last_argument : {b : Bool} → b ≡ is_empty l → b ≡ false → Argument (at + l.start) (at + l.«end») (length s) ≡ next_argument s start
+      last_argument i z = sym (last_step l last_is ∙ rw (sym i ∙ z))
 
     -- a part before a comma
     module _ {comma : ℕ} (g : p ≡ At comma) where
       ahead : at + comma < length s
-      ahead = let i = first_inside (starts 0x2C) (drop at s) (sym comma-is ∙ g) in omega (arith, length-drop at s)
+      ahead = let i = first_inside (starts 0x2C) (drop at s) (sym comma_is ∙ g) in omega (arith, length-drop at s)
 
-      pub comma-fits : length s < 2 ^ 64 → Fits w64 (at + comma)
-      comma-fits b = let a = ahead in omega arith
+      pub comma_fits : length s < 2 ^ 64 → Fits w64 (at + comma)
+      comma_fits b = let a = ahead in omega arith
 
-      pub comma-inside : at + comma ≤ length s
-      comma-inside = let a = ahead in omega arith
+      pub comma_inside : at + comma ≤ length s
+      comma_inside = let a = ahead in omega arith
 
-      pub comma-past : length s < 2 ^ 64 → Fits w64 (at + comma + 1)
-      comma-past b = let a = ahead in omega arith
+      pub comma_past : length s < 2 ^ 64 → Fits w64 (at + comma + 1)
+      comma_past b = let a = ahead in omega arith
 
       module _ {l : Span} (f : l ≡ trim_both (between s at (at + comma))) where
         part_is : l ≡ trim_both (take comma (drop at s))
@@ -155,28 +155,28 @@ module _ {s : List ℕ} {start at : ℕ} (k : Passing s start at) where
         step q r =
             let rest : drop (comma + 1) (drop at s) ≡ drop (at + comma + 1) s = let z : at + (comma + 1) ≡ at + comma + 1 = omega arith in rw (drop-drop (comma + 1) at s, z) in
             let more : gap (comma_parts (drop (comma + 1) (drop at s))) ≡ 1 = parts_some (drop (comma + 1) (drop at s)) in
-            k.decides ∙ ap (first_filled at) (parts_comma (drop at s) (sym comma-is ∙ g)) ∙ rw (more, size, rest, r)
+            k.decides ∙ ap (first_filled at) (parts_comma (drop at s) (sym comma_is ∙ g)) ∙ rw (more, size, rest, r)
 
-        pub part-blank : {b : Bool} → b ≡ is_empty l → b ≡ true → Passing s start (at + comma + 1)
-        part-blank i z = record { decides = step l part_is ∙ rw (sym i ∙ z) }
+        pub part_blank : {b : Bool} → b ≡ is_empty l → b ≡ true → Passing s start (at + comma + 1)
+        part_blank i z = record { decides = step l part_is ∙ rw (sym i ∙ z) }
 
         within : at + l.«end» ≤ at + comma
         within = let a = trimmed_inside (take comma (drop at s)) part_is in let z = size in omega arith
 
-        pub part-start-fits : length s < 2 ^ 64 → Fits w64 (at + l.start)
-        part-start-fits b = let r = within in let a = ahead in let o = trimmed_order (take comma (drop at s)) part_is in omega arith
+        pub part_start_fits : length s < 2 ^ 64 → Fits w64 (at + l.start)
+        part_start_fits b = let r = within in let a = ahead in let o = trimmed_order (take comma (drop at s)) part_is in omega arith
 
-        pub part-end-fits : length s < 2 ^ 64 → Fits w64 (at + l.«end»)
-        part-end-fits b = let r = within in let a = ahead in omega arith
+        pub part_end_fits : length s < 2 ^ 64 → Fits w64 (at + l.«end»)
+        part_end_fits b = let r = within in let a = ahead in omega arith
 
-        pub part-argument : {b : Bool} → b ≡ is_empty l → b ≡ false → Argument (at + l.start) (at + l.«end») (at + comma + 1) ≡ next_argument s start
-        part-argument i z = sym (step l part_is ∙ rw (sym i ∙ z))
+        pub part_argument : {b : Bool} → b ≡ is_empty l → b ≡ false → Argument (at + l.start) (at + l.«end») (at + comma + 1) ≡ next_argument s start
+        part_argument i z = sym (step l part_is ∙ rw (sym i ∙ z))
 
       pub part_falls : length s - (at + comma + 1) < length s - at
       part_falls = let a = ahead in omega arith
 
 pub ruleset listing =
-    (passing_starts, passing_ends, last-blank, last-start-fits, last-end-fits, last-argument, comma-fits, comma-inside, comma-past, part-blank, part-start-fits, part-end-fits, part-argument, part_falls, rules)
+    (passing_starts, passing_ends, last_blank, last_start_fits, last_end_fits, last_argument, comma_fits, comma_inside, comma_past, part_blank, part_start_fits, part_end_fits, part_argument, part_falls, rules)
 
 -- The arguments of a text are found one after the other.
 splits_none : (at : ℕ) (ps : List (List ℕ)) → first_filled at ps ≡ NoArgument → filled ps ≡ []
@@ -203,20 +203,20 @@ module _ (s : List ℕ) where
   arguments_from : (fuel at : ℕ) → length s - at < fuel → at < length s → {a e n : ℕ} → next_argument s at ≡ Argument a e n → Splits s at a e n
   unfolding first_filled filled
   arguments_from zero at h l e = absurd (omega arith)
-  arguments_from (suc fuel) at h l {a} {e} {n} f = by-comma (λ m i j g. arguments_from fuel m i j g) (first_where (starts 0x2C) (drop at s)) refl
+  arguments_from (suc fuel) at h l {a} {e} {n} f = by_comma (λ m i j g. arguments_from fuel m i j g) (first_where (starts 0x2C) (drop at s)) refl
     where
       last : comma_parts (drop at s) ≡ drop at s ∷ [] → (b : Bool) → is_empty (trim_both (drop at s)) ≡ b → Splits s at a e n
       last c true q = absurd (let g : NoArgument ≡ Argument a e n = sym (ap (first_filled at) c ∙ rw q) ∙ f in let z : ◌≡◌ {A = ℕ} 0 1 = cc in omega arith)
       last c false q =
           let g : Argument (at + (trim_both (drop at s)).start) (at + (trim_both (drop at s)).«end») (at + length (drop at s) + 0) ≡ Argument a e n = sym (ap (first_filled at) c ∙ rw q) ∙ f in
-          let starts-at : at + (trim_both (drop at s)).start ≡ a = cc in
+          let starts_at_lem : at + (trim_both (drop at s)).start ≡ a = cc in
           let ends_at : at + (trim_both (drop at s)).«end» ≡ e = cc in
           let goes_on : at + length (drop at s) + 0 ≡ n = cc in
           let o = trim_order (drop at s) in
           let w = trim_inside (drop at s) in
           let d = length-drop at s in
           let whole : part_of (drop at s) (trim_both (drop at s)) ≡ between s a e =
-          (let z : e - a ≡ (trim_both (drop at s)).«end» - (trim_both (drop at s)).start = omega arith in rw (z, ← starts-at, drop-drop (trim_both (drop at s)).start at s)) in
+          (let z : e - a ≡ (trim_both (drop at s)).«end» - (trim_both (drop at s)).start = omega arith in rw (z, ← starts_at_lem, drop-drop (trim_both (drop at s)).start at s)) in
           let past_all : length s ≤ n = omega arith in
           let rest : arguments_of (drop n s) ≡ [] = ap arguments_of (drop_of_length-le s past_all) ∙ no_arguments in
           record {
@@ -236,27 +236,27 @@ module _ (s : List ℕ) where
           go : (x : Bool) → is_empty (trim_both (take i (drop at s))) ≡ x → Splits s at a e n
           go true y =
               let g : next_argument s (at + i + 1) ≡ Argument a e n = sym (ap (first_filled at) c ∙ rw (y, parts_some (drop (at + i + 1) s), size)) ∙ f in
-              by-rest g (ltb (at + i + 1) (length s)) refl
+              by_rest g (ltb (at + i + 1) (length s)) refl
             where
-              by-rest : next_argument s (at + i + 1) ≡ Argument a e n → (t : Bool) → ltb (at + i + 1) (length s) ≡ t → Splits s at a e n
-              by-rest g true u =
+              by_rest : next_argument s (at + i + 1) ≡ Argument a e n → (t : Bool) → ltb (at + i + 1) (length s) ≡ t → Splits s at a e n
+              by_rest g true u =
                   let before = ltb-true (at + i + 1) (length s) u in
                   let x = again (at + i + 1) (omega arith) before g in
                   record { order = x.order; ends = x.ends; past = omega (arith, x.past); within = x.within; split = ap filled c ∙ rw y x.split }
-              by-rest g false u =
+              by_rest g false u =
                   let over = ltb-false (at + i + 1) (length s) u in
                   absurd (let v : NoArgument ≡ Argument a e n = sym (ap (λ k. first_filled (at + i + 1) (comma_parts k)) (drop_of_length-le s over) ∙ none_left (at + i + 1)) ∙ g in
                   let z : ◌≡◌ {A = ℕ} 0 1 = cc in omega arith)
           go false y =
               let p : Span = trim_both (take i (drop at s)) in
               let g : Argument (at + p.start) (at + p.«end») (at + i + 1) ≡ Argument a e n = sym (ap (first_filled at) c ∙ rw (y, parts_some (drop (at + i + 1) s), size)) ∙ f in
-              let starts-at : at + p.start ≡ a = cc in
+              let starts_at_lem : at + p.start ≡ a = cc in
               let ends_at : at + p.«end» ≡ e = cc in
               let goes_on : at + i + 1 ≡ n = cc in
               let o = trim_order (take i (drop at s)) in
               let w = trim_inside (take i (drop at s)) in
               let z = size in
-              let text : part_of (take i (drop at s)) p ≡ between s a e = cut_part s at i p.start p.«end» (omega arith) ∙ rw (starts-at, ends_at) in
+              let text : part_of (take i (drop at s)) p ≡ between s a e = cut_part s at i p.start p.«end» (omega arith) ∙ rw (starts_at_lem, ends_at) in
               record {
                 order = omega arith;
                 ends = omega arith;
@@ -265,9 +265,9 @@ module _ (s : List ℕ) where
                 split = ap filled c ∙ rw (y, text, goes_on);
               }
 
-      by-comma : ((m : ℕ) → length s - m < fuel → m < length s → next_argument s m ≡ Argument a e n → Splits s m a e n) → (p : Place) → first_where (starts 0x2C) (drop at s) ≡ p → Splits s at a e n
-      by-comma again Nowhere q = last (none_from 0 (drop at s) q) (is_empty (trim_both (drop at s))) refl
-      by-comma again (At i) q =
+      by_comma : ((m : ℕ) → length s - m < fuel → m < length s → next_argument s m ≡ Argument a e n → Splits s m a e n) → (p : Place) → first_where (starts 0x2C) (drop at s) ≡ p → Splits s at a e n
+      by_comma again Nowhere q = last (none_from 0 (drop at s) q) (is_empty (trim_both (drop at s))) refl
+      by_comma again (At i) q =
           let j = first_inside (starts 0x2C) (drop at s) q in
           let z : at + (i + 1) ≡ at + i + 1 = omega arith in
           comma again i (omega (arith, length-drop at s)) (parts_comma (drop at s) q ∙ ap (λ k. take i (drop at s) ∷ comma_parts k) (drop-drop (i + 1) at s ∙ ap (λ k. drop k s) z))

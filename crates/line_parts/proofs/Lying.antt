@@ -61,8 +61,8 @@ arrow_lies s {l} {r} e = go (first_where (starts_pair 0x2D 0x3E) s) refl e
     go (At i) q f =
         let (a, b) = sides_are (trim_both (take i s)) (i + 2) (trim_both (drop (i + 2) s)) f in
         let room = pair_inside 0x2D 0x3E s q in
-        let left-length = length-take i s in
-        let right-length = length-drop (i + 2) s in (
+        let left_length = length-take i s in
+        let right_length = length-drop (i + 2) s in (
           lies_as a (lies_more (omega arith) (trim_lies (take i s))),
           lies_as b (shift_lies (i + 2) (trim_both (drop (i + 2) s)) (length (drop (i + 2) s)) (length s) (omega arith) (trim_lies (drop (i + 2) s))),
         )
@@ -87,8 +87,8 @@ field_lies s {d} {n} e = go (last_white s) refl e
         let here = last_inside starts_white s q in
         let a : trim_both (take i s) ≡ d = cc in
         let b : shift i (trim_both (drop i s)) ≡ n = cc in
-        let left-length = length-take i s in
-        let right-length = length-drop i s in (
+        let left_length = length-take i s in
+        let right_length = length-drop i s in (
           lies_as a (lies_more (omega arith) (trim_lies (take i s))),
           lies_as b (shift_lies i (trim_both (drop i s)) (length (drop i s)) (length s) (omega arith) (trim_lies (drop i s))),
         )

@@ -38,28 +38,28 @@ module _ (s : List ℕ) {p : Place} (e : p ≡ last_white s) where
     white : i < length s
     white = last_inside starts_white s (sym e ∙ g)
 
-    pub field-inside : i ≤ length s
-    field-inside = let h = white in omega arith
+    pub field_inside : i ≤ length s
+    field_inside = let h = white in omega arith
 
-    pub field-prefix : i ≡ length (take i s)
-    field-prefix = let h = white in omega (arith, length-take i s)
+    pub field_prefix : i ≡ length (take i s)
+    field_prefix = let h = white in omega (arith, length-take i s)
 
     module _ {l r : Span} (f : l ≡ trim_both (take i s)) (h : r ≡ trim_both (between s i (length s))) where
       name : r ≡ trim_both (drop i s)
       name = rw (take_rest s i) at h
 
-      pub field-shift : length s < 2 ^ 64 → Lies (shift i r) largest
-      field-shift b =
+      pub field_shift : length s < 2 ^ 64 → Lies (shift i r) largest
+      field_shift b =
           let a = trimmed_inside (drop i s) name in
           let o = trimmed_order (drop i s) name in
           let d = length-drop i s in
           let c = white in
           record { order = omega arith; within = omega arith }
 
-      pub field-read : {q : Span} → q ≡ shift i r → field.Parts l q ≡ field_of s
-      field-read k = ap (field.Parts l) (k ∙ ap (shift i) name) ∙ ap (λ x. field.Parts x (shift i (trim_both (drop i s)))) f ∙ sym (ap (field_split s) (sym e ∙ g))
+      pub field_read : {q : Span} → q ≡ shift i r → field.Parts l q ≡ field_of s
+      field_read k = ap (field.Parts l) (k ∙ ap (shift i) name) ∙ ap (λ x. field.Parts x (shift i (trim_both (drop i s)))) f ∙ sym (ap (field_split s) (sym e ∙ g))
 
-pub ruleset fielding = (field_none, field-inside, field-prefix, field-shift, field-read, rules)
+pub ruleset fielding = (field_none, field_inside, field_prefix, field_shift, field_read, rules)
 
 -- Owner and name.
 module _ (s : List ℕ) {p : Place} (e : p ≡ last_where (starts 0x2E) s) where
@@ -67,13 +67,13 @@ module _ (s : List ℕ) {p : Place} (e : p ≡ last_where (starts 0x2E) s) where
   name_plain g = sym (ap (qualified_at s) (sym e ∙ g))
 
   module _ {dot : ℕ} (g : p ≡ At dot) where
-    pub name-fits : length s < 2 ^ 64 → Fits w64 (dot + 1)
-    name-fits b = let h = last_inside (starts 0x2E) s (sym e ∙ g) in omega arith
+    pub name_fits : length s < 2 ^ 64 → Fits w64 (dot + 1)
+    name_fits b = let h = last_inside (starts 0x2E) s (sym e ∙ g) in omega arith
 
-    pub name-owned : Owned (span 0 dot) (span (dot + 1) (length s)) ≡ qualified_of s
-    name-owned = sym (ap (qualified_at s) (sym e ∙ g))
+    pub name_owned : Owned (span 0 dot) (span (dot + 1) (length s)) ≡ qualified_of s
+    name_owned = sym (ap (qualified_at s) (sym e ∙ g))
 
-pub ruleset naming = (name_plain, name-fits, name-owned, rules)
+pub ruleset naming = (name_plain, name_fits, name_owned, rules)
 
 -- What follows the `)`.
 module _ (s : List ℕ) {p : Span} (e : p ≡ trim_both s) where
@@ -91,8 +91,8 @@ module _ (s : List ℕ) {p : Place} (e : p ≡ first_where (starts 0x28) s) wher
     at : {x : Place} → q ≡ x → method_signature s ≡ method_signature_at s (At opened) x
     at h = ap (λ x. method_signature_at s x (last_where (starts 0x29) s)) (sym e ∙ g) ∙ ap (method_signature_at s (At opened)) (sym f ∙ h)
 
-    pub signature-no-close : q ≡ Nowhere → NoSignature ≡ method_signature s
-    signature-no-close h = sym (at h)
+    pub signature_no_close : q ≡ Nowhere → NoSignature ≡ method_signature s
+    signature_no_close h = sym (at h)
 
     module _ {close : ℕ} (h : q ≡ At close) where
       opens : opened < length s
@@ -101,33 +101,33 @@ module _ (s : List ℕ) {p : Place} (e : p ≡ first_where (starts 0x28) s) wher
       closes : close < length s
       closes = last_inside (starts 0x29) s (sym f ∙ h)
 
-      pub signature-crossed : close < opened → NoSignature ≡ method_signature s
-      signature-crossed l = sym (at h ∙ rw (lt-ltb close opened l))
+      pub signature_crossed : close < opened → NoSignature ≡ method_signature s
+      signature_crossed l = sym (at h ∙ rw (lt-ltb close opened l))
 
       module _ (l : opened ≤ close) where
-        pub signature-name : opened ≤ length s
-        signature-name = let o = opens in omega arith
+        pub signature_name : opened ≤ length s
+        signature_name = let o = opens in omega arith
 
-        pub signature-prefix : opened ≡ length (take opened s)
-        signature-prefix = let o = opens in omega (arith, length-take opened s)
+        pub signature_prefix : opened ≡ length (take opened s)
+        signature_prefix = let o = opens in omega (arith, length-take opened s)
 
-        pub signature-rest : close + 1 ≤ length s
-        signature-rest = let c = closes in omega arith
+        pub signature_rest : close + 1 ≤ length s
+        signature_rest = let c = closes in omega arith
 
-        pub signature-fits : length s < 2 ^ 64 → Fits w64 (close + 1)
-        signature-fits b = let c = closes in omega arith
+        pub signature_fits : length s < 2 ^ 64 → Fits w64 (close + 1)
+        signature_fits b = let c = closes in omega arith
 
-        pub signature-arguments : length s < 2 ^ 64 → Fits w64 (opened + 1)
-        signature-arguments b = let c = opens in omega arith
+        pub signature_arguments : length s < 2 ^ 64 → Fits w64 (opened + 1)
+        signature_arguments b = let c = opens in omega arith
 
-        pub signature-read : {n : Qualified} {r : TrailingRange} → n ≡ qualified_of (take opened s) → r ≡ lines_after (between s (close + 1) (length s)) →
+        pub signature_read : {n : Qualified} {r : TrailingRange} → n ≡ qualified_of (take opened s) → r ≡ lines_after (between s (close + 1) (length s)) →
             Parts n (span (opened + 1) close) r ≡ method_signature s
-        signature-read {n} {r} a b =
+        signature_read {n} {r} a b =
             ap (λ x. Parts x (span (opened + 1) close) r) a ∙ ap (Parts (qualified_of (take opened s)) (span (opened + 1) close)) (rw (take_rest s (close + 1)) at b)
             ∙ sym (at h ∙ rw (le-ltb close opened l))
 
 pub ruleset signing =
-    (signature_no_open, signature-no-close, signature-crossed, signature-name, signature-prefix, signature-rest, signature-fits, signature-arguments, signature-read, rules)
+    (signature_no_open, signature_no_close, signature_crossed, signature_name, signature_prefix, signature_rest, signature_fits, signature_arguments, signature_read, rules)
 
 -- The first `(` of a part.
 module _ (left : List ℕ) (i start «end» : ℕ) (o : Opens left i) (h : start ≤ «end») (j : start ≤ i) where

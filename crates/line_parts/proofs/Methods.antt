@@ -43,23 +43,23 @@ module _ (by : ℕ) (q : Qualified) (n : NameIn (shift_name by q) largest) where
     both : Lies (shift by o) largest × Lies (shift by a) largest
     both = rw e at n
 
-    pub owner-lies : Lies (shift by o) largest
-    owner-lies = both.0
+    pub owner_lies : Lies (shift by o) largest
+    owner_lies = both.0
 
-    pub owned-lies : Lies (shift by a) largest
-    owned-lies = both.1
+    pub owned_lies : Lies (shift by a) largest
+    owned_lies = both.1
 
-    pub owned-shift : {o₁ a₁ : Span} → o₁ ≡ shift by o → a₁ ≡ shift by a → Owned o₁ a₁ ≡ shift_name by q
-    owned-shift {o₁} f g = ap (Owned o₁) g ∙ ap (λ x. Owned x (shift by a)) f ∙ sym (ap (shift_name by) e)
+    pub owned_shift : {o₁ a₁ : Span} → o₁ ≡ shift by o → a₁ ≡ shift by a → Owned o₁ a₁ ≡ shift_name by q
+    owned_shift {o₁} f g = ap (Owned o₁) g ∙ ap (λ x. Owned x (shift by a)) f ∙ sym (ap (shift_name by) e)
 
   module _ {a : Span} (e : q ≡ Plain a) where
-    pub plain-lies : Lies (shift by a) largest
-    plain-lies = rw e at n
+    pub plain_lies : Lies (shift by a) largest
+    plain_lies = rw e at n
 
-    pub plain-shift : {a₁ : Span} → a₁ ≡ shift by a → Plain a₁ ≡ shift_name by q
-    plain-shift f = ap Plain f ∙ sym (ap (shift_name by) e)
+    pub plain_shift : {a₁ : Span} → a₁ ≡ shift by a → Plain a₁ ≡ shift_name by q
+    plain_shift f = ap Plain f ∙ sym (ap (shift_name by) e)
 
-pub ruleset shifting = (owner-lies, owned-lies, owned-shift, plain-lies, plain-shift, rules)
+pub ruleset shifting = (owner_lies, owned_lies, owned_shift, plain_lies, plain_shift, rules)
 
 -- Ranges.
 module _ (returned : Span) (named : Qualified) (arguments : Span) (raw : LineRange) (lines : TrailingRange) where
@@ -85,18 +85,18 @@ module _ (left : List ℕ) (rest : ℕ) (h : rest ≤ length left) {p : Place} (
     reach : rest + white < length left
     reach = let i = first_inside starts_white (drop rest left) (sym white_is ∙ g) in omega (arith, length-drop rest left)
 
-    pub base-fits : length left < 2 ^ 64 → Fits w64 (rest + white)
-    base-fits b = let r = reach in omega arith
+    pub base_fits : length left < 2 ^ 64 → Fits w64 (rest + white)
+    base_fits b = let r = reach in omega arith
 
-    pub base-inside : rest + white ≤ length left
-    base-inside = let r = reach in omega arith
+    pub base_inside : rest + white ≤ length left
+    base_inside = let r = reach in omega arith
 
     module _ {part : Span} (f : part ≡ trim_both (between left (rest + white) (length left))) where
       part_is : part ≡ trim_both (drop (rest + white) left)
       part_is = rw (take_rest left (rest + white)) at f
 
-      pub end-inside : rest + white + part.«end» ≤ length left
-      end-inside =
+      pub end_inside : rest + white + part.«end» ≤ length left
+      end_inside =
           let a = trimmed_inside (drop (rest + white) left) part_is in
           let b = length-drop (rest + white) left in
           let r = reach in
@@ -106,20 +106,20 @@ module _ (left : List ℕ) (rest : ℕ) (h : rest ≤ length left) {p : Place} (
       order = trimmed_order (drop (rest + white) left) part_is
 
       pub start_fits : length left < 2 ^ 64 → Fits w64 (rest + white + part.start)
-      start_fits b = let w = end-inside in let o = order in omega arith
+      start_fits b = let w = end_inside in let o = order in omega arith
 
       pub end_fits : length left < 2 ^ 64 → Fits w64 (rest + white + part.«end»)
-      end_fits b = let w = end-inside in omega arith
+      end_fits b = let w = end_inside in omega arith
 
-      pub start-before : rest + white + part.start ≤ rest + white + part.«end»
-      start-before = let o = order in omega arith
+      pub start_before : rest + white + part.start ≤ rest + white + part.«end»
+      start_before = let o = order in omega arith
 
       module _ {t : Signature} (s : t ≡ method_signature (between left (rest + white + part.start) (rest + white + part.«end»))) where
-        text-is : between left (rest + white + part.start) (rest + white + part.«end») ≡ part_of (drop (rest + white) left) part
-        text-is = let z : rest + white + part.«end» - (rest + white + part.start) ≡ part.«end» - part.start = omega arith in rw (z, drop-drop part.start (rest + white) left)
+        text_is : between left (rest + white + part.start) (rest + white + part.«end») ≡ part_of (drop (rest + white) left) part
+        text_is = let z : rest + white + part.«end» - (rest + white + part.start) ≡ part.«end» - part.start = omega arith in rw (z, drop-drop part.start (rest + white) left)
 
         signature_is : t ≡ method_signature (part_of (drop (rest + white) left) part)
-        signature_is = s ∙ ap method_signature text-is
+        signature_is = s ∙ ap method_signature text_is
 
         whole : (raw : LineRange) → method_from left rest raw ≡ with_signature (span rest (rest + white)) (rest + white + part.start) raw t
         whole raw =
@@ -127,8 +127,8 @@ module _ (left : List ℕ) (rest : ℕ) (h : rest ≤ length left) {p : Place} (
             ∙ ap (λ x. with_signature (span rest (rest + white)) (rest + white + x.start) raw (method_signature (part_of (drop (rest + white) left) x))) (sym part_is)
             ∙ ap (with_signature (span rest (rest + white)) (rest + white + part.start) raw) (sym signature_is)
 
-        pub method-no-signature : (raw : LineRange) → t ≡ signature.NoSignature → NoMethod ≡ method_from left rest raw
-        method-no-signature raw k = sym (whole raw ∙ ap (with_signature (span rest (rest + white)) (rest + white + part.start) raw) k)
+        pub method_no_signature : (raw : LineRange) → t ≡ signature.NoSignature → NoMethod ≡ method_from left rest raw
+        method_no_signature raw k = sym (whole raw ∙ ap (with_signature (span rest (rest + white)) (rest + white + part.start) raw) k)
 
         module _ {named : Qualified} {arguments : Span} {lines : TrailingRange} (k : t ≡ signature.Parts named arguments lines) where
           size : length (part_of (drop (rest + white) left) part) ≡ part.«end» - part.start
@@ -137,29 +137,29 @@ module _ (left : List ℕ) (rest : ℕ) (h : rest ≤ length left) {p : Place} (
           lie : NameIn named (length (part_of (drop (rest + white) left) part)) × Lies arguments (length (part_of (drop (rest + white) left) part))
           lie = signature_lies (part_of (drop (rest + white) left) part) (sym signature_is ∙ k)
 
-          pub method-name-lies : length left < 2 ^ 64 → NameIn (shift_name (rest + white + part.start) named) largest
-          method-name-lies b =
-              let z = size in let w = end-inside in let o = order in
+          pub method_name_lies : length left < 2 ^ 64 → NameIn (shift_name (rest + white + part.start) named) largest
+          method_name_lies b =
+              let z = size in let w = end_inside in let o = order in
               shift_name_lies (rest + white + part.start) named (length (part_of (drop (rest + white) left) part)) largest (omega arith) lie.0
 
-          pub method-arguments-lie : length left < 2 ^ 64 → Lies (shift (rest + white + part.start) arguments) largest
-          method-arguments-lie b =
-              let z = size in let w = end-inside in let o = order in
+          pub method_arguments_lie : length left < 2 ^ 64 → Lies (shift (rest + white + part.start) arguments) largest
+          method_arguments_lie b =
+              let z = size in let w = end_inside in let o = order in
               shift_lies (rest + white + part.start) arguments (length (part_of (drop (rest + white) left) part)) largest (omega arith) lie.1
 
-          pub method-read : (raw : LineRange) {n : Qualified} {a : Span} {m : Method} → n ≡ shift_name (rest + white + part.start) named → a ≡ shift (rest + white + part.start) arguments →
+          pub method_read : (raw : LineRange) {n : Qualified} {a : Span} {m : Method} → n ≡ shift_name (rest + white + part.start) named → a ≡ shift (rest + white + part.start) arguments →
               m ≡ settled_of (span rest (rest + white)) n a raw lines → Parts m ≡ method_from left rest raw
-          method-read raw {n} {a} c d j =
+          method_read raw {n} {a} c d j =
               ap Parts
               (j ∙ ap (λ x. settled_of (span rest (rest + white)) x a raw lines) c
               ∙ ap (λ x. settled_of (span rest (rest + white)) (shift_name (rest + white + part.start) named) x raw lines) d)
               ∙ sym (whole raw ∙ ap (with_signature (span rest (rest + white)) (rest + white + part.start) raw) k)
 
 pub ruleset typing =
-    (method_no_white, base-fits, base-inside, start_fits, end_fits, method-no-signature, method-name-lies, method-arguments-lie, method-read, rules)
+    (method_no_white, base_fits, base_inside, start_fits, end_fits, method_no_signature, method_name_lies, method_arguments_lie, method_read, rules)
 
 -- where the signature stands; apart from the others, beside which `search` breaks off
-pub ruleset signature_part = (start-before, end-inside)
+pub ruleset signature_part = (start_before, end_inside)
 
 -- The raw range.
 module _ (left : List ℕ) {t : LeadingRange} (e : t ≡ leading_range left) where
@@ -204,15 +204,15 @@ same_parts : {a b : Method} → Parts a ≡ Parts b → a ≡ b
 same_parts e = cc
 
 from_lies : (left : List ℕ) (rest : ℕ) (raw : LineRange) {m : Method} → rest ≤ length left → method_from left rest raw ≡ Parts m → MethodIn m (length left)
-from_lies left rest raw {m} h e = by-white (first_white (drop rest left)) refl e
+from_lies left rest raw {m} h e = by_white (first_white (drop rest left)) refl e
   where
-    by-signature : (white : ℕ) → rest + white < length left → (t : Signature) → method_signature (part_of (drop (rest + white) left) (trim_both (drop (rest + white) left))) ≡ t →
+    by_signature : (white : ℕ) → rest + white < length left → (t : Signature) → method_signature (part_of (drop (rest + white) left) (trim_both (drop (rest + white) left))) ≡ t →
         with_signature (span rest (rest + white)) (rest + white + (trim_both (drop (rest + white) left)).start) raw t ≡ Parts m → MethodIn m (length left)
-    by-signature white i signature.NoSignature q f = absurd (let z : ◌≡◌ {A = ℕ} 0 1 = cc in omega arith)
-    by-signature white i (signature.Parts named arguments lines) q f =
+    by_signature white i signature.NoSignature q f = absurd (let z : ◌≡◌ {A = ℕ} 0 1 = cc in omega arith)
+    by_signature white i (signature.Parts named arguments lines) q f =
         let after : List ℕ = drop (rest + white) left in
         let part : Span = trim_both after in
-        let in-part = signature_lies (part_of after part) q in
+        let in_part = signature_lies (part_of after part) q in
         let size = part_length after part (trim_lies after) in
         let ends = trim_inside after in
         let order = trim_order after in
@@ -221,13 +221,13 @@ from_lies left rest raw {m} h e = by-white (first_white (drop rest left)) refl e
         let fits : by + length (part_of after part) ≤ length left = omega arith in
         method_as (length left) (same_parts f)
         (settled_lies (length left) (span rest (rest + white)) (shift_name by named) (shift by arguments) raw lines (record { order = omega arith; within = omega arith })
-        (shift_name_lies by named (length (part_of after part)) (length left) fits in-part.0) (shift_lies by arguments (length (part_of after part)) (length left) fits in-part.1))
+        (shift_name_lies by named (length (part_of after part)) (length left) fits in_part.0) (shift_lies by arguments (length (part_of after part)) (length left) fits in_part.1))
 
-    by-white : (p : Place) → first_white (drop rest left) ≡ p → type_at left rest raw p ≡ Parts m → MethodIn m (length left)
-    by-white Nowhere q f = absurd (let z : ◌≡◌ {A = ℕ} 0 1 = cc in omega arith)
-    by-white (At white) q f =
+    by_white : (p : Place) → first_white (drop rest left) ≡ p → type_at left rest raw p ≡ Parts m → MethodIn m (length left)
+    by_white Nowhere q f = absurd (let z : ◌≡◌ {A = ℕ} 0 1 = cc in omega arith)
+    by_white (At white) q f =
         let i = first_inside starts_white (drop rest left) q in
-        by-signature white (omega (arith, length-drop rest left)) (method_signature (part_of (drop (rest + white) left) (trim_both (drop (rest + white) left)))) refl f
+        by_signature white (omega (arith, length-drop rest left)) (method_signature (part_of (drop (rest + white) left) (trim_both (drop (rest + white) left)))) refl f
 
 pub method_lies : (left : List ℕ) {m : Method} → method_of left ≡ Parts m → MethodIn m (length left)
 method_lies left {m} e = go (leading_range left) refl e

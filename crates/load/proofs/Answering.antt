@@ -48,11 +48,11 @@ module _ (s : List ℕ) (ls : List (List ℕ)) (nc nm np : ℕ) {c m : List (Lis
 
   module _ (h : length s ≤ most_text) {t : Check} (e : t ≡ check_of s) where
     module _ {at k : ℕ} (f : t ≡ Broken at k) where
-      pub loads-not-utf8 : Cleared nc nm np c m p → Leaving (NotUtf8 at k) s ls nc nm np c m p
-      loads-not-utf8 z = refused_all (sym (short_text s ls (lent nc nm np) h ∙ ap (λ x. checked x ls (counting (lent nc nm np))) (sym e ∙ f))) refl z
+      pub loads_not_utf8 : Cleared nc nm np c m p → Leaving (NotUtf8 at k) s ls nc nm np c m p
+      loads_not_utf8 z = refused_all (sym (short_text s ls (lent nc nm np) h ∙ ap (λ x. checked x ls (counting (lent nc nm np))) (sym e ∙ f))) refl z
 
-    pub loads-lines : t ≡ Valid → {r : Load} → Left r ls nc nm np c m p → Leaving r s ls nc nm np c m p
-    loads-lines f {r} k =
+    pub loads_lines : t ≡ Valid → {r : Load} → Left r ls nc nm np c m p → Leaving r s ls nc nm np c m p
+    loads_lines f {r} k =
         let is : r ≡ answer_of s ls (lent nc nm np) = k.answer ∙ sym (short_text s ls (lent nc nm np) h ∙ ap (λ x. checked x ls (counting (lent nc nm np))) (sym e ∙ f)) in
         record {
           answer = is;
@@ -76,9 +76,9 @@ pub loads_rest : (s : List ℕ) (start nc nm np : ℕ) {c m : List (List ℕ)} {
     Left r (lines (between s start (length s))) nc nm np c m p → Leaving r s (lines (drop start s)) nc nm np c m p
 loads_rest s start nc nm np {c} {m} {p} h e f {r} k =
     let k₁ : Left r (lines (drop start s)) nc nm np c m p = rw (take_rest s start) at k in
-    loads-lines s (lines (drop start s)) nc nm np h e f k₁
+    loads_lines s (lines (drop start s)) nc nm np h e f k₁
 
-pub ruleset answering = (loads_too_long, loads-not-utf8, loads_rest, place_fits, length_fits, rest_short, rules)
+pub ruleset answering = (loads_too_long, loads_not_utf8, loads_rest, place_fits, length_fits, rest_short, rules)
 
 -- `parse`
 module _ (s : List ℕ) {start : ℕ} (e : start ≡ after_marks s) where

@@ -53,24 +53,24 @@ module _ (c m : ℕ) {s : Scan} where
     sound : refused_of s c m ≡ missing f c m
     sound = ap (λ x. refused_of x c m) e
 
-    pub refused-fits : Counted s → Fits w32 (f.field + f.method)
-    refused-fits h = let k : f.field + f.method ≤ most_text = rw e at h in omega arith
+    pub refused_fits : Counted s → Fits w32 (f.field + f.method)
+    refused_fits h = let k : f.field + f.method ≤ most_text = rw e at h in omega arith
 
     pub refused_none : f.class ≡ 0 → NoClasses ≡ refused_of s c m
     refused_none z = sym (sound ∙ rw (eq-eqb f.class 0 z))
 
     module _ (z : f.class ≡ 0 → ⊥) where
-      pub refused-classes : c < f.class → FewClassRows ≡ refused_of s c m
-      refused-classes h = sym (sound ∙ rw (ne_eqb f.class 0 z, lt-ltb c f.class h))
+      pub refused_classes : c < f.class → FewClassRows ≡ refused_of s c m
+      refused_classes h = sym (sound ∙ rw (ne_eqb f.class 0 z, lt-ltb c f.class h))
 
       module _ (h : f.class ≤ c) where
-        pub refused-members : m < f.field + f.method → FewMemberRows ≡ refused_of s c m
-        refused-members i = sym (sound ∙ rw (ne_eqb f.class 0 z, le-ltb c f.class h, lt-ltb m (f.field + f.method) i))
+        pub refused_members : m < f.field + f.method → FewMemberRows ≡ refused_of s c m
+        refused_members i = sym (sound ∙ rw (ne_eqb f.class 0 z, le-ltb c f.class h, lt-ltb m (f.field + f.method) i))
 
-        pub refused-pool : f.field + f.method ≤ m → ShortPool ≡ refused_of s c m
-        refused-pool i = sym (sound ∙ rw (ne_eqb f.class 0 z, le-ltb c f.class h, le-ltb m (f.field + f.method) i))
+        pub refused_pool : f.field + f.method ≤ m → ShortPool ≡ refused_of s c m
+        refused_pool i = sym (sound ∙ rw (ne_eqb f.class 0 z, le-ltb c f.class h, le-ltb m (f.field + f.method) i))
 
-pub ruleset refusing = (refused_faulty, refused-fits, refused_none, refused-classes, refused-members, refused-pool, rules)
+pub ruleset refusing = (refused_faulty, refused_fits, refused_none, refused_classes, refused_members, refused_pool, rules)
 
 module _ (f : Fates) (names : ℕ) where
   pub accepted_none : f.class ≡ 0 → NoClasses ≡ accepted_of f names

@@ -72,8 +72,8 @@ module _ {nc nm np : ℕ} {c m : List (List ℕ)} {p : List ℕ} (k : Cleared nc
         ∙ ap (λ n. lines_load ls (lent (min nc most_classes) n (length (take w p)))) (capped zero_member nm most_members m k.members b)
         ∙ ap (λ n. lines_load ls (lent (min nc most_classes) (min nm most_members) n)) (capped 0 np most_pool p k.pool d)
 
-    pub left-loaded : t ≡ true → Left r ls nc nm np (c₁ ++ drop x c) (m₁ ++ drop y m) (p₁ ++ drop w p)
-    left-loaded f =
+    pub left_loaded : t ≡ true → Left r ls nc nm np (c₁ ++ drop x c) (m₁ ++ drop y m) (p₁ ++ drop w p)
+    left_loaded f =
         let yes : is_loaded r ≡ true = sym e ∙ f in
         let full = i.full yes in
         let lc : length c ≡ nc = ap length k.classes ∙ length-replicate nc zero_class in
@@ -89,8 +89,8 @@ module _ {nc nm np : ℕ} {c m : List (List ℕ)} {p : List ℕ} (k : Cleared nc
               ∙ sym (ap (λ q. pick q (pool_of ls ++ replicate (np - length (pool_of ls)) 0) (replicate np 0)) yes);
         }
 
-    pub left-refused : t ≡ false → {kc km kp : ℕ} → kc ≡ nc → km ≡ nm → kp ≡ np → {c₂ m₂ : List (List ℕ)} {p₂ : List ℕ} → Cleared kc km kp c₂ m₂ p₂ → Left r ls nc nm np c₂ m₂ p₂
-    left-refused f lc lm lp z =
+    pub left_refused : t ≡ false → {kc km kp : ℕ} → kc ≡ nc → km ≡ nm → kp ≡ np → {c₂ m₂ : List (List ℕ)} {p₂ : List ℕ} → Cleared kc km kp c₂ m₂ p₂ → Left r ls nc nm np c₂ m₂ p₂
+    left_refused f lc lm lp z =
         let no : is_loaded r ≡ false = sym e ∙ f in
         record {
           answer = answers;
@@ -99,4 +99,4 @@ module _ {nc nm np : ℕ} {c m : List (List ℕ)} {p : List ℕ} (k : Cleared nc
           pool = z.pool ∙ ap (λ n. replicate n 0) lp ∙ sym (ap (λ q. pick q (pool_of ls ++ replicate (np - length (pool_of ls)) 0) (replicate np 0)) no);
         }
 
-pub ruleset leaving = (lines_limits, class_part, member_part, pool_part, left-loaded, left-refused, prefix_whole, rules)
+pub ruleset leaving = (lines_limits, class_part, member_part, pool_part, left_loaded, left_refused, prefix_whole, rules)

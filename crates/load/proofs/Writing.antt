@@ -61,11 +61,11 @@ module _ (ls : List (List ℕ)) (c m : List (List ℕ)) (p : List ℕ) (c₁ m�
   }
 
   module _ (k : Classes) (c₂ : List (List ℕ)) (p₂ : List ℕ) (w : ClassesBy k ls c p c₂ p₂) {s : Scan} (e : s ≡ scan_of ls) where
-    pub into-few-rows : k ≡ classes.FewRows → {r : Load} → r ≡ refused_of s (length c) (length m) → IntoBy r ls c m p c₁ m₁ p₁
-    into-few-rows f g = lacking (inl (rw f at w)) (g ∙ ap (λ x. refused_of x (length c) (length m)) e)
+    pub into_few_rows : k ≡ classes.FewRows → {r : Load} → r ≡ refused_of s (length c) (length m) → IntoBy r ls c m p c₁ m₁ p₁
+    into_few_rows f g = lacking (inl (rw f at w)) (g ∙ ap (λ x. refused_of x (length c) (length m)) e)
 
-    pub into-short-pool : k ≡ classes.ShortPool → {r : Load} → r ≡ refused_of s (length c) (length m) → IntoBy r ls c m p c₁ m₁ p₁
-    into-short-pool f g =
+    pub into_short_pool : k ≡ classes.ShortPool → {r : Load} → r ≡ refused_of s (length c) (length m) → IntoBy r ls c m p c₁ m₁ p₁
+    into_short_pool f g =
         let h : length p < length (class_pool (classes_of ls)) = rw f at w in
         lacking (inr (inr (omega (arith, length-append (class_pool (classes_of ls)) (entry_pool (entries_of ls)))))) (g ∙ ap (λ x. refused_of x (length c) (length m)) e)
 
@@ -103,24 +103,24 @@ module _ (ls : List (List ℕ)) (c : List (List ℕ)) (p : List ℕ) (k : Classe
   into_pool h = let n = written_length at_them.texts in omega arith
 
   module _ (m m₁ : List (List ℕ)) (p₂ : List ℕ) (d : Filled) (v : FilledBy d ls (read_back (take count c₁) p₁) q m p₁ m₁ p₂) where
-    over-told : Over (members ls (read_back (take count c₁) p₁)) q m p₁ → (length c < length (classes_of ls)) ⊎ ((length m < length (entries_of ls)) ⊎ (length p < length (pool_of ls)))
-    over-told (inl h) = inr (inl (rw into_back at h))
-    over-told (inr h) =
+    over_told : Over (members ls (read_back (take count c₁) p₁)) q m p₁ → (length c < length (classes_of ls)) ⊎ ((length m < length (entries_of ls)) ⊎ (length p < length (pool_of ls)))
+    over_told (inl h) = inr (inl (rw into_back at h))
+    over_told (inr h) =
         let h₁ : length p₁ < q + length (entry_pool (entries_of ls)) = rw into_back at h in
         let n = written_length at_them.texts in
         let past = at_them.texts.past in
         inr (inr (omega (arith, length-append (class_pool (classes_of ls)) (entry_pool (entries_of ls)))))
 
-    pub into-short : {s : Scan} → d ≡ filled.Short s → {r : Load} → r ≡ refused_of s (length c) (length m) → IntoBy r ls c m p c₁ m₁ p₂
-    into-short {s} f g =
+    pub into_short : {s : Scan} → d ≡ filled.Short s → {r : Load} → r ≡ refused_of s (length c) (length m) → IntoBy r ls c m p c₁ m₁ p₂
+    into_short {s} f g =
         let cut : CutShort s ls (read_back (take count c₁) p₁) q m p₁ = rw f at v in
-        lacking ls c m p c₁ m₁ p₂ (over-told cut.over) (g ∙ ap (λ x. refused_of x (length c) (length m)) cut.scanned)
+        lacking ls c m p c₁ m₁ p₂ (over_told cut.over) (g ∙ ap (λ x. refused_of x (length c) (length m)) cut.scanned)
 
-    pub into-short-scan : {s : Scan} → d ≡ filled.Short s → s ≡ scan_of ls
-    into-short-scan {s} f = let cut : CutShort s ls (read_back (take count c₁) p₁) q m p₁ = rw f at v in cut.scanned
+    pub into_short_scan : {s : Scan} → d ≡ filled.Short s → s ≡ scan_of ls
+    into_short_scan {s} f = let cut : CutShort s ls (read_back (take count c₁) p₁) q m p₁ = rw f at v in cut.scanned
 
-    pub into-faulty : {number line : ℕ} → d ≡ filled.Faulty number line → IntoBy (loads.Faulty number line) ls c m p c₁ m₁ p₂
-    into-faulty {number} {line} f =
+    pub into_faulty : {number line : ℕ} → d ≡ filled.Faulty number line → IntoBy (loads.Faulty number line) ls c m p c₁ m₁ p₂
+    into_faulty {number} {line} f =
         let faulty : scan_of ls ≡ scan.Faulty number line = rw f at v in
         record { answer = sym (ap (λ o. scanned o ls (lent (length c) (length m) (length p))) faulty); full = λ t. clash t refl }
 
@@ -134,11 +134,11 @@ module _ (ls : List (List ℕ)) (c : List (List ℕ)) (p : List ℕ) (k : Classe
       texts : Written names p 0 (pool_of ls) p₂
       texts = wrote_then (Done names) (entry_pool (entries_of ls)) p₂ at_them.texts held.texts
 
-      pub into-names : length p ≤ most_pool → names ≤ most_pool
-      into-names h = omega (arith, texts.past, texts.room)
+      pub into_names : length p ≤ most_pool → names ≤ most_pool
+      into_names h = omega (arith, texts.past, texts.room)
 
-      pub into-all : {r : Load} → r ≡ accepted_of f names → IntoBy r ls c m p c₁ m₁ p₂
-      into-all h =
+      pub into_all : {r : Load} → r ≡ accepted_of f names → IntoBy r ls c m p c₁ m₁ p₂
+      into_all h =
           let starts : q ≡ length (class_pool (classes_of ls)) = at_them.texts.past ∙ zero-add (length (class_pool (classes_of ls))) in
           let named : names ≡ length (pool_of ls) = texts.past ∙ zero-add (length (pool_of ls)) in
           let n = rows_length entry_row entry_text (length (class_pool (classes_of ls))) (entries_of ls) in
@@ -155,7 +155,7 @@ module _ (ls : List (List ℕ)) (c : List (List ℕ)) (p : List ℕ) (k : Classe
           }
 
 pub ruleset into =
-    (into-few-rows, into-short-pool, into_count, into_below, into_few, into_back, into_pool, into-short, into-short-scan, into-faulty, into-names, into-all, scan_counted, prefix_whole, rules)
+    (into_few_rows, into_short_pool, into_count, into_below, into_few, into_back, into_pool, into_short, into_short_scan, into_faulty, into_names, into_all, scan_counted, prefix_whole, rules)
 
 -- Few classes: no table of that size, and no index.
 pub few_indexed : {rows : List (List ℕ)} {pool : List ℕ} {at : ℕ} → Below rows pool at → Indexed rows pool (replicate 1 0) at

@@ -10,7 +10,7 @@ use Rattle.table_pool.specs.declared.write.Wrote.TheVariants as wrote
 use Rattle.table_pool.specs.Names.{class_descriptor}
 use Rattle.table_rows.specs.Classes.{Pair}
 use Rattle.table_pool.specs.Inner.Wrote.{TwoAt, TwoBy}
-use Rattle.table_pool.proofs.Writes.{two_no_first, two-no-second, two-done, two_told, two_none}
+use Rattle.table_pool.proofs.Writes.{two_no_first, two_no_second, two_done, two_told, two_none}
 use Rattle.table_rows.specs.declared.rows.Text.{Text}
 use Rattle.table_rows.specs.Rows.{text, pack_class, most_pool}
 use Rattle.load_rule.specs.Classes.{class_text, class_row}
@@ -21,7 +21,7 @@ use Rattle.load_classes.specs.Inner.Names.{class_named}
 use Rattle.load_classes.specs.Inner.Entries.{EnteredClass}
 
 -- Two descriptors, one after the other.
-pub ruleset pairing = (two_no_first, two-no-second, two-done, rules)
+pub ruleset pairing = (two_no_first, two_no_second, two_done, rules)
 
 -- The row.
 module _ (at m q : ℕ) {raw display : Text} (a : raw ≡ text at (m - at)) (b : display ≡ text m (q - m)) where
@@ -46,20 +46,20 @@ module _ (d : List ℕ) (at : ℕ) (l : List ℕ) (ns : ClassNames) (r : TwoText
     there : TwoAt m q d at (class_named l ns).raw (class_named l ns).display d₁
     there = two_told r d at (class_named l ns).raw (class_named l ns).display d₁ w e
 
-    pub enter-first : at ≤ m
-    enter-first = let s = there.second in omega arith
+    pub enter_first : at ≤ m
+    enter_first = let s = there.second in omega arith
 
-    pub enter-second : m ≤ q
-    enter-second = let a = there.next in omega arith
+    pub enter_second : m ≤ q
+    enter_second = let a = there.next in omega arith
 
-    pub enter-inside : length d ≤ most_pool → q ≤ most_pool
-    enter-inside h = let p = there.written.past in let o = there.written.room in omega arith
+    pub enter_inside : length d ≤ most_pool → q ≤ most_pool
+    enter_inside h = let p = there.written.past in let o = there.written.room in omega arith
 
-    pub enter-done : {row : List ℕ} → row ≡ pack_class (record { raw = text at (m - at); display = text m (q - m) }) →
+    pub enter_done : {row : List ℕ} → row ≡ pack_class (record { raw = text at (m - at); display = text m (q - m) }) →
         (c : List (List ℕ)) (count : ℕ) → EnteredClass q (class_named l ns) count at c d (set c count row) d₁
-    enter-done f c count = record {
+    enter_done f c count = record {
       written = there.written;
       row = ap (set c count) (f ∙ row_same at m q (class_named l ns) there.second there.next);
     }
 
-pub ruleset entering = (enter_none, enter-first, enter-second, enter-inside, enter-done, rules)
+pub ruleset entering = (enter_none, enter_first, enter_second, enter_inside, enter_done, rules)

@@ -27,7 +27,7 @@ use Rattle.line_parts.specs.Fields.{field_of}
 use Rattle.line_parts.specs.Methods.{method_of}
 use Rattle.line.specs.declared.line.Line.TheVariants.{Blank}
 use Rattle.line.specs.Kinds.{comment_at, class_at, method_by, field_by, by_side, member_by, member_at, line_of}
-use Rattle.line.proofs.Kinding.{line_blank, line-comment}
+use Rattle.line.proofs.Kinding.{line_blank, line_comment}
 use Rattle.load_rule.specs.Classes.{class_in}
 use Rattle.load_classes.specs.Inner.Names.{opens_no_class}
 
@@ -86,7 +86,7 @@ hash_line t = go (is_empty (trim_both (0x23 ∷ t))) refl
     go true e = ap (class_in (0x23 ∷ t)) (sym (line_blank (0x23 ∷ t) refl (eqb-true (trim_both (0x23 ∷ t)).start (trim_both (0x23 ∷ t)).«end» e)))
     go false e =
         ap (class_in (0x23 ∷ t))
-        (sym (line-comment (0x23 ∷ t) refl (eqb-false (trim_both (0x23 ∷ t)).start (trim_both (0x23 ∷ t)).«end» e) (ap (λ k. get_or (0x23 ∷ t) k 0) (hash_first t)) refl))
+        (sym (line_comment (0x23 ∷ t) refl (eqb-false (trim_both (0x23 ∷ t)).start (trim_both (0x23 ∷ t)).«end» e) (ap (λ k. get_or (0x23 ∷ t) k 0) (hash_first t)) refl))
 
 pub told_no_class : (l : List ℕ) {r : Bool} → r ≡ starts_white l → r ≡ true → class_in l (line_of l) ≡ []
 told_no_class l e f = white_no_class l (sym e ∙ f)
@@ -97,17 +97,17 @@ module _ (b : ℕ) where
   opens_space e = rw (eq-eqb b 0x20 e)
 
   module _ (n : b ≡ 0x20 → ⊥) where
-    pub opens-hash : b ≡ 0x23 → true ≡ opens_no_class b
-    opens-hash e = rw (ne_eqb b 0x20 n, eq-eqb b 0x23 e)
+    pub opens_hash : b ≡ 0x23 → true ≡ opens_no_class b
+    opens_hash e = rw (ne_eqb b 0x20 n, eq-eqb b 0x23 e)
 
     module _ (m : b ≡ 0x23 → ⊥) where
-      pub opens-lf : b ≡ 0x0A → true ≡ opens_no_class b
-      opens-lf e = rw (ne_eqb b 0x20 n, ne_eqb b 0x23 m, eq-eqb b 0x0A e)
+      pub opens_lf : b ≡ 0x0A → true ≡ opens_no_class b
+      opens_lf e = rw (ne_eqb b 0x20 n, ne_eqb b 0x23 m, eq-eqb b 0x0A e)
 
-      pub opens-cr : (b ≡ 0x0A → ⊥) → eqb b 0x0D ≡ opens_no_class b
-      opens-cr e = rw (ne_eqb b 0x20 n, ne_eqb b 0x23 m, ne_eqb b 0x0A e)
+      pub opens_cr : (b ≡ 0x0A → ⊥) → eqb b 0x0D ≡ opens_no_class b
+      opens_cr e = rw (ne_eqb b 0x20 n, ne_eqb b 0x23 m, ne_eqb b 0x0A e)
 
-pub ruleset first_bytes = (opens_space, opens-hash, opens-lf, opens-cr, rules)
+pub ruleset first_bytes = (opens_space, opens_hash, opens_lf, opens_cr, rules)
 
 byte_no_class : (b : ℕ) (t : List ℕ) → opens_no_class b ≡ true → class_in (b ∷ t) (line_of (b ∷ t)) ≡ []
 byte_no_class b t o = go (eqb b 0x20) refl (eqb b 0x23) refl (eqb b 0x0A) refl o

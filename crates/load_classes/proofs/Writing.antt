@@ -28,7 +28,7 @@ use Rattle.table_pool.specs.Inner.Wrote.{Written}
 use Rattle.table_pool.proofs.Writes.{written_length, wrote_then, wrote_as}
 use Rattle.tables.specs.Back.{read_back}
 use Rattle.load_raw_types.specs.Inner.Behind.{Below}
-use Rattle.load_raw_types.proofs.Indexing.{below_none, below-class, read-back-class}
+use Rattle.load_raw_types.proofs.Indexing.{below_none, below_class, read_back_class}
 use Rattle.load_rule.specs.Classes.{class_in, classes_of, class_text, class_pool, class_row, class_rows}
 use Rattle.ground.proofs.Joins.{join_more, join_append}
 use Rattle.load_rule.proofs.Appended.{rows_length, rows_more}
@@ -74,8 +74,8 @@ module _ {done : List Pair} {c : List (List ℕ)} {p : List ℕ} {count at : ℕ
     abbrev wider : List (List ℕ)
     wider = class_rows 0 done ++ (class_row at k ∷ [])
 
-    all-rows : wider ≡ class_rows 0 (done ++ (k ∷ []))
-    all-rows = ap (λ n. class_rows 0 done ++ (class_row n k ∷ [])) w.texts.past ∙ sym (rows_more class_row class_text 0 done k)
+    all_rows : wider ≡ class_rows 0 (done ++ (k ∷ []))
+    all_rows = ap (λ n. class_rows 0 done ++ (class_row n k ∷ [])) w.texts.past ∙ sym (rows_more class_row class_text 0 done k)
 
     one_more : count < length c → Rows (done ++ (k ∷ [])) c p (count + 1) q c₂ p₂
     one_more h =
@@ -86,16 +86,16 @@ module _ {done : List Pair} {c : List (List ℕ)} {p : List ℕ} {count at : ℕ
         e.row ∙ ap (λ x. set x count (class_row at k)) w.rows ∙ ap (λ x. set (put c 0 (class_rows 0 done)) x (class_row at k)) m
         ∙ put_set c 0 (class_rows 0 done) (class_row at k) (omega arith) in
         let wide : length wider ≡ length (class_rows 0 done) + 1 = length-append (class_rows 0 done) (class_row at k ∷ []) in
-        let there : Below wider p₂ q = below-class k.raw k.display e.written w.below in
-        let back : read_back wider p₂ ≡ done ++ (k ∷ []) = read-back-class k.raw k.display e.written w.below ∙ ap (λ x. x ++ (k ∷ [])) w.back in
+        let there : Below wider p₂ q = below_class k.raw k.display e.written w.below in
+        let back : read_back wider p₂ ≡ done ++ (k ∷ []) = read_back_class k.raw k.display e.written w.below ∙ ap (λ x. x ++ (k ∷ [])) w.back in
         record {
           counted = omega arith;
           room = omega arith;
-          rows = put_there ∙ ap (put c 0) all-rows;
+          rows = put_there ∙ ap (put c 0) all_rows;
           size = ap length put_there ∙ length_put c 0 wider (omega arith);
           texts = wrote_as (Done q) p 0 p₂ (sym (join_more class_text done k)) (wrote_then (Done q) (class_text k) p₂ w.texts e.written);
-          below = rw (← all-rows) there;
-          back = rw (← all-rows) back;
+          below = rw (← all_rows) there;
+          back = rw (← all_rows) back;
         }
 
 -- what is written up to the place `at` of the text, and what is left
@@ -148,8 +148,8 @@ module _ {s : List ℕ} {c : List (List ℕ)} {p : List ℕ} {at count q : ℕ} 
   writing_fits h = let n = w.written.room in omega arith
 
   module _ {t : NextLine} (x : t ≡ next_line s at) where
-    pub writing-none : t ≡ NoLine → ClassesAt count q (lines s) c p c₁ p₁
-    writing-none y = ended (none_taken s at x y)
+    pub writing_none : t ≡ NoLine → ClassesAt count q (lines s) c p c₁ p₁
+    writing_none y = ended (none_taken s at x y)
 
     module _ {a e n : ℕ} (y : t ≡ Line a e n) where
       taken : Taken s at a e n
@@ -160,8 +160,8 @@ module _ {s : List ℕ} {c : List (List ℕ)} {p : List ℕ} {at count q : ℕ} 
       split_here = w.split ∙ ap (λ ls. w.done ++ classes_of ls) taken.split
 
       module _ (k : ClassLine) (z : NamedBy k (between s a e)) where
-        pub writing-other : k ≡ Other → Writing s c p n count q c₁ p₁
-        writing-other f = record {
+        pub writing_other : k ≡ Other → Writing s c p n count q c₁ p₁
+        writing_other f = record {
           most = w.most;
           same_rows = w.same_rows;
           same_pool = w.same_pool;
@@ -177,12 +177,12 @@ module _ {s : List ℕ} {c : List (List ℕ)} {p : List ℕ} {at count q : ℕ} 
           abbrev class : Pair
           class = class_named (between s a e) ns
 
-          split-class : classes_of (lines s) ≡ (w.done ++ (class ∷ [])) ++ classes_of (lines (drop n s))
-          split-class = split_here ∙ ap (λ cs. w.done ++ (cs ++ classes_of (lines (drop n s)))) there.is ∙ sym (append_assoc w.done (class ∷ []) (classes_of (lines (drop n s))))
+          split_class : classes_of (lines s) ≡ (w.done ++ (class ∷ [])) ++ classes_of (lines (drop n s))
+          split_class = split_here ∙ ap (λ cs. w.done ++ (cs ++ classes_of (lines (drop n s)))) there.is ∙ sym (append_assoc w.done (class ∷ []) (classes_of (lines (drop n s))))
 
-          pub writing-few : length c₁ ≤ count → length c < length (classes_of (lines s))
-          writing-few h =
-              let l = ap length split-class in
+          pub writing_few : length c₁ ≤ count → length c < length (classes_of (lines s))
+          writing_few h =
+              let l = ap length split_class in
               let m = length-append (w.done ++ (class ∷ [])) (classes_of (lines (drop n s))) in
               let o = length-append w.done (class ∷ []) in
               let v = w.written.counted in
@@ -190,10 +190,10 @@ module _ {s : List ℕ} {c : List (List ℕ)} {p : List ℕ} {at count q : ℕ} 
               omega arith
 
           module _ (r : Wrote) (c₂ : List (List ℕ)) (p₂ : List ℕ) (g : EnteredClassBy r class count q c₁ p₁ c₂ p₂) where
-            pub writing-short : r ≡ NoRoom → length p < length (class_pool (classes_of (lines s)))
-            writing-short h =
+            pub writing_short : r ≡ NoRoom → length p < length (class_pool (classes_of (lines s)))
+            writing_short h =
                 let short : length p₁ < q + length (class_text class) = rw h at g in
-                let l = ap (λ cs. length (class_pool cs)) split-class in
+                let l = ap (λ cs. length (class_pool cs)) split_class in
                 let m = ap length (join_append class_text (w.done ++ (class ∷ [])) (classes_of (lines (drop n s)))) in
                 let o = ap length (join_more class_text w.done class) in
                 let u = length-append (class_pool (w.done ++ (class ∷ []))) (class_pool (classes_of (lines (drop n s)))) in
@@ -213,7 +213,7 @@ module _ {s : List ℕ} {c : List (List ℕ)} {p : List ℕ} {at count q : ℕ} 
                   same_rows = more.size;
                   same_pool = written_length more.texts;
                   done = w.done ++ (class ∷ []);
-                  split = split-class;
+                  split = split_class;
                   written = more;
                 }
 
@@ -222,12 +222,12 @@ module _ {s : List ℕ} {c : List (List ℕ)} {p : List ℕ} {at count q : ℕ} 
     skipped : Taken s at at x.«end» n
     skipped = line_split s at x.line
 
-    pub skip-falls : at < length s → length s - n < length s - at
-    skip-falls h = let t = skipped in omega (arith, t.past, t.inside)
+    pub skip_falls : at < length s → length s - n < length s - at
+    skip_falls h = let t = skipped in omega (arith, t.past, t.inside)
 
-    pub writing-skips : {b : Bool} → b ≡ opens_no_class (get_or s at 0) → b ≡ true → Writing s c p n count q c₁ p₁
+    pub writing_skips : {b : Bool} → b ≡ opens_no_class (get_or s at 0) → b ≡ true → Writing s c p n count q c₁ p₁
     unfolding classes_of
-    writing-skips f g = record {
+    writing_skips f g = record {
       most = w.most;
       same_rows = w.same_rows;
       same_pool = w.same_pool;
@@ -242,4 +242,4 @@ module _ {s : List ℕ} {c : List (List ℕ)} {p : List ℕ} {at count q : ℕ} 
         told = ap opens_no_class (get_or-drop at s 0 0 ∙ ap (λ i. get_or s i 0) (add-zero at)) ∙ sym f ∙ g
 
 pub ruleset writing =
-    (skip-falls, writing-skips, writing_starts, writing_ends, writing_pool, writing_fits, writing-none, line_order, line_ends, line_falls, writing-other, display_there, raw_there, writing-few, writing-short, writing_more, rules)
+    (skip_falls, writing_skips, writing_starts, writing_ends, writing_pool, writing_fits, writing_none, line_order, line_ends, line_falls, writing_other, display_there, raw_there, writing_few, writing_short, writing_more, rules)

@@ -19,7 +19,7 @@ use Rattle.ground.specs.Join.{join}
 use Rattle.table_pool.proofs.Writes.{written_length, wrote_then, wrote_as}
 use Rattle.table_rows.specs.Rows.{pack_member}
 use Rattle.tables.specs.Back.{read_back}
-use Rattle.load_raw_types.proofs.Indexing.{read-back-put, indexed-put}
+use Rattle.load_raw_types.proofs.Indexing.{read_back_put, indexed_put}
 use Rattle.load_rule.specs.declared.Fate.{Fate}
 use Rattle.load_rule.specs.declared.Fates.{Fates}
 use Rattle.load_rule.specs.declared.Scan.{Scan}
@@ -63,38 +63,38 @@ module _ {s : List ℕ} {rows : List (List ℕ)} {index : List ℕ} {used : ℕ}
     taken : Taken s at y.start y.«end» y.next
     taken = st.taken
 
-    line-rest : y.next ≤ length s
-    line-rest = taken.inside
+    line_rest : y.next ≤ length s
+    line_rest = taken.inside
 
     line_falls : at < length s → length s - y.next < length s - at
     line_falls h = let u = taken.past in let i = taken.inside in omega arith
 
-    role-told : {x : Role} → role_of y.kind ≡ x → role_of (line_of (bytes_of s y)) ≡ x
-    role-told h = sym (ap role_of st.is) ∙ h
+    role_told : {x : Role} → role_of y.kind ≡ x → role_of (line_of (bytes_of s y)) ≡ x
+    role_told h = sym (ap role_of st.is) ∙ h
 
     module _ {d : Span} (h : role_of y.kind ≡ Class d) where
       inside : Lies d (length (bytes_of s y))
-      inside = class_lies (bytes_of s y) (role-told h)
+      inside = class_lies (bytes_of s y) (role_told h)
 
-      in-line : d.«end» ≤ y.«end» - y.start
-      in-line = let w = inside.within in let l = length-take (y.«end» - y.start) (drop y.start s) in omega arith
+      in_line : d.«end» ≤ y.«end» - y.start
+      in_line = let w = inside.within in let l = length-take (y.«end» - y.start) (drop y.start s) in omega arith
 
     module _ {parts : MemberLine} (h : role_of y.kind ≡ Member parts) where
-      member-ready : MemberReady s y t parts
-      member-ready = record {
-        lies = member_lies (bytes_of s y) (role-told h);
-        classed = rw k.classes (member_classed f.class (line_of (bytes_of s y)) (role-told h) st.clean);
-        lasts = st.after ∙ member_last member (line_of (bytes_of s y)) (role-told h);
+      member_ready : MemberReady s y t parts
+      member_ready = record {
+        lies = member_lies (bytes_of s y) (role_told h);
+        classed = rw k.classes (member_classed f.class (line_of (bytes_of s y)) (role_told h) st.clean);
+        lasts = st.after ∙ member_last member (line_of (bytes_of s y)) (role_told h);
       }
 
     -- A line is entered by its role.
-    role-ready : (ro : Role) → role_of y.kind ≡ ro → RoleReady ro s y t
-    role-ready Neither h = tt
-    role-ready (Class d) h = inside h
-    role-ready (Member parts) h = member-ready h
+    role_ready : (ro : Role) → role_of y.kind ≡ ro → RoleReady ro s y t
+    role_ready Neither h = tt
+    role_ready (Class d) h = inside h
+    role_ready (Member parts) h = member_ready h
 
-    line-ready : Ready s rows index y t p
-    line-ready = record {
+    line_ready : Ready s rows index y t p
+    line_ready = record {
       short = k.short;
       order = taken.order;
       inside = taken.ends;
@@ -104,18 +104,18 @@ module _ {s : List ℕ} {rows : List (List ℕ)} {index : List ℕ} {used : ℕ}
       pool = let size = k.pool_size in let most = k.most in omega arith;
       indexed = k.indexed;
       few = let c = k.classes in let w = k.scanning.within in let l = w.lines in let n = w.class in let i = k.scanning.inside in let h = k.short in omega arith;
-      role = role-ready (role_of y.kind) refl;
+      role = role_ready (role_of y.kind) refl;
     }
 
     module _ {g : Fates} (sum : g ≡ plus f (one y.fate)) where
-      next-scan : Scanning s 0 no_fates false y.next g y.has_member
-      next-scan = scanned_more k.scanning st sum
+      next_scan : Scanning s 0 no_fates false y.next g y.has_member
+      next_scan = scanned_more k.scanning st sum
 
-      line-within : Within g y.next
-      line-within = next-scan.within
+      line_within : Within g y.next
+      line_within = next_scan.within
 
-      next-class : g.class ≡ f.class + class_line (line_of (bytes_of s y))
-      next-class =
+      next_class : g.class ≡ f.class + class_line (line_of (bytes_of s y))
+      next_class =
           ap (λ y. y.class) (sum ∙ ap (λ z. plus f (one z)) st.fate)
           ∙ ap (λ y. f.class + y) (fate_class member (bytes_of s y) (line_of (bytes_of s y)))
 
@@ -128,24 +128,24 @@ module _ {s : List ℕ} {rows : List (List ℕ)} {index : List ℕ} {used : ℕ}
       unfolding entries_from here
       step = k.split ∙ ap (λ ls. k.done ++ entries_from (read_back rows p₀) (under f.class (part_of s (span t.own t.own_end))) ls) taken.split
 
-      short-scan : {sc : Scan} → sc ≡ scan_on g y.has_member (lines (drop y.next s)) → sc ≡ scan_of (lines s)
-      short-scan y = y ∙ next-scan.decides ∙ from_nothing (lines s)
+      short_scan : {sc : Scan} → sc ≡ scan_on g y.has_member (lines (drop y.next s)) → sc ≡ scan_of (lines s)
+      short_scan y = y ∙ next_scan.decides ∙ from_nothing (lines s)
 
       line_neither : role_of y.kind ≡ Neither → Filling s rows index used m₀ p₀ y.next t y.has_member g m p
       unfolding here
       line_neither h = record {
         short = k.short;
         most = k.most;
-        scanning = next-scan;
+        scanning = next_scan;
         done = k.done;
         split =
             step ∙ ap (λ es. k.done ++ (es ++ entries_from (read_back rows p₀) (under_after here (bytes_of s y) (line_of (bytes_of s y))) (lines (drop y.next s))))
-            (entry_neither (read_back rows p₀) here (residual_in (lines (drop y.next s))) (bytes_of s y) (line_of (bytes_of s y)) (role-told h))
+            (entry_neither (read_back rows p₀) here (residual_in (lines (drop y.next s))) (bytes_of s y) (line_of (bytes_of s y)) (role_told h))
             ∙ ap (λ w. k.done ++ entries_from (read_back rows p₀) w (lines (drop y.next s)))
-            (under_neither here (bytes_of s y) (line_of (bytes_of s y)) (role-told h) ∙ ap (λ c. under c (part_of s (span t.own t.own_end))) (sym next-class));
+            (under_neither here (bytes_of s y) (line_of (bytes_of s y)) (role_told h) ∙ ap (λ c. under c (part_of s (span t.own t.own_end))) (sym next_class));
         held = k.held;
         counts = k.counts;
-        classes = k.classes ∙ sym (next-class ∙ ap (λ c. f.class + c) (neither_counts (line_of (bytes_of s y)) (role-told h)) ∙ add-zero f.class);
+        classes = k.classes ∙ sym (next_class ∙ ap (λ c. f.class + c) (neither_counts (line_of (bytes_of s y)) (role_told h)) ∙ add-zero f.class);
         indexed = k.indexed;
         same = k.same;
         lies = k.lies;
@@ -159,27 +159,27 @@ module _ {s : List ℕ} {rows : List (List ℕ)} {index : List ℕ} {used : ℕ}
         line_class = record {
           short = k.short;
           most = k.most;
-          scanning = next-scan;
+          scanning = next_scan;
           done = k.done;
           split =
               step ∙ ap (λ es. k.done ++ (es ++ entries_from (read_back rows p₀) (under_after here (bytes_of s y) (line_of (bytes_of s y))) (lines (drop y.next s))))
-              (entry_class (read_back rows p₀) here (residual_in (lines (drop y.next s))) (bytes_of s y) (line_of (bytes_of s y)) (role-told h))
+              (entry_class (read_back rows p₀) here (residual_in (lines (drop y.next s))) (bytes_of s y) (line_of (bytes_of s y)) (role_told h))
               ∙ ap (λ w. k.done ++ entries_from (read_back rows p₀) w (lines (drop y.next s)))
-              (under_class_lem here (bytes_of s y) (line_of (bytes_of s y)) (role-told h) ∙ ap (λ c. under c (part_of (bytes_of s y) d)) (sym next-class)
-              ∙ ap (under g.class) (part_part s y.start y.«end» d.start d.«end» (in-line h)));
+              (under_class_lem here (bytes_of s y) (line_of (bytes_of s y)) (role_told h) ∙ ap (λ c. under c (part_of (bytes_of s y) d)) (sym next_class)
+              ∙ ap (under g.class) (part_part s y.start y.«end» d.start d.«end» (in_line h)));
           held = k.held;
           counts = k.counts;
-          classes = ap (λ c. c + 1) k.classes ∙ sym (next-class ∙ ap (λ c. f.class + c) (class_counts (line_of (bytes_of s y)) (role-told h)));
+          classes = ap (λ c. c + 1) k.classes ∙ sym (next_class ∙ ap (λ c. f.class + c) (class_counts (line_of (bytes_of s y)) (role_told h)));
           indexed = k.indexed;
           same = k.same;
-          lies = record { order = let o = (inside h).order in omega arith; within = let w = in-line h in let f = taken.ends in let o₂ = taken.order in omega arith };
+          lies = record { order = let o = (inside h).order in omega arith; within = let w = in_line h in let f = taken.ends in let o₂ = taken.order in omega arith };
           pool_size = k.pool_size;
           rows_size = k.rows_size;
         }
 
       module _ {parts : MemberLine} (h : role_of y.kind ≡ Member parts) where
         no_class : g.class ≡ f.class
-        no_class = next-class ∙ ap (λ c. f.class + c) (member_counts (line_of (bytes_of s y)) (role-told h)) ∙ add-zero f.class
+        no_class = next_class ∙ ap (λ c. f.class + c) (member_counts (line_of (bytes_of s y)) (role_told h)) ∙ add-zero f.class
 
         texts : MemberTexts
         texts = texts_in s (read_back rows p₀) y t parts
@@ -191,26 +191,26 @@ module _ {s : List ℕ} {rows : List (List ℕ)} {index : List ℕ} {used : ℕ}
         rest = entries_from (read_back rows p₀) (under g.class (part_of s (span t.own t.own_end))) (lines (drop y.next s))
 
         -- this line's member, and those after it
-        member-step : members (lines s) (read_back rows p₀) ≡ k.done ++ (entry ∷ rest)
+        member_step : members (lines s) (read_back rows p₀) ≡ k.done ++ (entry ∷ rest)
         unfolding here entry rest texts
-        member-step =
+        member_step =
             step ∙ ap (λ es. k.done ++ (es ++ entries_from (read_back rows p₀) (under_after here (bytes_of s y) (line_of (bytes_of s y))) (lines (drop y.next s))))
-            (entry_member (read_back rows p₀) here (residual_in (lines (drop y.next s))) (bytes_of s y) (line_of (bytes_of s y)) (role-told h))
+            (entry_member (read_back rows p₀) here (residual_in (lines (drop y.next s))) (bytes_of s y) (line_of (bytes_of s y)) (role_told h))
             ∙ ap (λ w. k.done ++ (entry_of (f.class - 1) (texts_in s (read_back rows p₀) y t parts) parts.body ∷ entries_from (read_back rows p₀) w (lines (drop y.next s))))
-            (under_member here (bytes_of s y) (line_of (bytes_of s y)) (role-told h) ∙ ap (λ c. under c (part_of s (span t.own t.own_end))) (sym next-class))
+            (under_member here (bytes_of s y) (line_of (bytes_of s y)) (role_told h) ∙ ap (λ c. under c (part_of s (span t.own t.own_end))) (sym next_class))
 
         past : t.place ≡ used + length (entry_pool k.done)
         past = k.held.texts.past
 
-        text-is : entry_text entry ≡ all_texts texts
+        text_is : entry_text entry ≡ all_texts texts
         unfolding entry texts
-        text-is = entry_text_lem (f.class - 1) (read_back rows p₀) (residual_in (lines (drop y.next s))) (part_of s (span t.own t.own_end)) (bytes_of s y) parts
+        text_is = entry_text_lem (f.class - 1) (read_back rows p₀) (residual_in (lines (drop y.next s))) (part_of s (span t.own t.own_end)) (bytes_of s y) parts
 
         few : length m ≤ t.row → Over (members (lines s) (read_back rows p₀)) used m₀ p₀
         few l =
             let c = k.counts in
             let size = k.rows_size in
-            let all = ap length member-step ∙ length-append k.done (entry ∷ rest) in
+            let all = ap length member_step ∙ length-append k.done (entry ∷ rest) in
             inl (omega arith)
 
         short : length p < t.place + length (all_texts (texts_in s (read_back rows p) y t parts)) → Over (members (lines s) (read_back rows p₀)) used m₀ p₀
@@ -219,8 +219,8 @@ module _ {s : List ℕ} {rows : List (List ℕ)} {index : List ℕ} {used : ℕ}
             let over : length p < t.place + length (all_texts texts) = rw k.same at l in
             let size = k.pool_size in
             let before = past in
-            let u = ap length text-is in
-            let all = ap (λ es. length (entry_pool es)) member-step ∙ ap length (join_append entry_text k.done (entry ∷ rest))
+            let u = ap length text_is in
+            let all = ap (λ es. length (entry_pool es)) member_step ∙ ap length (join_append entry_text k.done (entry ∷ rest))
             ∙ length-append (entry_pool k.done) (entry_text entry ++ entry_pool rest) in
             let v = length-append (entry_text entry) (entry_pool rest) in
             inr (omega arith)
@@ -242,29 +242,29 @@ module _ {s : List ℕ} {rows : List (List ℕ)} {index : List ℕ} {used : ℕ}
               let size = k.rows_size in
               let c = k.counts in
               let l = w.room in
-              let rows-count : t.row ≡ 0 + length (entry_rows used k.done) = c ∙ sym (rows_length entry_row entry_text used k.done) ∙ sym (zero-add (length (entry_rows used k.done))) in
+              let rows_count : t.row ≡ 0 + length (entry_rows used k.done) = c ∙ sym (rows_length entry_row entry_text used k.done) ∙ sym (zero-add (length (entry_rows used k.done))) in
               let fits : 0 + length (entry_rows used k.done) < length m₀ = omega arith in
               let row : List ℕ = pack_member (member_placed (t.classes - 1) t.place w.places parts.body) in
-              let texts-are : entry_pool k.done ++ all_texts texts ≡ entry_pool (k.done ++ (entry ∷ [])) =
-              ap (λ x. entry_pool k.done ++ x) (sym text-is) ∙ sym (join_more entry_text k.done entry) in
+              let texts_are : entry_pool k.done ++ all_texts texts ≡ entry_pool (k.done ++ (entry ∷ [])) =
+              ap (λ x. entry_pool k.done ++ x) (sym text_is) ∙ sym (join_more entry_text k.done entry) in
               rw (w.row, w.next) (record {
                 short = k.short;
                 most = k.most;
-                scanning = next-scan;
+                scanning = next_scan;
                 done = k.done ++ (entry ∷ []);
-                split = member-step ∙ sym (append_assoc k.done (entry ∷ []) rest);
+                split = member_step ∙ sym (append_assoc k.done (entry ∷ []) rest);
                 held = record {
                   room = rw (length-append k.done (entry ∷ [])) (omega arith);
                   rows =
-                      ap (λ x. set x t.row row) k.held.rows ∙ ap (λ x. set (put m₀ 0 (entry_rows used k.done)) x row) rows-count
+                      ap (λ x. set x t.row row) k.held.rows ∙ ap (λ x. set (put m₀ 0 (entry_rows used k.done)) x row) rows_count
                       ∙ put_set m₀ 0 (entry_rows used k.done) row fits
                       ∙ ap (λ x. put m₀ 0 (entry_rows used k.done ++ (x ∷ []))) row_is ∙ ap (put m₀ 0) (sym (rows_more entry_row entry_text used k.done entry));
-                  texts = wrote_as (Done w.places.«end») p₀ used p₁ texts-are (wrote_then (Done w.places.«end») (all_texts texts) p₁ k.held.texts it.written);
+                  texts = wrote_as (Done w.places.«end») p₀ used p₁ texts_are (wrote_then (Done w.places.«end») (all_texts texts) p₁ k.held.texts it.written);
                 };
                 counts = ap (λ x. x + 1) c ∙ sym (length-append k.done (entry ∷ []));
                 classes = k.classes ∙ sym no_class;
-                indexed = indexed-put k.indexed it.written;
-                same = read-back-put k.indexed it.written ∙ k.same;
+                indexed = indexed_put k.indexed it.written;
+                same = read_back_put k.indexed it.written ∙ k.same;
                 lies = k.lies;
                 pool_size = written_length it.written ∙ k.pool_size;
                 rows_size = length-set m t.row row ∙ k.rows_size;
@@ -282,8 +282,8 @@ module _ {s : List ℕ} {rows : List (List ℕ)} {index : List ℕ} {used : ℕ}
             go (Class d) h z = kept (line_class h) z
             go (Member parts) h z = line_member h (rw e at z)
 
-        line-over : o ≡ NoRoom → {sc : Scan} → sc ≡ scan_on g y.has_member (lines (drop y.next s)) → CutShort sc (lines s) (read_back rows p₀) used m₀ p₀
-        line-over e i = record { scanned = short-scan i; over = go (role_of y.kind) refl w }
+        line_over : o ≡ NoRoom → {sc : Scan} → sc ≡ scan_on g y.has_member (lines (drop y.next s)) → CutShort sc (lines s) (read_back rows p₀) used m₀ p₀
+        line_over e i = record { scanned = short_scan i; over = go (role_of y.kind) refl w }
           where
             none : {u : Slot} → o ≡ At u → Over (members (lines s) (read_back rows p₀)) used m₀ p₀
             none f = absurd (let z : ◌≡◌ {A = ℕ} 0 1 = cc in omega arith)
@@ -299,38 +299,38 @@ module _ {s : List ℕ} {rows : List (List ℕ)} {index : List ℕ} {used : ℕ}
     st : StepLine s at f.class member y
     st = step_told s at f.class member r x q
 
-    pub filling-rest : y.next ≤ length s
-    filling-rest = line-rest st
+    pub filling_rest : y.next ≤ length s
+    filling_rest = line_rest st
 
-    pub filling-falls : at < length s → length s - y.next < length s - at
-    filling-falls h = line_falls st h
+    pub filling_falls : at < length s → length s - y.next < length s - at
+    filling_falls h = line_falls st h
 
-    pub filling-ready : Ready s rows index y t p
-    filling-ready = line-ready st
+    pub filling_ready : Ready s rows index y t p
+    filling_ready = line_ready st
 
     module _ {g : Fates} (sum : g ≡ plus f (one y.fate)) where
-      pub filling-within : Within g y.next
-      filling-within = line-within st sum
+      pub filling_within : Within g y.next
+      filling_within = line_within st sum
 
-      pub filling-room : Within g most_text
-      filling-room = step_bounds s k.short filling-rest filling-within
+      pub filling_room : Within g most_text
+      filling_room = step_bounds s k.short filling_rest filling_within
 
       module _ (o : NextSlot) (m₁ : List (List ℕ)) (p₁ : List ℕ) (w : EnterBy (role_of y.kind) o s rows y t m p m₁ p₁) where
-        pub filling-entered : {t₁ : Slot} → o ≡ At t₁ → Filling s rows index used m₀ p₀ y.next t₁ y.has_member g m₁ p₁
-        filling-entered e = line_entered st sum o m₁ p₁ w e
+        pub filling_entered : {t₁ : Slot} → o ≡ At t₁ → Filling s rows index used m₀ p₀ y.next t₁ y.has_member g m₁ p₁
+        filling_entered e = line_entered st sum o m₁ p₁ w e
 
-        pub filling-over : o ≡ NoRoom → {sc : Scan} → sc ≡ scan_on g y.has_member (lines (drop y.next s)) → CutShort sc (lines s) (read_back rows p₀) used m₀ p₀
-        filling-over e i = line-over st sum o m₁ p₁ w e i
+        pub filling_over : o ≡ NoRoom → {sc : Scan} → sc ≡ scan_on g y.has_member (lines (drop y.next s)) → CutShort sc (lines s) (read_back rows p₀) used m₀ p₀
+        filling_over e i = line_over st sum o m₁ p₁ w e i
 
   -- A line of which nothing is entered.
   module _ (r : Step) (x : StepBy r s at f.class member) {n : ℕ} {v : Fate} (q : r ≡ steps.Passed n v) where
     passed : StepPassed s at f.class member n v
     passed = passed_told s at f.class member r x q
 
-    pub filling-passed : {g : Fates} → g ≡ plus f (one v) → Filling s rows index used m₀ p₀ n t member g m p
-    filling-passed e =
+    pub filling_passed : {g : Fates} → g ≡ plus f (one v) → Filling s rows index used m₀ p₀ n t member g m p
+    filling_passed e =
         let z = passed in
         same_filling z.starts z.stays (line_neither z.told (e ∙ ap (λ y. plus f (one y)) z.is) (not_entered z.line.kind z.passed))
 
-    pub filling-passes : at < length s → length s - n < length s - at
-    filling-passes h = let z = passed in let o = z.starts in let l = line_falls z.told h in omega arith
+    pub filling_passes : at < length s → length s - n < length s - at
+    filling_passes h = let z = passed in let o = z.starts in let l = line_falls z.told h in omega arith

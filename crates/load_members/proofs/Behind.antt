@@ -41,7 +41,7 @@ use Rattle.load_members.specs.Inner.Passed.{passed_fates}
 use Rattle.load_members.specs.Inner.Roles.{role_of}
 use Rattle.load_members.specs.Inner.Enters.{Behind, EnterBy}
 use Rattle.load_members.proofs.Filling.{Filling, filling_starts, filling_ends, filling_none, filling_fault, filling_text, filling_inside_text, filling_counted}
-use Rattle.load_members.proofs.Adding.{filling-rest, filling-falls, filling-passed, filling-passes, filling-within, filling-room, filling-ready, filling-entered, filling-over}
+use Rattle.load_members.proofs.Adding.{filling_rest, filling_falls, filling_passed, filling_passes, filling_within, filling_room, filling_ready, filling_entered, filling_over}
 
 pub passed_counted : (f : Fates) (k : Passed) →
     record {
@@ -101,12 +101,12 @@ module _ {s : List ℕ} {rows : List (List ℕ)} {index : List ℕ} {used : ℕ}
   all_read_lem : (k : Passed) → Passes member (drop at s) k → Filling s rows index used m₀ p₀ (at + k.bytes) t member (plus f (passed_fates k)) m p
   all_read_lem k none = none_read
   all_read_lem k (blank j a e n w c l) =
-      filling-passed (all_read_lem j w) (steps.Passed (at + n) fate.Blank) (blank_passed s at i.scanning.inside (plus f (passed_fates j)).class member c l) refl (blank_more f j n)
+      filling_passed (all_read_lem j w) (steps.Passed (at + n) fate.Blank) (blank_passed s at i.scanning.inside (plus f (passed_fates j)).class member c l) refl (blank_more f j n)
   all_read_lem k (applied j a e n brace w c l g) =
-      filling-passed (all_read_lem j w) (steps.Passed (at + n) fate.Applied) (comment_passed s at i.scanning.inside (plus f (passed_fates j)).class member c l g) refl
+      filling_passed (all_read_lem j w) (steps.Passed (at + n) fate.Applied) (comment_passed s at i.scanning.inside (plus f (passed_fates j)).class member c l g) refl
       (applied_more f j n)
   all_read_lem k (idle j a e n brace w c l g) =
-      filling-passed (all_read_lem j w) (steps.Passed (at + n) fate.Idle) (comment_passed s at i.scanning.inside (plus f (passed_fates j)).class member c l g) refl
+      filling_passed (all_read_lem j w) (steps.Passed (at + n) fate.Idle) (comment_passed s at i.scanning.inside (plus f (passed_fates j)).class member c l g) refl
       (idle_more f j n)
 
 module _ {s : List ℕ} {rows : List (List ℕ)} {index : List ℕ} {used : ℕ} {m₀ : List (List ℕ)} {p₀ : List ℕ}
@@ -116,36 +116,36 @@ module _ {s : List ℕ} {rows : List (List ℕ)} {index : List ℕ} {used : ℕ}
   filling_after = let n = ap length (take_rest s y.next) ∙ length-drop y.next s in let h = k.short in omega arith
 
   module _ {n : Looked} (l : Looks y.has_member (between s y.next (length s)) n) where
-    pub filling-given : Behind s y n.residual
-    filling-given = record { gives = rw (take_rest s y.next) at l.gives }
+    pub filling_given : Behind s y n.residual
+    filling_given = record { gives = rw (take_rest s y.next) at l.gives }
 
     passes : Passes y.has_member (drop y.next s) n.passed
     passes = rw (take_rest s y.next) at l.passes
 
     past : (y.next + n.passed.bytes) ≤ length s
     past =
-        let z = filling-rest k r x q in
+        let z = filling_rest k r x q in
         let i = passes_inside y.has_member (drop y.next s) n.passed passes in
         let d = length-drop y.next s in
         omega arith
 
-    pub filling-few : n.passed.blank + n.passed.applied + n.passed.idle ≤ most_text
-    filling-few =
+    pub filling_few : n.passed.blank + n.passed.applied + n.passed.idle ≤ most_text
+    filling_few =
         let i = passes_few y.has_member (drop y.next s) n.passed passes in
         let a = k.short in
         let b = past in
         omega arith
 
-    pub filling-behind : Fits w64 (y.next + n.passed.bytes)
-    filling-behind = let a = k.short in let b = past in omega arith
+    pub filling_behind : Fits w64 (y.next + n.passed.bytes)
+    filling_behind = let a = k.short in let b = past in omega arith
 
-    pub filling-skips : at < length s → length s - (y.next + n.passed.bytes) < length s - at
-    filling-skips i = let z = filling-falls k r x q i in let b = past in omega arith
+    pub filling_skips : at < length s → length s - (y.next + n.passed.bytes) < length s - at
+    filling_skips i = let z = filling_falls k r x q i in let b = past in omega arith
 
-    pub filling-read : {g : Fates} → g ≡ plus f (one y.fate) → (o : NextSlot) (m₁ : List (List ℕ)) (p₁ : List ℕ) → EnterBy (role_of y.kind) o s rows y t m p m₁ p₁ →
+    pub filling_read : {g : Fates} → g ≡ plus f (one y.fate) → (o : NextSlot) (m₁ : List (List ℕ)) (p₁ : List ℕ) → EnterBy (role_of y.kind) o s rows y t m p m₁ p₁ →
         {t₁ : Slot} → o ≡ At t₁ → {v : Fates} → v ≡ plus g (passed_fates n.passed) →
         Filling s rows index used m₀ p₀ (y.next + n.passed.bytes) t₁ y.has_member v m₁ p₁
-    filling-read sum o m₁ p₁ w e i = rw i (all_read_lem (filling-entered k r x q sum o m₁ p₁ w e) n.passed passes)
+    filling_read sum o m₁ p₁ w e i = rw i (all_read_lem (filling_entered k r x q sum o m₁ p₁ w e) n.passed passes)
 
 pub ruleset filling = (
   step_fits,
@@ -157,17 +157,17 @@ pub ruleset filling = (
   filling_text,
   filling_inside_text,
   filling_counted,
-  filling-rest,
-  filling-falls,
-  filling-passed,
-  filling-passes,
-  filling-within,
-  filling-room,
-  filling-ready,
+  filling_rest,
+  filling_falls,
+  filling_passed,
+  filling_passes,
+  filling_within,
+  filling_room,
+  filling_ready,
   filling_after,
-  filling-given,
-  filling-few,
-  filling-behind,
-  filling-over,
+  filling_given,
+  filling_few,
+  filling_behind,
+  filling_over,
   rules,
 )

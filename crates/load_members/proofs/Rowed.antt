@@ -35,13 +35,13 @@ module _ {raw display : LineRange} where
   ranges_display e f = sym (ap (λ x. ranges_of x display) e ∙ ap (ranges_of NoLines) f)
 
   module _ {p q : ℕ} (e : raw ≡ Lines p q) where
-    pub ranges-raw : display ≡ NoLines → Both p q p q ≡ ranges_of raw display
-    ranges-raw f = sym (ap (λ x. ranges_of x display) e ∙ ap (ranges_of (Lines p q)) f)
+    pub ranges_raw : display ≡ NoLines → Both p q p q ≡ ranges_of raw display
+    ranges_raw f = sym (ap (λ x. ranges_of x display) e ∙ ap (ranges_of (Lines p q)) f)
 
-    pub ranges-both : {a z : ℕ} → display ≡ Lines a z → Both p q a z ≡ ranges_of raw display
-    ranges-both f = sym (ap (λ x. ranges_of x display) e ∙ ap (ranges_of (Lines p q)) f)
+    pub ranges_both : {a z : ℕ} → display ≡ Lines a z → Both p q a z ≡ ranges_of raw display
+    ranges_both f = sym (ap (λ x. ranges_of x display) e ∙ ap (ranges_of (Lines p q)) f)
 
-pub ruleset ranging = (ranges_none, ranges_display, ranges-raw, ranges-both, rules)
+pub ruleset ranging = (ranges_none, ranges_display, ranges_raw, ranges_both, rules)
 
 -- What a line is to the rows.
 module _ {k : Line} where
@@ -68,9 +68,9 @@ module _ (c at : ℕ) (q : Places) {body : Body} {raw descriptor name : Text} (a
   row_field f g = g ∙ rw (a, b, e, f)
 
   module _ {m : method.Method} (f : body ≡ Method m) {owner : Text} (o : owner ≡ text q.owner (q.«end» - q.owner)) {ranges : Ranges} (r : ranges ≡ ranges_of m.raw m.display) where
-    pub row-method : {row : List ℕ} →
+    pub row_method : {row : List ℕ} →
         row ≡ pack_member (record { kind = 1; class = c; raw_name = raw; descriptor = descriptor; name = name; owner = owner; ranges = ranges }) → row ≡ pack_member (member_placed c at q body)
-    row-method g = g ∙ rw (a, b, e, f, o, r)
+    row_method g = g ∙ rw (a, b, e, f, o, r)
 
 module _ (at : ℕ) (q : Places) (x : Rising at q most_pool) where
   pub raw_order : at ≤ q.descriptor
@@ -98,4 +98,4 @@ module _ (at : ℕ) (q : Places) (x : Rising at q most_pool) where
   owner_inside = x.inside
 
 pub ruleset member_rows =
-    (row_field, row-method, raw_order, raw_inside, descriptor_order, descriptor_inside, name_order, name_inside_lem, owner_order, owner_inside, rules)
+    (row_field, row_method, raw_order, raw_inside, descriptor_order, descriptor_inside, name_order, name_inside_lem, owner_order, owner_inside, rules)

@@ -48,23 +48,23 @@ module _ {s : List ℕ} {rows : List (List ℕ)} {index : List ℕ} {x : LineSte
   member_indexed = k.indexed
 
   module _ (parts : MemberLine) (m : List (List ℕ)) where
-    pub member-few : (m₁ : List (List ℕ)) (p₁ : List ℕ) → length m ≤ t.row → WrittenMemberBy NoRoom s rows x parts t m p m₁ p₁
-    member-few m₁ p₁ h = inl h
+    pub member_few : (m₁ : List (List ℕ)) (p₁ : List ℕ) → length m ≤ t.row → WrittenMemberBy NoRoom s rows x parts t m p m₁ p₁
+    member_few m₁ p₁ h = inl h
 
     module _ (r : Entered) (p₁ : List ℕ)
         (w : EnteredTextsBy r p t.place (texts_of (read_back rows p) (residual_in (lines (between s x.next (length s)))) (between s t.own t.own_end) (between s x.start x.«end») parts) p₁) where
-      as-ruled : EnteredTextsBy r p t.place (texts_in s (read_back rows p) x t parts) p₁
-      as-ruled = rw (take_rest s x.next) at w
+      as_ruled : EnteredTextsBy r p t.place (texts_in s (read_back rows p) x t parts) p₁
+      as_ruled = rw (take_rest s x.next) at w
 
-      pub member-short : (m₁ : List (List ℕ)) → r ≡ entered.NoRoom → WrittenMemberBy NoRoom s rows x parts t m p m₁ p₁
-      member-short m₁ e = inr (rw e at as-ruled)
+      pub member_short : (m₁ : List (List ℕ)) → r ≡ entered.NoRoom → WrittenMemberBy NoRoom s rows x parts t m p m₁ p₁
+      member_short m₁ e = inr (rw e at as_ruled)
 
       module _ {places : Places} (e : r ≡ entered.At places) where
         it : EnteredTexts places p t.place (texts_in s (read_back rows p) x t parts) p₁
-        it = rw e at as-ruled
+        it = rw e at as_ruled
 
-        pub member-rising : Rising t.place places most_pool
-        member-rising =
+        pub member_rising : Rising t.place places most_pool
+        member_rising =
             let l = it.placed in
             let d = l.descriptor in
             let n = l.name in
@@ -75,11 +75,11 @@ module _ {s : List ℕ} {rows : List (List ℕ)} {index : List ℕ} {x : LineSte
             let end_is = it.written.past in
             record { raw = omega arith; descriptor = omega arith; name = omega arith; owner = omega arith; inside = omega arith }
 
-        pub member-at : t.row < length m → {row : List ℕ} → row ≡ pack_member (member_placed (t.classes - 1) t.place places parts.body) →
+        pub member_at_lem : t.row < length m → {row : List ℕ} → row ≡ pack_member (member_placed (t.classes - 1) t.place places parts.body) →
             WrittenMember (slot_at (t.row + 1) places.«end» t.classes t.own t.own_end) s rows x parts t m p (set m t.row row) p₁
-        member-at h f = record { places = places; texts = it; room = h; row = rw f refl; next = refl }
+        member_at_lem h f = record { places = places; texts = it; room = h; row = rw f refl; next = refl }
 
-pub ruleset member_slots = (member_parts, member_given, member_indexed, member-few, member-short, member-rising, member-at, rules)
+pub ruleset member_slots = (member_parts, member_given, member_indexed, member_few, member_short, member_rising, member_at_lem, rules)
 
 -- A line by its role.
 role_class : (ro : Role) (s : List ℕ) (x : LineStep) (t : Slot) {d : Span} → RoleReady ro s x t → ro ≡ Class d → Lies d (length (bytes_of s x))
@@ -100,11 +100,11 @@ module _ {s : List ℕ} {rows : List (List ℕ)} {index : List ℕ} {x : LineSte
     within : d.«end» ≤ x.«end» - x.start
     within = let w = named.within in let l = length-take (x.«end» - x.start) (drop x.start s) in omega arith
 
-    pub line-own : Fits w64 (x.start + d.start)
-    line-own = let a = k.short in let b = k.order in let c = k.inside in let o = named.order in let w = within in omega arith
+    pub line_own : Fits w64 (x.start + d.start)
+    line_own = let a = k.short in let b = k.order in let c = k.inside in let o = named.order in let w = within in omega arith
 
-    pub line-own-end : Fits w64 (x.start + d.«end»)
-    line-own-end = let a = k.short in let b = k.order in let c = k.inside in let w = within in omega arith
+    pub line_own_end : Fits w64 (x.start + d.«end»)
+    line_own_end = let a = k.short in let b = k.order in let c = k.inside in let w = within in omega arith
 
   pub line_member : {parts : MemberLine} → ro ≡ Member parts → MemberReady s x t parts
   line_member e = role_member (role_of x.kind) s x t k.role (sym g ∙ e)
@@ -120,4 +120,4 @@ module _ (s : List ℕ) (rows : List (List ℕ)) (x : LineStep) (t : Slot) (m : 
       EnterBy (role_of x.kind) r s rows x t m p m₁ p₁
   line_entered e r m₁ p₁ w = rw (← g, e) w
 
-pub ruleset line_slots = (line_classes, line-own, line-own-end, line_member, line_neither, line_class, line_entered, rules)
+pub ruleset line_slots = (line_classes, line_own, line_own_end, line_member, line_neither, line_class, line_entered, rules)

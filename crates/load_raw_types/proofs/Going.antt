@@ -19,7 +19,7 @@ use Rattle.load_raw_types.specs.declared.types.Stretch.TheVariants.{More, Last}
 use Rattle.table_pool.specs.Inner.Named.{class_piece}
 use Rattle.load_raw_types.specs.Inner.Behind.{Indexed}
 use Rattle.load_raw_types.specs.Inner.Stretches.{inside_piece, outside_piece, Stretched, InsideBy, OutsideBy}
-use Rattle.load_raw_types.proofs.Indexing.{indexed-put, read-back-put}
+use Rattle.load_raw_types.proofs.Indexing.{indexed_put, read_back_put}
 
 -- what is written, and what is left: `rest`
 pub record Left (whole rest pool₀ : List ℕ) (at : ℕ) (pool : List ℕ) (next : ℕ) : Type 0 where
@@ -56,50 +56,50 @@ module _ {rows : List (List ℕ)} {pool₀ index : List ℕ} {at : ℕ} (x : Ind
   }
 
   module _ {dots : Bool} {text pool : List ℕ} {start next : ℕ} (k : Going rows pool₀ at dots text pool start next) where
-    pub going-inside : start ≤ length text
-    going-inside = k.inside
+    pub going_inside : start ≤ length text
+    going_inside = k.inside
 
-    pub going-indexed : Indexed rows pool index next
-    going-indexed = indexed-put x k.left.written
+    pub going_indexed : Indexed rows pool index next
+    going_indexed = indexed_put x k.left.written
 
     module _ (r : Stretch) (d : List ℕ) (w : InsideBy r (back (read_back rows pool)) dots text start pool next d) where
       as_before : InsideBy r (back (read_back rows pool₀)) dots text start pool next d
-      as_before = rw (read-back-put x k.left.written) at w
+      as_before = rw (read_back_put x k.left.written) at w
 
-      pub going-full : r ≡ stretches.NoRoom → length pool₀ < at + length (turn (back (read_back rows pool₀)) (class_piece dots text))
-      going-full e = left_no_room k.left (rw e at as_before)
+      pub going_full : r ≡ stretches.NoRoom → length pool₀ < at + length (turn (back (read_back rows pool₀)) (class_piece dots text))
+      going_full e = left_no_room k.left (rw e at as_before)
 
-      pub going-last : {q : ℕ} → r ≡ Last q → Written q pool₀ at (turn (back (read_back rows pool₀)) (class_piece dots text)) d
-      going-last e = left_none k.left (rw e at as_before)
+      pub going_last : {q : ℕ} → r ≡ Last q → Written q pool₀ at (turn (back (read_back rows pool₀)) (class_piece dots text)) d
+      going_last e = left_none k.left (rw e at as_before)
 
       module _ {q s : ℕ} (e : r ≡ More q s) where
         stretched : Stretched q s start (length text) (inside_piece (back (read_back rows pool₀)) dots text start) (outside_piece (back (read_back rows pool₀)) dots text s) pool next d
         stretched = rw e at as_before
 
-        pub plain-inside : s ≤ length text
-        plain-inside = stretched.inside
+        pub plain_inside : s ≤ length text
+        plain_inside = stretched.inside
 
         module _ (t : Stretch) (d₁ : List ℕ) (v : OutsideBy t dots text s d q d₁) where
-          pub plain-full : t ≡ stretches.NoRoom → length pool₀ < at + length (turn (back (read_back rows pool₀)) (class_piece dots text))
-          plain-full f = let u : OutsideBy stretches.NoRoom dots text s d q d₁ = rw f at v in left_no_room (left_more k.left stretched) (u (back (read_back rows pool₀)))
+          pub plain_full : t ≡ stretches.NoRoom → length pool₀ < at + length (turn (back (read_back rows pool₀)) (class_piece dots text))
+          plain_full f = let u : OutsideBy stretches.NoRoom dots text s d q d₁ = rw f at v in left_no_room (left_more k.left stretched) (u (back (read_back rows pool₀)))
 
-          pub plain-last : {q₁ : ℕ} → t ≡ Last q₁ → Written q₁ pool₀ at (turn (back (read_back rows pool₀)) (class_piece dots text)) d₁
-          plain-last {q₁} f = let u : OutsideBy (Last q₁) dots text s d q d₁ = rw f at v in left_none (left_more k.left stretched) (u (back (read_back rows pool₀)))
+          pub plain_last : {q₁ : ℕ} → t ≡ Last q₁ → Written q₁ pool₀ at (turn (back (read_back rows pool₀)) (class_piece dots text)) d₁
+          plain_last {q₁} f = let u : OutsideBy (Last q₁) dots text s d q d₁ = rw f at v in left_none (left_more k.left stretched) (u (back (read_back rows pool₀)))
 
           module _ {q₁ s₁ : ℕ} (f : t ≡ More q₁ s₁) where
-            next-stretch : Stretched q₁ s₁ s (length text) (outside_piece (back (read_back rows pool₀)) dots text s) (inside_piece (back (read_back rows pool₀)) dots text s₁) d q d₁
-            next-stretch = let u : OutsideBy (More q₁ s₁) dots text s d q d₁ = rw f at v in u (back (read_back rows pool₀))
+            next_stretch : Stretched q₁ s₁ s (length text) (outside_piece (back (read_back rows pool₀)) dots text s) (inside_piece (back (read_back rows pool₀)) dots text s₁) d q d₁
+            next_stretch = let u : OutsideBy (More q₁ s₁) dots text s d q d₁ = rw f at v in u (back (read_back rows pool₀))
 
             pub going_less : length text - s₁ < length text - start
             going_less =
                 let a = stretched.past in
-                let b = next-stretch.past in
-                let c = next-stretch.inside in
+                let b = next_stretch.past in
+                let c = next_stretch.inside in
                 omega arith
 
             pub going_more : Going rows pool₀ at dots text d₁ s₁ q₁
             going_more =
-                let l = left_more (left_more k.left stretched) next-stretch in
-                record { inside = next-stretch.inside; size = written_length l.written; left = l }
+                let l = left_more (left_more k.left stretched) next_stretch in
+                record { inside = next_stretch.inside; size = written_length l.written; left = l }
 
-pub ruleset going = (going_starts, going-inside, going-indexed, going-full, going-last, plain-inside, plain-full, plain-last, going_less, going_more, rules)
+pub ruleset going = (going_starts, going_inside, going_indexed, going_full, going_last, plain_inside, plain_full, plain_last, going_less, going_more, rules)

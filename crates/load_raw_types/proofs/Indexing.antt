@@ -65,11 +65,11 @@ module _ {rows : List (List ℕ)} {pool index : List ℕ} {at : ℕ} (x : Indexe
   indexed_finds = x.finds
 
   module _ {q : ℕ} {b pool₁ : List ℕ} (w : Written q pool at b pool₁) where
-    pub read-back-put : read_back rows pool₁ ≡ read_back rows pool
-    read-back-put = read_back_below x.below w
+    pub read_back_put : read_back rows pool₁ ≡ read_back rows pool
+    read_back_put = read_back_below x.below w
 
-    pub indexed-put : Indexed rows pool₁ index q
-    indexed-put = record {
+    pub indexed_put : Indexed rows pool₁ index q
+    indexed_put = record {
       below = below_put x.below w;
       finds = index_kept Display rows pool pool₁ index
           (keys_alike Display rows pool pool₁ (λ i h. text_put w (unpack_class (get_or rows i [])).display (x.below.display_below i h)))
@@ -104,9 +104,9 @@ module _ {q : ℕ} {pool : List ℕ} {at : ℕ} (r d : List ℕ) {pool₁ : List
       ∙ take_at d (drop (at + length (r ++ d)) pool) (length d) refl
 
   module _ {rows : List (List ℕ)} (x : Below rows pool at) where
-    pub read-back-class :
+    pub read_back_class :
         read_back (rows ++ (row_at at r d ∷ [])) pool₁ ≡ read_back rows pool ++ (record { raw = r; display = d } ∷ [])
-    read-back-class =
+    read_back_class =
         let pair : pair_of pool₁ (row_at at r d) ≡ record { raw = r; display = d } =
         ap (λ y. record { raw = y; display = text_in pool₁ (text (at + length r) (length d)) }) raw_there
         ∙ ap (λ y. record { raw = r; display = y }) display_there in
@@ -130,8 +130,8 @@ module _ {q : ℕ} {pool : List ℕ} {at : ℕ} (r d : List ℕ) {pool₁ : List
               rw (← e, get_or_at rows (row_at at r d) [] [] (length rows) refl) new
           go (inr l) = rw (get_or-append rows (row_at at r d ∷ []) [] i l) (old i l)
 
-    pub below-class : Below (rows ++ (row_at at r d ∷ [])) pool₁ q
-    below-class =
+    pub below_class : Below (rows ++ (row_at at r d ∷ [])) pool₁ q
+    below_class =
         let put_there = below_put x w in
         let e = after in
         record {

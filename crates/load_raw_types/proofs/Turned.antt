@@ -14,7 +14,7 @@ use Rattle.ground.proofs.Parts.{take_rest}
 use Rattle.text_places.specs.declared.find.Place.{Place}
 use Rattle.text_places.specs.declared.find.Place.TheVariants.{At, Nowhere}
 use Rattle.text_places.specs.Places.{first_where, starts}
-use Rattle.text_places.proofs.PlaceLaws.{seeking_starts, seeking_ends, seeking-found, byte_here, from_here, from_inside}
+use Rattle.text_places.proofs.PlaceLaws.{seeking_starts, seeking_ends, seeking_found, byte_here, from_here, from_inside}
 use Rattle.table_pool.specs.declared.write.Wrote.{Wrote}
 use Rattle.table_pool.specs.declared.write.Wrote.TheVariants.{Done, NoRoom}
 use Rattle.ground.specs.Look.{Look, look_or}
@@ -65,7 +65,7 @@ module _ (b : ℕ) (s : List ℕ) where
   none_left h = seeking_ends (seeking_starts (starts b) s) (omega arith)
 
   pub stands_first : (length s ≡ 0 → ⊥) → get_or s 0 0 ≡ b → At 0 ≡ first_where (starts b) s
-  stands_first n e = seeking-found (seeking_starts (starts b) s) (omega arith) (byte_here b s 0 (omega arith) e)
+  stands_first n e = seeking_found (seeking_starts (starts b) s) (omega arith) (byte_here b s 0 (omega arith) e)
 
 pub ruleset standing = (none_left, stands_first, rules)
 
@@ -75,26 +75,26 @@ rest_of text at n m e = drop-drop n at text ∙ ap (λ k. drop k text) e
 -- A byte that is looked for from a place on.
 module _ (b : ℕ) (text : List ℕ) (start : ℕ) (i : start ≤ length text) {p : Place} (e : p ≡ first_where (starts b) (between text start (length text))) where
   module _ {n : ℕ} (f : p ≡ At n) where
-    pub gap-fits : length text < 2 ^ 64 → Fits w64 (start + n)
-    gap-fits z = let r = from_inside b text start i e f in omega arith
+    pub gap_fits : length text < 2 ^ 64 → Fits w64 (start + n)
+    gap_fits z = let r = from_inside b text start i e f in omega arith
 
-    pub gap-inside : start + n ≤ length text
-    gap-inside = let r = from_inside b text start i e f in omega arith
+    pub gap_inside : start + n ≤ length text
+    gap_inside = let r = from_inside b text start i e f in omega arith
 
-    pub gap-fits-past : length text < 2 ^ 64 → Fits w64 (start + n + 1)
-    gap-fits-past z = let r = from_inside b text start i e f in omega arith
+    pub gap_fits_past : length text < 2 ^ 64 → Fits w64 (start + n + 1)
+    gap_fits_past z = let r = from_inside b text start i e f in omega arith
 
 -- The piece that begins before `start`.
 module _ (look : List ℕ → Look) (dots : Bool) (text : List ℕ) (start : ℕ) (i : start ≤ length text) {p : Place} (e : p ≡ first_where (starts 0x3B) (between text start (length text))) (r : Wrote) (pool : List ℕ) (at : ℕ) (d : List ℕ) where
   module _ (f : p ≡ Nowhere) (w : WroteBy r pool at (look_or (class_piece dots (between text start (length text))) (look (class_piece dots (between text start (length text))))) d) where
-    all-written : WroteBy r pool at (inside_piece look dots text start) d
-    all-written = wrote_as r pool at d (rw (take_rest text start) (sym (piece_whole look dots (drop start text) (sym (from_here 0x3B text start e) ∙ f)))) w
+    all_written : WroteBy r pool at (inside_piece look dots text start) d
+    all_written = wrote_as r pool at d (rw (take_rest text start) (sym (piece_whole look dots (drop start text) (sym (from_here 0x3B text start e) ∙ f)))) w
 
-    pub last-piece : {q : ℕ} → r ≡ Done q → Written q pool at (inside_piece look dots text start) d
-    last-piece g = wrote_told r pool at (inside_piece look dots text start) d all-written g
+    pub last_piece : {q : ℕ} → r ≡ Done q → Written q pool at (inside_piece look dots text start) d
+    last_piece g = wrote_told r pool at (inside_piece look dots text start) d all_written g
 
-    pub last-piece-no-room : r ≡ NoRoom → length pool < at + length (inside_piece look dots text start)
-    last-piece-no-room g = wrote_none r pool at (inside_piece look dots text start) d all-written g
+    pub last_piece_no_room : r ≡ NoRoom → length pool < at + length (inside_piece look dots text start)
+    last_piece_no_room g = wrote_none r pool at (inside_piece look dots text start) d all_written g
 
   module _ {n : ℕ} (f : p ≡ At n) (w : WroteBy r pool at (look_or (class_piece dots (between text start (start + n))) (look (class_piece dots (between text start (start + n))))) d) where
     piece : List ℕ
@@ -117,11 +117,11 @@ module _ (look : List ℕ → Look) (dots : Bool) (text : List ℕ) (start : ℕ
       splits = split;
     }
 
-    pub first-piece-no-room : r ≡ NoRoom → length pool < at + length (inside_piece look dots text start)
+    pub first_piece_no_room : r ≡ NoRoom → length pool < at + length (inside_piece look dots text start)
     unfolding piece
-    first-piece-no-room g = rw split (none_then pool at piece (outside_piece look dots text (start + n + 1)) (wrote_none r pool at piece d w g))
+    first_piece_no_room g = rw split (none_then pool at piece (outside_piece look dots text (start + n + 1)) (wrote_none r pool at piece d w g))
 
-pub ruleset first_pieces = (gap-fits, gap-inside, gap-fits-past, last-piece, last-piece-no-room, first_piece, first-piece-no-room, rules)
+pub ruleset first_pieces = (gap_fits, gap_inside, gap_fits_past, last_piece, last_piece_no_room, first_piece, first_piece_no_room, rules)
 
 -- Between pieces.
 module _ (dots : Bool) (text : List ℕ) (start : ℕ) (i : start ≤ length text) {p : Place} (e : p ≡ first_where (starts 0x4C) (between text start (length text))) (r : Wrote) (pool : List ℕ) (at : ℕ) (d : List ℕ) where
@@ -129,11 +129,11 @@ module _ (dots : Bool) (text : List ℕ) (start : ℕ) (i : start ≤ length tex
     all_plain : WroteBy r pool at (outside_piece look dots text start) d
     all_plain = wrote_as r pool at d (rw (take_rest text start) (sym (plain_all look dots (drop start text) (sym (from_here 0x4C text start e) ∙ f)))) w
 
-    pub last-plain : {q : ℕ} → r ≡ Done q → Written q pool at (outside_piece look dots text start) d
-    last-plain g = wrote_told r pool at (outside_piece look dots text start) d all_plain g
+    pub last_plain : {q : ℕ} → r ≡ Done q → Written q pool at (outside_piece look dots text start) d
+    last_plain g = wrote_told r pool at (outside_piece look dots text start) d all_plain g
 
-    pub last-plain-no-room : r ≡ NoRoom → length pool < at + length (outside_piece look dots text start)
-    last-plain-no-room g = wrote_none r pool at (outside_piece look dots text start) d all_plain g
+    pub last_plain_no_room : r ≡ NoRoom → length pool < at + length (outside_piece look dots text start)
+    last_plain_no_room g = wrote_none r pool at (outside_piece look dots text start) d all_plain g
 
   module _ {n : ℕ} (f : p ≡ At n) (w : WroteBy r pool at (name_bytes dots (between text start (start + n))) d) (look : List ℕ → Look) where
     split_plain : outside_piece look dots text start ≡ name_bytes dots (between text start (start + n)) ++ inside_piece look dots text (start + n + 1)
@@ -151,8 +151,8 @@ module _ (dots : Bool) (text : List ℕ) (start : ℕ) (i : start ≤ length tex
       splits = split_plain;
     }
 
-    pub first-plain-no-room : r ≡ NoRoom → length pool < at + length (outside_piece look dots text start)
-    first-plain-no-room g =
+    pub first_plain_no_room : r ≡ NoRoom → length pool < at + length (outside_piece look dots text start)
+    first_plain_no_room g =
         rw split_plain (none_then pool at (name_bytes dots (between text start (start + n))) (inside_piece look dots text (start + n + 1)) (wrote_none r pool at (name_bytes dots (between text start (start + n))) d w g))
 
-pub ruleset plains = (gap-fits, gap-inside, gap-fits-past, last-plain, last-plain-no-room, first_plain, first-plain-no-room, rules)
+pub ruleset plains = (gap_fits, gap_inside, gap_fits_past, last_plain, last_plain_no_room, first_plain, first_plain_no_room, rules)

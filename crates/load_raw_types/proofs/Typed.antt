@@ -35,7 +35,7 @@ use Rattle.table_pool.specs.Inner.Named.{class_piece}
 use Rattle.table_pool.proofs.Naming.{name_plain}
 use Rattle.load_raw_types.specs.Inner.Behind.{Indexed}
 use Rattle.descriptor.proofs.Turning.{stays_step}
-use Rattle.load_raw_types.proofs.Indexing.{indexed-put, read-back-put}
+use Rattle.load_raw_types.proofs.Indexing.{indexed_put, read_back_put}
 use Rattle.load_raw_types.proofs.Pieces.{piece_whole}
 
 -- None of the nine letters is an `L`.
@@ -150,20 +150,20 @@ module _ {rows : List (List ℕ)} {pool index : List ℕ} {at : ℕ} (x : Indexe
     bracketed : Written q pool at (replicate t.brackets 0x5B) d
     bracketed = wrote_told r pool at (replicate t.brackets 0x5B) d w f
 
-    pub raw-indexed : Indexed rows d index q
-    raw-indexed = indexed-put x bracketed
+    pub raw_indexed : Indexed rows d index q
+    raw_indexed = indexed_put x bracketed
 
     module _ (v : Wrote) (d₁ : List ℕ) (u : WroteBy v d q (turn (back (read_back rows d)) (base_bytes t.base (between text t.start t.«end»))) d₁) where
       put : WroteBy v pool at (raw_type_of (read_back rows pool) text) d₁
       put =
           let b : List ℕ = turn (back (read_back rows pool)) (base_bytes t.base (between text t.start t.«end»)) in
-          let same : WroteBy v d q b d₁ = rw (read-back-put x bracketed) at u in
+          let same : WroteBy v d q b d₁ = rw (read_back_put x bracketed) at u in
           wrote_as v pool at d₁ (sym whole) (wrote_then v b d₁ bracketed same)
 
-      pub raw-none : v ≡ NoRoom → length pool < at + length (raw_type_of (read_back rows pool) text)
-      raw-none g = wrote_none v pool at (raw_type_of (read_back rows pool) text) d₁ put g
+      pub raw_none : v ≡ NoRoom → length pool < at + length (raw_type_of (read_back rows pool) text)
+      raw_none g = wrote_none v pool at (raw_type_of (read_back rows pool) text) d₁ put g
 
-      pub raw-done : {z : ℕ} → v ≡ Done z → Written z pool at (raw_type_of (read_back rows pool) text) d₁
-      raw-done g = wrote_told v pool at (raw_type_of (read_back rows pool) text) d₁ put g
+      pub raw_done : {z : ℕ} → v ≡ Done z → Written z pool at (raw_type_of (read_back rows pool) text) d₁
+      raw_done g = wrote_told v pool at (raw_type_of (read_back rows pool) text) d₁ put g
 
-pub ruleset raw_types = (type_order, type_inside, shape_base, raw_no_room, raw-indexed, raw-none, raw-done, rules)
+pub ruleset raw_types = (type_order, type_inside, shape_base, raw_no_room, raw_indexed, raw_none, raw_done, rules)

@@ -49,17 +49,17 @@ module _ {n : ℕ} {d : List ℕ} {first rest : ℕ} (s : Spelling n d first res
 
   module _ (h : 9 < rest) where
     -- a number of more than one digit does not start at the first place
-    pub spelling-first : 1 ≤ first
-    spelling-first = go first s.small
+    pub spelling_first : 1 ≤ first
+    spelling_first = go first s.small
       where
         go : (k : ℕ) → rest < 10 ^ suc k → 1 ≤ k
         go zero l = absurd (omega arith)
         go (suc k) l = omega arith
 
-    pub spelling-more : Spelling n (set d first (48 + rest % 10)) (first - 1) (rest / 10)
-    spelling-more =
+    pub spelling_more : Spelling n (set d first (48 + rest % 10)) (first - 1) (rest / 10)
+    spelling_more =
         let a = s.inside in
-        let b = spelling-first in
+        let b = spelling_first in
         let c : suc (first - 1) ≡ first = omega arith in
         let less : rest < 10 ^ first * 10 = rw (pow-suc 10 first) at s.small in
         let ten : 0 < 10 = omega arith in
@@ -74,8 +74,8 @@ module _ {n : ℕ} {d : List ℕ} {first rest : ℕ} (s : Spelling n d first res
               ∙ ap (λ l. l ++ drop (suc first) d) (sym (more_digits first rest h)) ∙ s.is);
         }
 
-    pub spelling-falls : rest / 10 < rest
-    spelling-falls = omega arith
+    pub spelling_falls : rest / 10 < rest
+    spelling_falls = omega arith
 
   -- the array still has ten places
   pub spelling_end : (x : ℕ) → 10 ≤ length (set d first x)
@@ -89,8 +89,8 @@ module _ {n : ℕ} {d : List ℕ} {first rest : ℕ} (s : Spelling n d first res
         ∙ take_rest (set d first (48 + rest % 10)) first ∙ drop_set d first (48 + rest % 10) spelling_inside
         ∙ ap (λ l. l ++ drop (suc first) d) (sym (one_digit first rest h)) ∙ s.is
 
-    pub spelling-ends : (r : Wrote) (out : List ℕ) (at : ℕ) (out₁ : List ℕ) →
+    pub spelling_ends : (r : Wrote) (out : List ℕ) (at : ℕ) (out₁ : List ℕ) →
         WroteBy r out at (between (set d first (48 + rest % 10)) first 10) out₁ → WroteBy r out at (decimal n) out₁
-    spelling-ends r out at out₁ w = wrote_as r out at out₁ whole w
+    spelling_ends r out at out₁ w = wrote_as r out at out₁ whole w
 
-pub ruleset spelling = (spelling_starts, spelling_inside, spelling-first, spelling-more, spelling-falls, spelling_end, spelling-ends, rules)
+pub ruleset spelling = (spelling_starts, spelling_inside, spelling_first, spelling_more, spelling_falls, spelling_end, spelling_ends, rules)

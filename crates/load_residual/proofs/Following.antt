@@ -34,7 +34,7 @@ use Rattle.load_residual.specs.Inner.Openings.{BlankLine, HashLine, OpensBy}
 use Rattle.load_residual.specs.Inner.Passes.{passed_of, Passes, none, blank, applied, idle, Looks}
 use Rattle.load_residual.proofs.Giving.{given_looks}
 use Rattle.load_residual.proofs.Local.{dark_cut, dark_ends}
-use Rattle.load_residual.proofs.Opened.{braceOf, comment-is, comment-gives}
+use Rattle.load_residual.proofs.Opened.{brace_of, comment_is, comment_gives}
 use Rattle.load_residual.proofs.Leading.{part_left, ink_length}
 use Rattle.load_residual.proofs.Passing.{passes_few}
 use Rattle.ground.proofs.Parts.{between_length, between_byte}
@@ -93,29 +93,29 @@ module _ {member : Bool} {s : List ℕ} {found : Residual} {k : Passed} (f : Fol
     few : k.blank + k.applied + k.idle < most_text
     few = let p = passes_few member s k f.passes in omega arith
 
-    pub follow-blanks : Fits w32 (k.blank + 1)
-    follow-blanks = let n = few in omega arith
+    pub follow_blanks : Fits w32 (k.blank + 1)
+    follow_blanks = let n = few in omega arith
 
-    pub follow-applied : Fits w32 (k.applied + 1)
-    follow-applied = let n = few in omega arith
+    pub follow_applied : Fits w32 (k.applied + 1)
+    follow_applied = let n = few in omega arith
 
-    pub follow-idle : Fits w32 (k.idle + 1)
-    follow-idle = let n = few in omega arith
+    pub follow_idle : Fits w32 (k.idle + 1)
+    follow_idle = let n = few in omega arith
 
   module _ (o : Opening) (g : OpensBy o s k.bytes) where
-    pub follow-other : o ≡ Other → Looks member s (record { residual = found; passed = k })
-    follow-other e = ended (rw e at g)
+    pub follow_other : o ≡ Other → Looks member s (record { residual = found; passed = k })
+    follow_other e = ended (rw e at g)
 
     module _ {n : ℕ} (e : o ≡ Blank n) where
       it : BlankLine s k.bytes n
       it = rw e at g
 
-      pub blank-falls : k.bytes < length s → length s - n < length s - k.bytes
-      blank-falls h = let t = it.taken in omega (arith, t.past, t.inside)
+      pub blank_falls : k.bytes < length s → length s - n < length s - k.bytes
+      blank_falls h = let t = it.taken in omega (arith, t.past, t.inside)
 
-      pub follow-blank : Following member s found (passed_of n (k.blank + 1) k.applied k.idle)
+      pub follow_blank : Following member s found (passed_of n (k.blank + 1) k.applied k.idle)
       unfolding residual_in
-      follow-blank = record {
+      follow_blank = record {
         decides =
             ap (λ x. or_look (heeded member x) (residual_look s found))
             (sym (ap residual_in it.taken.split ∙ ap (λ y. residual_by (between s k.bytes it.«end») y (residual_in (lines (drop n s)))) it.is))
@@ -125,67 +125,67 @@ module _ {member : Bool} {s : List ℕ} {found : Residual} {k : Passed} (f : Fol
       }
 
     module _ {hash : ℕ} (e : o ≡ Comment hash) where
-      at-hash : HashLine s k.bytes hash
-      at-hash = rw e at g
+      at_hash : HashLine s k.bytes hash
+      at_hash = rw e at g
 
       module _ {t : NextLine} (p : t ≡ next_line s hash) where
-        pub follow-none : t ≡ NoLine → Looks member s (record { residual = found; passed = k })
-        follow-none q = absurd (no_line hash (drop hash s) (omega (arith, length-drop hash s, at-hash.inside)) (sym p ∙ q))
+        pub follow_none : t ≡ NoLine → Looks member s (record { residual = found; passed = k })
+        follow_none q = absurd (no_line hash (drop hash s) (omega (arith, length-drop hash s, at_hash.inside)) (sym p ∙ q))
 
         module _ {a z n : ℕ} (q : t ≡ Line a z n) where
-          from-hash : next_line s hash ≡ Line hash z n
-          from-hash = let w = starts_there hash (drop hash s) (sym p ∙ q) in sym p ∙ q ∙ ap (λ b. Line b z n) (sym w)
+          from_hash : next_line s hash ≡ Line hash z n
+          from_hash = let w = starts_there hash (drop hash s) (sym p ∙ q) in sym p ∙ q ∙ ap (λ b. Line b z n) (sym w)
 
           taken : Taken s k.bytes k.bytes z n
-          taken = at-hash.takes z n from-hash
+          taken = at_hash.takes z n from_hash
 
-          pub hash-order : hash ≤ z
-          hash-order = let h = at-hash.past z n from-hash in omega arith
+          pub hash_order : hash ≤ z
+          hash_order = let h = at_hash.past z n from_hash in omega arith
 
-          pub hash-inside : z ≤ length s
-          hash-inside = taken.ends
+          pub hash_inside : z ≤ length s
+          hash_inside = taken.ends
 
-          pub comment-falls : k.bytes < length s → length s - n < length s - k.bytes
-          comment-falls h = omega (arith, taken.past, taken.inside)
+          pub comment_falls : k.bytes < length s → length s - n < length s - k.bytes
+          comment_falls h = omega (arith, taken.past, taken.inside)
 
           abbrev line : List ℕ
           line = between s k.bytes z
 
           trims : trim_start line ≡ hash - k.bytes
-          trims = at-hash.trims z (at-hash.past z n from-hash) taken.ends
+          trims = at_hash.trims z (at_hash.past z n from_hash) taken.ends
 
           shorter : trim_start line < length line
           shorter =
-              let h = at-hash.past z n from-hash in
-              let o₁ = at-hash.goes in
+              let h = at_hash.past z n from_hash in
+              let o₁ = at_hash.goes in
               let l = between_length s k.bytes z taken.ends in
               let w = trims in
               omega arith
 
           left : drop (trim_start line) line ≡ between s hash z
-          left = ap (λ j. drop j line) trims ∙ part_left s k.bytes z hash at-hash.goes hash-order
+          left = ap (λ j. drop j line) trims ∙ part_left s k.bytes z hash at_hash.goes hash_order
 
           stands : get_or line (trim_start line) 0 ≡ 0x23
-          stands = ap (λ j. get_or line j 0) trims ∙ between_byte s k.bytes z hash at-hash.goes (at-hash.past z n from-hash) ∙ at-hash.stands
+          stands = ap (λ j. get_or line j 0) trims ∙ between_byte s k.bytes z hash at_hash.goes (at_hash.past z n from_hash) ∙ at_hash.stands
 
           kept : 0 < trim_end (drop (trim_start line) line)
           kept =
-              let i = at-hash.inside in
-              let h = at-hash.past z n from-hash in
-              let b = at-hash.stands in
+              let i = at_hash.inside in
+              let h = at_hash.past z n from_hash in
+              let b = at_hash.stands in
               let dark = ink_length s hash i (omega arith) (omega arith) in
-              rw left (dark_ends (between s hash z) (dark_cut (drop hash s) (z - hash) dark) (omega (arith, between_length s hash z hash-inside)))
+              rw left (dark_ends (between s hash z) (dark_cut (drop hash s) (z - hash) dark) (omega (arith, between_length s hash z hash_inside)))
 
           brace : Place
-          brace = braceOf line shorter kept stands
+          brace = brace_of line shorter kept stands
 
           is : line_of line ≡ kinds.Comment brace
           unfolding brace
-          is = comment-is line shorter kept stands
+          is = comment_is line shorter kept stands
 
           says : signature_at line brace ≡ hash_gives (between s hash z)
           unfolding brace
-          says = comment-gives line shorter kept stands ∙ ap hash_gives left
+          says = comment_gives line shorter kept stands ∙ ap hash_gives left
 
           step : heeded member (residual_in (lines (drop k.bytes s))) ≡ or_look (heeded member (residual_in (lines (drop n s)))) (heeded member (hash_gives (between s hash z)))
           unfolding residual_in
@@ -207,15 +207,15 @@ module _ {member : Bool} {s : List ℕ} {found : Residual} {k : Passed} (f : Fol
             counted : both member (is_known (signature_at line brace)) ≡ b
             counted = counts w ∙ sym (given_looks s r) ∙ sym h
 
-            pub follow-idled : b ≡ false → Following member s found (passed_of n k.blank k.applied (k.idle + 1))
-            follow-idled y = record {
+            pub follow_idled : b ≡ false → Following member s found (passed_of n k.blank k.applied (k.idle + 1))
+            follow_idled y = record {
               decides = more found (ap (λ x. or_look x (residual_look s found)) (not_given s r (sym h ∙ y) ∙ w.look));
               lies = f.lies;
               passes = idle k k.bytes z n brace f.passes taken is (counted ∙ y);
             }
 
-            pub follow-gave : b ≡ true → Following member s r (passed_of n k.blank (k.applied + 1) k.idle)
-            follow-gave y = record {
+            pub follow_gave : b ≡ true → Following member s r (passed_of n k.blank (k.applied + 1) k.idle)
+            follow_gave y = record {
               decides = more r (given_first s r (residual_look s found) (sym h ∙ y) ∙ ap (λ x. or_look x (residual_look s found)) w.look);
               lies = w.lies;
               passes = applied k k.bytes z n brace f.passes taken is (counted ∙ y);
@@ -224,17 +224,17 @@ module _ {member : Bool} {s : List ℕ} {found : Residual} {k : Passed} (f : Fol
 pub ruleset following = (
   follow_starts,
   follow_ends,
-  follow-blanks,
-  follow-applied,
-  follow-idle,
-  follow-other,
-  blank-falls,
-  follow-blank,
-  follow-none,
-  hash-order,
-  hash-inside,
-  comment-falls,
-  follow-idled,
-  follow-gave,
+  follow_blanks,
+  follow_applied,
+  follow_idle,
+  follow_other,
+  blank_falls,
+  follow_blank,
+  follow_none,
+  hash_order,
+  hash_inside,
+  comment_falls,
+  follow_idled,
+  follow_gave,
   rules,
 )

@@ -38,30 +38,30 @@ module _ (s : List ℕ) {c : comment.Comment} (e : c ≡ comment_of s) where
     told : signature_of s ≡ pick (says_residual s id) (string_at s signature) unknown
     told = ap (signature_by s) (sym e ∙ f)
 
-    pub string-no-id : id ≡ stands.Missing → place_look s Nowhere ≡ signature_of s
-    string-no-id g = sym (told ∙ ap (λ i. pick (says_residual s i) (string_at s signature) unknown) g)
+    pub string_no_id : id ≡ stands.Missing → place_look s Nowhere ≡ signature_of s
+    string_no_id g = sym (told ∙ ap (λ i. pick (says_residual s i) (string_at s signature) unknown) g)
 
-    pub string-other-id : id ≡ stands.Other → place_look s Nowhere ≡ signature_of s
-    string-other-id g = sym (told ∙ ap (λ i. pick (says_residual s i) (string_at s signature) unknown) g)
+    pub string_other_id : id ≡ stands.Other → place_look s Nowhere ≡ signature_of s
+    string_other_id g = sym (told ∙ ap (λ i. pick (says_residual s i) (string_at s signature) unknown) g)
 
     module _ {named : ℕ} (g : id ≡ stands.Text named) {b : Bool} (h : b ≡ residual_of (chars_from 0 (drop named s))) where
-      by-id : {x : Bool} → b ≡ x → signature_of s ≡ pick x (string_at s signature) unknown
-      by-id t = told ∙ ap (λ i. pick (says_residual s i) (string_at s signature) unknown) g ∙ ap (λ k. pick k (string_at s signature) unknown) (sym h ∙ t)
+      by_id : {x : Bool} → b ≡ x → signature_of s ≡ pick x (string_at s signature) unknown
+      by_id t = told ∙ ap (λ i. pick (says_residual s i) (string_at s signature) unknown) g ∙ ap (λ k. pick k (string_at s signature) unknown) (sym h ∙ t)
 
-      pub string-idle : b ≡ false → place_look s Nowhere ≡ signature_of s
-      string-idle t = sym (by-id t)
+      pub string_idle : b ≡ false → place_look s Nowhere ≡ signature_of s
+      string_idle t = sym (by_id t)
 
       module _ (t : b ≡ true) where
-        pub string-missing : signature ≡ stands.Missing → place_look s Nowhere ≡ signature_of s
-        string-missing k = sym (by-id t ∙ ap (string_at s) k)
+        pub string_missing : signature ≡ stands.Missing → place_look s Nowhere ≡ signature_of s
+        string_missing k = sym (by_id t ∙ ap (string_at s) k)
 
-        pub string-other : signature ≡ stands.Other → place_look s Nowhere ≡ signature_of s
-        string-other k = sym (by-id t ∙ ap (string_at s) k)
+        pub string_other : signature ≡ stands.Other → place_look s Nowhere ≡ signature_of s
+        string_other k = sym (by_id t ∙ ap (string_at s) k)
 
-        pub string-there : {string : ℕ} → signature ≡ stands.Text string → place_look s (At string) ≡ signature_of s
-        string-there k = sym (by-id t ∙ ap (string_at s) k)
+        pub string_there : {string : ℕ} → signature ≡ stands.Text string → place_look s (At string) ≡ signature_of s
+        string_there k = sym (by_id t ∙ ap (string_at s) k)
 
-pub ruleset stringing = (string_unread, string-no-id, string-other-id, string-idle, string-missing, string-other, string-there, rules)
+pub ruleset stringing = (string_unread, string_no_id, string_other_id, string_idle, string_missing, string_other, string_there, rules)
 
 -- Nothing lies in every text.
 pub nothing_lies : (n : ℕ) → Lies (span 0 0) n
@@ -83,19 +83,19 @@ module _ (l : List ℕ) {brace : Place} where
   gives_no_brace e = record { look = sym (ap (signature_at l) e); lies = nothing_lies (length l) }
 
   module _ (k : line_of l ≡ kinds.Comment brace) {start : ℕ} (e : brace ≡ At start) {p : Span} (t : p ≡ trim_both l) where
-    pub json-order : start ≤ p.«end»
-    json-order = let h : start < p.«end» = rw t (brace_inside l (k ∙ ap kinds.Comment e)) in omega arith
+    pub json_order : start ≤ p.«end»
+    json_order = let h : start < p.«end» = rw t (brace_inside l (k ∙ ap kinds.Comment e)) in omega arith
 
-    pub json-inside : p.«end» ≤ length l
-    json-inside = rw t (trim_lies l).within
+    pub json_inside : p.«end» ≤ length l
+    json_inside = rw t (trim_lies l).within
 
-    pub gives-json : {r : Residual} → Gives l r (signature_of (between l start p.«end»)) → Gives l r (signature_at l brace)
-    gives-json g = record {
+    pub gives_json : {r : Residual} → Gives l r (signature_of (between l start p.«end»)) → Gives l r (signature_at l brace)
+    gives_json g = record {
       look = g.look ∙ sym (ap (signature_at l) e ∙ ap (λ x. signature_of (part_of l (span start x.«end»))) (sym t));
       lies = g.lies;
     }
 
-pub ruleset giving = (gives_no_brace, json-order, json-inside, gives-json, rules)
+pub ruleset giving = (gives_no_brace, json_order, json_inside, gives_json, rules)
 
 -- Whether there is one.
 pub given_looks : (s : List ℕ) (r : Residual) → is_given r ≡ is_known (residual_look s r)

@@ -33,11 +33,11 @@ module _ (s : List ℕ) (hash e : ℕ) where
     few : size ≤ e - hash
     few = let t = trim_end_inside (between s hash e) in let n = length-take (e - hash) (drop hash s) in omega arith
 
-    pub stop-fits : length s < 2 ^ 64 → Fits w64 (hash + size)
-    stop-fits b = let n = few in omega arith
+    pub stop_fits : length s < 2 ^ 64 → Fits w64 (hash + size)
+    stop_fits b = let n = few in omega arith
 
-    pub stop-inside : hash + size ≤ length s
-    stop-inside = let n = few in omega arith
+    pub stop_inside : hash + size ≤ length s
+    stop_inside = let n = few in omega arith
 
     -- what is left of the line once its end is trimmed
     trimmed : between s hash (hash + size) ≡ take (trim_end (between s hash e)) (between s hash e)
@@ -50,8 +50,8 @@ module _ (s : List ℕ) (hash e : ℕ) where
       found : hash_gives (between s hash e) ≡ braced_gives (between s hash (hash + size)) q
       found = sym (rw (g, trimmed))
 
-      pub no-brace : (member : Bool) → not member ≡ false → q ≡ Nowhere → Gives s Nothing (heeded member (hash_gives (between s hash e)))
-      no-brace member m z = go member m
+      pub no_brace : (member : Bool) → not member ≡ false → q ≡ Nowhere → Gives s Nothing (heeded member (hash_gives (between s hash e)))
+      no_brace member m z = go member m
         where
           go : (b : Bool) → not b ≡ false → Gives s Nothing (heeded b (hash_gives (between s hash e)))
           go true r = record { look = sym (found ∙ ap (braced_gives (between s hash (hash + size))) z); lies = nothing_lies (length s) }
@@ -66,11 +66,11 @@ module _ (s : List ℕ) (hash e : ℕ) where
             let w = first_inside (starts 0x7B) (between s hash (hash + size)) (sym g ∙ z) in
             omega arith
 
-        pub brace-fits : length s < 2 ^ 64 → Fits w64 (hash + gap)
-        brace-fits b = let n = few in let w = inside in omega arith
+        pub brace_fits : length s < 2 ^ 64 → Fits w64 (hash + gap)
+        brace_fits b = let n = few in let w = inside in omega arith
 
-        pub brace-order : hash + gap ≤ hash + size
-        brace-order = let w = inside in omega arith
+        pub brace_order : hash + gap ≤ hash + size
+        brace_order = let w = inside in omega arith
 
         json : drop gap (between s hash (hash + size)) ≡ between s (hash + gap) (hash + size)
         json =
@@ -80,12 +80,12 @@ module _ (s : List ℕ) (hash e : ℕ) where
         given : hash_gives (between s hash e) ≡ signature_of (between s (hash + gap) (hash + size))
         given = found ∙ ap (braced_gives (between s hash (hash + size))) z ∙ ap signature_of json
 
-        pub brace-gives : {r : Residual} → Gives s r (signature_of (between s (hash + gap) (hash + size))) → (member : Bool) → not member ≡ false →
+        pub brace_gives : {r : Residual} → Gives s r (signature_of (between s (hash + gap) (hash + size))) → (member : Bool) → not member ≡ false →
             Gives s r (heeded member (hash_gives (between s hash e)))
-        brace-gives {r} w member m = go member m
+        brace_gives {r} w member m = go member m
           where
             go : (b : Bool) → not b ≡ false → Gives s r (heeded b (hash_gives (between s hash e)))
             go true u = record { look = w.look ∙ sym given; lies = w.lies }
             go false u = clash refl u
 
-pub ruleset hashed = (unheeded, stop-fits, stop-inside, no-brace, brace-fits, brace-order, brace-gives, rules)
+pub ruleset hashed = (unheeded, stop_fits, stop_inside, no_brace, brace_fits, brace_order, brace_gives, rules)

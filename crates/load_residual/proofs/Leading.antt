@@ -20,7 +20,7 @@ use Rattle.ground.proofs.Parts.{drop_take, between_length, between_byte, parts_j
 use Rattle.text_places.specs.declared.lines.NextLine.TheVariants.{Line}
 use Rattle.text_places.specs.Lines.{cr_end, lines, Taken}
 use Rattle.text_places.specs.Inner.NextLine.{to_lf, next_line}
-use Rattle.text_places.proofs.LineLaws.{ToLf, lf_starts, lf_none, lf-found, cr_end_le, to_lf_le, line-ends-in-lf, line-ends-text, line_split}
+use Rattle.text_places.proofs.LineLaws.{ToLf, lf_starts, lf_none, lf_found, cr_end_le, to_lf_le, line_ends_in_lf, line_ends_text, line_split}
 use Rattle.text_places.proofs.BlockLaws.{lf_past}
 use Rattle.text_utf8.specs.declared.sequence.Sequence.TheVariants.{Good}
 use Rattle.text_utf8.specs.Utf8.{sequence_of, pieces_from}
@@ -78,16 +78,16 @@ module _ {s : List ℕ} {at i : ℕ} (k : Leading s at i) where
         let there : i + (j - i) ≡ j = omega arith in
         rw (get_or-drop i s (j - i) 0, there) at g.0
 
-    lead-more : Leading s at (i + m)
-    lead-more = record {
-      lf = lf_past s at m i k.lf fits.1 (λ j a b. no-lf j a b (le_or_lt j i));
+    lead_more : Leading s at (i + m)
+    lead_more = record {
+      lf = lf_past s at m i k.lf fits.1 (λ j a b. no_lf j a b (le_or_lt j i));
       trims = λ r. joined r;
       crs = λ j a b. cr j a b (le_or_lt i j) (le_or_lt j i);
     }
       where
-        no-lf : (j : ℕ) → i ≤ j → j < i + m → (j ≤ i) ⊎ (i < j) → get_or s j 0 ≡ 0x0A → ⊥
-        no-lf j a b (inl o) = let q : j ≡ i = omega arith in rw q n
-        no-lf j a b (inr o) = λ c. let g = inner j o b in omega arith
+        no_lf : (j : ℕ) → i ≤ j → j < i + m → (j ≤ i) ⊎ (i < j) → get_or s j 0 ≡ 0x0A → ⊥
+        no_lf j a b (inl o) = let q : j ≡ i = omega arith in rw q n
+        no_lf j a b (inr o) = λ c. let g = inner j o b in omega arith
 
         joined : (r : List ℕ) → trim_start (between s at (i + m) ++ r) ≡ i + m - at + trim_start r
         joined r =
@@ -102,41 +102,41 @@ module _ {s : List ℕ} {at i : ℕ} (k : Leading s at i) where
         cr j a b (inl o) (inl u) c = let q : j ≡ i = omega arith in rw q whole
         cr j a b (inl o) (inr u) c = absurd (let g = inner j u b in omega arith)
 
-    more-fits : length s < 2 ^ 64 → Fits w64 (i + m)
-    more-fits b = let f = fits in omega arith
+    more_fits : length s < 2 ^ 64 → Fits w64 (i + m)
+    more_fits b = let f = fits in omega arith
 
-    more-falls : length s - (i + m) < length s - i
-    more-falls = let f = fits in omega arith
+    more_falls : length s - (i + m) < length s - i
+    more_falls = let f = fits in omega arith
 
   module _ (h : i < length s) where
-    pub lead-space : get_or s i 0 ≡ 0x20 → Leading s at (i + 1)
-    lead-space c = lead-more (sym (sequence_ascii s i h (omega arith))) (space_white (get_or s i 0) c) (λ z. omega arith)
+    pub lead_space : get_or s i 0 ≡ 0x20 → Leading s at (i + 1)
+    lead_space c = lead_more (sym (sequence_ascii s i h (omega arith))) (space_white (get_or s i 0) c) (λ z. omega arith)
 
-    pub lead-cr : get_or s i 0 ≡ 0x0D → Leading s at (i + 1)
-    lead-cr c = lead-more (sym (sequence_ascii s i h (omega arith))) (cr_white (get_or s i 0) c) (λ z. omega arith)
+    pub lead_cr : get_or s i 0 ≡ 0x0D → Leading s at (i + 1)
+    lead_cr c = lead_more (sym (sequence_ascii s i h (omega arith))) (cr_white (get_or s i 0) c) (λ z. omega arith)
 
     module _ (n : get_or s i 0 ≡ 0x0A → ⊥) {r : Bool} (f : r ≡ true → sequence_of (drop i s) ≡ Good 0x3000 3) (t : r ≡ true) where
-      pub lead-wide : Leading s at (i + 3)
-      lead-wide = lead-more (f t) wide_white n
+      pub lead_wide : Leading s at (i + 3)
+      lead_wide = lead_more (f t) wide_white n
 
       pub wide_fits : length s < 2 ^ 64 → Fits w64 (i + 3)
-      wide_fits = more-fits (f t) wide_white n
+      wide_fits = more_fits (f t) wide_white n
 
-      pub wide-falls : length s - (i + 3) < length s - i
-      wide-falls = more-falls (f t) wide_white n
+      pub wide_falls : length s - (i + 3) < length s - i
+      wide_falls = more_falls (f t) wide_white n
 
     module _ (n : get_or s i 0 ≡ 0x0A → ⊥) {m : ℕ} (e : m ≡ white_length (drop i s)) (z : m ≡ 0 → ⊥) where
       reads : (d : ℕ) × (sequence_of (drop i s) ≡ Good d m) × (is_white d ≡ true)
       reads = white_length_reads (drop i s) m (sym e) (omega arith)
 
-      pub lead-white : Leading s at (i + m)
-      lead-white = lead-more reads.1 reads.2 n
+      pub lead_white : Leading s at (i + m)
+      lead_white = lead_more reads.1 reads.2 n
 
-      pub white-fits : length s < 2 ^ 64 → Fits w64 (i + m)
-      white-fits = more-fits reads.1 reads.2 n
+      pub white_fits : length s < 2 ^ 64 → Fits w64 (i + m)
+      white_fits = more_fits reads.1 reads.2 n
 
-      pub white-falls : length s - (i + m) < length s - i
-      white-falls = more-falls reads.1 reads.2 n
+      pub white_falls : length s - (i + m) < length s - i
+      white_falls = more_falls reads.1 reads.2 n
 
 -- The CR at the end of a line.
 cr_stands : (l : List ℕ) → cr_end l < length l → get_or l (cr_end l) 0 ≡ 0x0D
@@ -215,14 +215,14 @@ module _ {s : List ℕ} {at i : ℕ} (k : Leading s at i) (start : at < length s
   pub lead_blank : i < length s → get_or s i 0 ≡ 0x0A → OpensBy (Blank (i + 1)) s at
   lead_blank h c = record {
     «end» = at + cr_end (between s at i);
-    taken = line_split s at (sym (line-ends-in-lf s at (lf-found k.lf h c) start refl h));
+    taken = line_split s at (sym (line_ends_in_lf s at (lf_found k.lf h c) start refl h));
     is = blank_here;
   }
 
   pub lead_ends : length s ≤ i → OpensBy (Blank i) s at
   lead_ends h = record {
     «end» = at + cr_end (between s at i);
-    taken = line_split s at (sym (line-ends-text s at (lf_none k.lf h) start refl h));
+    taken = line_split s at (sym (line_ends_text s at (lf_none k.lf h) start refl h));
     is = blank_here;
   }
 
@@ -294,16 +294,16 @@ module _ {s : List ℕ} {at i : ℕ} (k : Leading s at i) (h : i < length s) (z 
       go (inl l) = record {
         «end» = i + cr_end (between s i last);
         next = last;
-        here = sym (line-ends-text s i refl h refl l);
-        there = sym (line-ends-text s at k.lf.decides start refl l) ∙ ap (λ e. Line at e last) cr_same;
+        here = sym (line_ends_text s i refl h refl l);
+        there = sym (line_ends_text s at k.lf.decides start refl l) ∙ ap (λ e. Line at e last) cr_same;
         behind = let c = cr_past in omega arith;
         inside = few;
       }
       go (inr l) = record {
         «end» = i + cr_end (between s i last);
         next = last + 1;
-        here = sym (line-ends-in-lf s i refl h refl l);
-        there = sym (line-ends-in-lf s at k.lf.decides start refl l) ∙ ap (λ e. Line at e (last + 1)) cr_same;
+        here = sym (line_ends_in_lf s i refl h refl l);
+        there = sym (line_ends_in_lf s at k.lf.decides start refl l) ∙ ap (λ e. Line at e (last + 1)) cr_same;
         behind = let c = cr_past in omega arith;
         inside = few;
       }
@@ -348,26 +348,26 @@ module _ {s : List ℕ} {at i : ℕ} (k : Leading s at i) (h : i < length s) whe
   lead_hash c = hash_here k h (ink_length s i h (omega arith) (omega arith)) c
 
   module _ (n : get_or s i 0 ≡ 0x23 → ⊥) where
-    pub lead-ink : 0x20 < get_or s i 0 → get_or s i 0 < 0x80 → OpensBy Other s at
-    lead-ink a b = other_here k h (ink_length s i h a b) n
+    pub lead_ink : 0x20 < get_or s i 0 → get_or s i 0 < 0x80 → OpensBy Other s at
+    lead_ink a b = other_here k h (ink_length s i h a b) n
 
-    pub lead-other : {m : ℕ} → m ≡ white_length (drop i s) → m ≡ 0 → OpensBy Other s at
-    lead-other e z = other_here k h (sym e ∙ z) n
+    pub lead_other : {m : ℕ} → m ≡ white_length (drop i s) → m ≡ 0 → OpensBy Other s at
+    lead_other e z = other_here k h (sym e ∙ z) n
 
 pub ruleset leading = (
   lead_starts,
-  lead-space,
-  lead-cr,
-  lead-wide,
+  lead_space,
+  lead_cr,
+  lead_wide,
   wide_fits,
-  wide-falls,
-  lead-white,
-  white-fits,
-  white-falls,
+  wide_falls,
+  lead_white,
+  white_fits,
+  white_falls,
   lead_blank,
   lead_ends,
   lead_hash,
-  lead-ink,
-  lead-other,
+  lead_ink,
+  lead_other,
   rules,
 )

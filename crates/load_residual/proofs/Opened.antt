@@ -27,7 +27,7 @@ use Rattle.line_parts.specs.Methods.{method_of}
 use Rattle.line.specs.Kinds.{place_from, class_by, class_at, method_by, field_by, by_side, member_by, member_at, line_of}
 use Rattle.ground.specs.Look.{Look, unknown}
 use Rattle.load_rule.specs.Comments.{signature_at, residual_by}
-use Rattle.line.proofs.Kinding.{line-comment, line_member, line_class}
+use Rattle.line.proofs.Kinding.{line_comment, line_member, line_class}
 use Rattle.load_residual.specs.Inner.Residuals.{braced_gives, hash_gives}
 
 -- Class lines and member lines, faulty ones too, give nothing to the line before them.
@@ -71,16 +71,16 @@ module _ (l : List ℕ) (h : trim_start l < length l) (kept : 0 < trim_end (drop
 
   module _ (c : get_or l (trim_start l) 0 ≡ 0x23) where
     -- the place of its first `{`
-    pub braceOf : Place
-    braceOf = place_from (trim_start l) (first_where (starts 0x7B) (part_of l (trim_both l)))
+    pub brace_of : Place
+    brace_of = place_from (trim_start l) (first_where (starts 0x7B) (part_of l (trim_both l)))
 
-    pub comment-is : line_of l ≡ kinds.Comment braceOf
-    unfolding braceOf
-    comment-is = sym (line-comment l refl some c refl)
+    pub comment_is : line_of l ≡ kinds.Comment brace_of
+    unfolding brace_of
+    comment_is = sym (line_comment l refl some c refl)
 
-    pub comment-gives : signature_at l braceOf ≡ hash_gives (drop (trim_start l) l)
-    unfolding braceOf
-    comment-gives = rw cut (go (first_where (starts 0x7B) (take (trim_end (drop (trim_start l) l)) (drop (trim_start l) l))))
+    pub comment_gives : signature_at l brace_of ≡ hash_gives (drop (trim_start l) l)
+    unfolding brace_of
+    comment_gives = rw cut (go (first_where (starts 0x7B) (take (trim_end (drop (trim_start l) l)) (drop (trim_start l) l))))
       where
         cut : part_of l (trim_both l) ≡ take (trim_end (drop (trim_start l) l)) (drop (trim_start l) l)
         cut = let e : trim_start l + trim_end (drop (trim_start l) l) - trim_start l ≡ trim_end (drop (trim_start l) l) = omega arith in rw e

@@ -27,8 +27,8 @@ way_as e w = rw e at w
 
 module _ (s : List ℕ) (ls : List (List ℕ)) (n : Lent) where
   module _ {f : Fates} (p : Passed s ls f) where
-    fitting-way : Way s ls n (fitting f ls (counting n))
-    fitting-way =
+    fitting_way : Way s ls n (fitting f ls (counting n))
+    fitting_way =
         go (eqb f.class 0) refl (ltb (min n.classes most_classes) f.class) refl (ltb (min n.members most_members) (f.field + f.method)) refl
         (ltb (min n.pool most_pool) (length (pool_of ls))) refl
       where
@@ -54,7 +54,7 @@ module _ (s : List ℕ) (ls : List (List ℕ)) (n : Lent) where
     where
       go : (o : Scan) → scan_of ls ≡ o → Way s ls n (scanned o ls (counting n))
       go (scan.Faulty number line) e = faulty r e
-      go (scan.Sound f) e = fitting-way (record { short = r.short; valid = r.valid; sound = e })
+      go (scan.Sound f) e = fitting_way (record { short = r.short; valid = r.valid; sound = e })
 
   checked_way : length s ≤ most_text → Way s ls n (checked (check_of s) ls (counting n))
   checked_way h = go (check_of s) refl

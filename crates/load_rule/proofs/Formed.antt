@@ -23,7 +23,7 @@ use Rattle.table_rows.specs.declared.rows.Ranges.TheVariants.{None, Display, Bot
 use Rattle.tables.specs.declared.check.Used.{Used}
 use Rattle.table_rows.specs.Rows.{flag_of, zero_class, zero_member}
 use Rattle.tables.specs.Check.{all_of, class_fine, member_fine, well_formed}
-use Rattle.tables.proofs.Checking.{FineText, all_none, all_cons, FineCounts, class-fine, member_fine_lem, well_formed_rows}
+use Rattle.tables.proofs.Checking.{FineText, all_none, all_cons, FineCounts, class_fine_lem, member_fine_lem, well_formed_rows}
 use Rattle.tables.proofs.Holding.{Holds, holds_all, holds_as, holds_first, holds_second, holds_fine, nothing_fine}
 use Rattle.load_rule.specs.declared.Fates.{Fates}
 use Rattle.load_rule.specs.declared.Load.TheVariants.{Loaded}
@@ -94,7 +94,7 @@ entries_below cs u (l ∷ ls) (e, c) =
 module _ (pool : List ℕ) (used : Used) where
   class_row_fine : (p : ℕ) (c : Pair) → Utf8Octets c.raw → Utf8Octets c.display → Holds pool used p (class_text c) → class_fine pool used (class_row p c) ≡ true
   class_row_fine p c r d h =
-      class-fine pool used (class_row p c)
+      class_fine_lem pool used (class_row p c)
       (record { raw = holds_fine (holds_first c.raw c.display h) r; display = holds_fine (holds_second c.raw c.display h) d })
 
   class_rows_fine : {cs : List Pair} → Pairs cs → (p : ℕ) → Holds pool used p (class_pool cs) → all_of (class_fine pool used) (class_rows p cs) ≡ true
@@ -136,7 +136,7 @@ module _ (pool : List ℕ) (used : Used) where
         class_row_lem = l;
         kind = kind_fine e.kind;
         flag = flag_fine e.class p e.raw_name e.descriptor e.name e.kind;
-        raw-name = holds_fine (holds_first e.raw_name (e.descriptor ++ display_text e.name e.kind) h) a;
+        raw_name_lem = holds_fine (holds_first e.raw_name (e.descriptor ++ display_text e.name e.kind) h) a;
         descriptor = holds_fine (holds_first e.descriptor (display_text e.name e.kind) rest) b;
         name = holds_fine (name_held (p + length e.raw_name + length e.descriptor) e.name e.kind last) c;
         owner = owner_fine (p + length e.raw_name + length e.descriptor) e.name e.kind w last;
@@ -181,11 +181,11 @@ module _ (s : List ℕ) (ls : List (List ℕ)) (n : Lent) {f : Fates} {names : �
     pub whole : Holds (pool_of ls ++ rest) (used_of f names) 0 (pool_of ls)
     whole = holds_all (pool_of ls) rest (used_of f names) fitted.named
 
-    classes-fine : Pairs (classes_of ls) → all_of (class_fine (pool_of ls ++ rest) (used_of f names)) (class_rows_of ls) ≡ true
-    classes-fine p = class_rows_fine (pool_of ls ++ rest) (used_of f names) p 0 (holds_first (class_pool (classes_of ls)) (entry_pool (entries_of ls)) whole)
+    classes_fine : Pairs (classes_of ls) → all_of (class_fine (pool_of ls ++ rest) (used_of f names)) (class_rows_of ls) ≡ true
+    classes_fine p = class_rows_fine (pool_of ls ++ rest) (used_of f names) p 0 (holds_first (class_pool (classes_of ls)) (entry_pool (entries_of ls)) whole)
 
-    members-fine : Entries (entries_of ls) → all_of (member_fine (pool_of ls ++ rest) (used_of f names)) (member_rows_of ls) ≡ true
-    members-fine q =
+    members_fine : Entries (entries_of ls) → all_of (member_fine (pool_of ls ++ rest) (used_of f names)) (member_rows_of ls) ≡ true
+    members_fine q =
         entry_rows_fine (pool_of ls ++ rest) (used_of f names) q under_classes (length (class_pool (classes_of ls)))
         (holds_as (omega arith) (holds_second (class_pool (classes_of ls)) (entry_pool (entries_of ls)) whole))
 
@@ -215,7 +215,7 @@ module _ (s : List ℕ) (ls : List (List ℕ)) (n : Lent) {f : Fates} {names : �
       rw (a, b, c)
       (well_formed_rows (class_rows_of ls) (replicate (n.classes - length (class_rows_of ls)) zero_class)
       (member_rows_of ls) (replicate (n.members - length (member_rows_of ls)) zero_member)
-      (pool_of ls ++ rest) (used_of f names) class_rows_total member_rows_total counts_fine_lem (classes-fine rest p) (members-fine rest q))
+      (pool_of ls ++ rest) (used_of f names) class_rows_total member_rows_total counts_fine_lem (classes_fine rest p) (members_fine rest q))
 
   octets : Utf8Octets s
   octets = (valid_iff s).0 fitted.passed.valid

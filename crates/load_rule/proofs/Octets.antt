@@ -48,15 +48,15 @@ look_first unknown b o w = w
 signature_look : (s : List ℕ) → Utf8Octets s → LookOctets (signature_of s)
 signature_look s o = go (comment_of s) refl
   where
-    by-id : (b : Bool) {i : Stands} (g : Stands) → comment_of s ≡ Readable i g → LookOctets (pick b (string_at s g) unknown)
-    by-id true stands.Missing e = tt
-    by-id true stands.Other e = tt
-    by-id true (stands.Text p) e = signature_octets s e refl o
-    by-id false g e = tt
+    by_id : (b : Bool) {i : Stands} (g : Stands) → comment_of s ≡ Readable i g → LookOctets (pick b (string_at s g) unknown)
+    by_id true stands.Missing e = tt
+    by_id true stands.Other e = tt
+    by_id true (stands.Text p) e = signature_octets s e refl o
+    by_id false g e = tt
 
     go : (c : comment.Comment) → comment_of s ≡ c → LookOctets (signature_by s c)
     go Unreadable e = tt
-    go (Readable i g) e = by-id (says_residual s i) g e
+    go (Readable i g) e = by_id (says_residual s i) g e
 
 residual_look_lem : (l : List ℕ) (k : Line) → LineOctets l (trim_both l).«end» k → (later : Look) → LookOctets later → LookOctets (residual_by l k later)
 residual_look_lem l Blank o later w = w

@@ -34,13 +34,13 @@ module _ (member : Bool) (l : List ℕ) {k : Line} where
   fated_method e g = g ∙ sym (ap (fate_of member l) e)
 
   module _ {brace : Place} (e : k ≡ kinds.Comment brace) where
-    pub fated-kind : line_of l ≡ k → line_of l ≡ kinds.Comment brace
-    fated-kind h = h ∙ e
+    pub fated_kind : line_of l ≡ k → line_of l ≡ kinds.Comment brace
+    fated_kind h = h ∙ e
 
-    pub fated-comment : member ≡ true → {b : Bool} → b ≡ is_known (signature_at l brace) → {x : Fate} → x ≡ comment_fate b → x ≡ fate_of member l k
-    fated-comment t h g = g ∙ sym (ap (fate_of member l) e ∙ rw (t, ← h))
+    pub fated_comment : member ≡ true → {b : Bool} → b ≡ is_known (signature_at l brace) → {x : Fate} → x ≡ comment_fate b → x ≡ fate_of member l k
+    fated_comment t h g = g ∙ sym (ap (fate_of member l) e ∙ rw (t, ← h))
 
-    pub fated-idle : member ≡ false → {x : Fate} → x ≡ comment_fate false → x ≡ fate_of member l k
-    fated-idle t g = g ∙ sym (ap (fate_of member l) e ∙ rw t)
+    pub fated_idle : member ≡ false → {x : Fate} → x ≡ comment_fate false → x ≡ fate_of member l k
+    fated_idle t g = g ∙ sym (ap (fate_of member l) e ∙ rw t)
 
-pub ruleset fating = (fated_blank, fated_class, fated_field, fated_refused, fated_method, fated-kind, fated-comment, fated-idle, rules)
+pub ruleset fating = (fated_blank, fated_class, fated_field, fated_refused, fated_method, fated_kind, fated_comment, fated_idle, rules)

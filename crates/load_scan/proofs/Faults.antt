@@ -40,13 +40,13 @@ module _ (classes : ℕ) {r : Refusal} {number : ℕ} (n : number ≡ refusal_nu
     numbered : (y : Refusal) → r ≡ y → x ≡ ownerless classes (refusal_number y)
     numbered y e = f ∙ ap (ownerless classes) (n ∙ ap refusal_number e)
 
-    pub fault-member : r ≡ refusal.Member → x ≡ refused_fault classes r
-    fault-member e = numbered refusal.Member e ∙ sym (ap (refused_fault classes) e)
+    pub fault_member : r ≡ refusal.Member → x ≡ refused_fault classes r
+    fault_member e = numbered refusal.Member e ∙ sym (ap (refused_fault classes) e)
 
-    pub fault-method : r ≡ refusal.Method → x ≡ refused_fault classes r
-    fault-method e = numbered refusal.Method e ∙ sym (ap (refused_fault classes) e)
+    pub fault_method : r ≡ refusal.Method → x ≡ refused_fault classes r
+    fault_method e = numbered refusal.Method e ∙ sym (ap (refused_fault classes) e)
 
-    pub fault-field : r ≡ refusal.Field → x ≡ refused_fault classes r
-    fault-field e = numbered refusal.Field e ∙ sym (ap (refused_fault classes) e)
+    pub fault_field : r ≡ refusal.Field → x ≡ refused_fault classes r
+    fault_field e = numbered refusal.Field e ∙ sym (ap (refused_fault classes) e)
 
-pub ruleset refusing = (fault_class, fault-member, fault-method, fault-field, rules)
+pub ruleset refusing = (fault_class, fault_member, fault_method, fault_field, rules)

@@ -74,18 +74,18 @@ module _ (l : List ℕ) {kind : line.Line} (r : kind ≡ line_of l) where
     told : number ≡ fault_of classes (line_of l)
     told = x ∙ ap (fault_of classes) r
 
-    pub step-fault : (number ≡ 0 → ⊥) → steps.Faulty number ≡ step_of l a e n classes member
-    step-fault z = rw (← told, ne_eqb number 0 z)
+    pub step_fault : (number ≡ 0 → ⊥) → steps.Faulty number ≡ step_of l a e n classes member
+    step_fault z = rw (← told, ne_eqb number 0 z)
 
     module _ (z : number ≡ 0) {k : Fate} (y : k ≡ fate_of member l kind) {c : Bool} (w : c ≡ is_entered kind) where
-      pub step-passed : not c ≡ true → steps.Passed n k ≡ step_of l a e n classes member
-      step-passed h = rw (← told, eq-eqb number 0 z, ← r, ← w, not-true c h, y)
+      pub step_passed : not c ≡ true → steps.Passed n k ≡ step_of l a e n classes member
+      step_passed h = rw (← told, eq-eqb number 0 z, ← r, ← w, not-true c h, y)
 
       pub step_line : not c ≡ false → {has : Bool} → has ≡ member_after member kind →
           steps.Line (record { start = a; «end» = e; next = n; kind = kind; fate = k; has_member = has }) ≡ step_of l a e n classes member
       step_line h v = rw (← told, eq-eqb number 0 z, ← r, ← w, not-false c h, y, v)
 
-pub ruleset stepping = (step_kind, step-fault, step-passed, step_line, rules)
+pub ruleset stepping = (step_kind, step_fault, step_passed, step_line, rules)
 
 -- The step of the line at a place of a text.
 module _ (s : List ℕ) (at classes : ℕ) (member : Bool) {a e n : ℕ} (t : Taken s at a e n) where

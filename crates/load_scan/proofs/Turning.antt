@@ -73,19 +73,19 @@ module _ {x : SoFar} {f : Fates} {m : Bool} (o : x ≡ Sound f m) where
     unfolding stepped
     turn_end q = turned q
 
-    pub turn-fault : {number : ℕ} → t ≡ steps.Faulty number → Faulty number (f.lines + 1) ≡ with_line x l
+    pub turn_fault : {number : ℕ} → t ≡ steps.Faulty number → Faulty number (f.lines + 1) ≡ with_line x l
     unfolding stepped
-    turn-fault q = turned q
+    turn_fault q = turned q
 
-    pub turn-passed : {p : ℕ} {k : Fate} → t ≡ steps.Passed p k → {g : Fates} → g ≡ plus f (one k) → Sound g m ≡ with_line x l
+    pub turn_passed : {p : ℕ} {k : Fate} → t ≡ steps.Passed p k → {g : Fates} → g ≡ plus f (one k) → Sound g m ≡ with_line x l
     unfolding stepped
-    turn-passed q u = ap (λ g. Sound g m) u ∙ turned q
+    turn_passed q u = ap (λ g. Sound g m) u ∙ turned q
 
-    pub turn-line : {y : LineStep} → t ≡ steps.Line y → {g : Fates} → g ≡ plus f (one y.fate) → Sound g y.has_member ≡ with_line x l
+    pub turn_line : {y : LineStep} → t ≡ steps.Line y → {g : Fates} → g ≡ plus f (one y.fate) → Sound g y.has_member ≡ with_line x l
     unfolding stepped
-    turn-line {y} q u = ap (λ g. Sound g y.has_member) u ∙ turned q
+    turn_line {y} q u = ap (λ g. Sound g y.has_member) u ∙ turned q
 
-pub ruleset turning = (end_faulty, end_sound, turn_bounds, turn_fits, turn_end, turn-fault, turn-passed, turn-line, rules)
+pub ruleset turning = (end_faulty, end_sound, turn_bounds, turn_fits, turn_end, turn_fault, turn_passed, turn_line, rules)
 
 -- All lines.
 -- the answer for lines `ls` after those so far
@@ -142,15 +142,15 @@ module _ {s : List ℕ} {all : Scan} {at : ℕ} {x : SoFar} (k : Turning s all a
     taken : Taken s at a e n
     taken = line_taken s at (sym z) refl
 
-    pub turning-line : Turning s all n (with_line x (between s a e))
-    turning-line = record {
+    pub turning_line : Turning s all n (with_line x (between s a e))
+    turning_line = record {
       inside = taken.inside;
       bound = bound_line x (between s a e) at n taken.past k.bound;
       decides = sym (decide_line x (between s a e) (lines (drop n s))) ∙ sym (ap (decide x) taken.split) ∙ k.decides;
     }
 
-    pub turning-asks : length s ≤ most_text → (a ≤ e) × (e ≤ length s) × Countable x
-    turning-asks h = let t = taken in (t.order, t.ends, countable x at (omega (arith, t.past, t.inside)) k.bound)
+    pub turning_asks : length s ≤ most_text → (a ≤ e) × (e ≤ length s) × Countable x
+    turning_asks h = let t = taken in (t.order, t.ends, countable x at (omega (arith, t.past, t.inside)) k.bound)
 
-    pub turning-nearer : length s - n < length s - at
-    turning-nearer = let t = taken in omega (arith, t.past, t.inside)
+    pub turning_nearer : length s - n < length s - at
+    turning_nearer = let t = taken in omega (arith, t.past, t.inside)

@@ -84,16 +84,16 @@ module _ (d : List ℕ) (at : ℕ) (v d₁ : List ℕ) (u : Wrote) (k : WroteBy 
   copied_over m g = omega (arith, wrote_none u d at v d₁ k g, signature_longer m v)
 
   module _ {q : ℕ} (g : u ≡ Done q) where
-    pub copied-order : at ≤ q
-    copied-order = written_order (wrote_told u d at v d₁ k g)
+    pub copied_order : at ≤ q
+    copied_order = written_order (wrote_told u d at v d₁ k g)
 
-    pub copied-inside : q ≤ length d₁
-    copied-inside = written_inside (wrote_told u d at v d₁ k g)
+    pub copied_inside : q ≤ length d₁
+    copied_inside = written_inside (wrote_told u d at v d₁ k g)
 
-    pub copied-done : (m : Bool) (r : Wrote) (d₂ : List ℕ) → WroteBy r d₁ at (raw_signature m (between d₁ at q)) d₂ → WroteBy r d at (raw_signature m v) d₂
-    copied-done m r d₂ l = written_settled (wrote_told u d at v d₁ k g) m r d₂ l
+    pub copied_done : (m : Bool) (r : Wrote) (d₂ : List ℕ) → WroteBy r d₁ at (raw_signature m (between d₁ at q)) d₂ → WroteBy r d at (raw_signature m v) d₂
+    copied_done m r d₂ l = written_settled (wrote_told u d at v d₁ k g) m r d₂ l
 
-pub ruleset copying = (copied_over, copied-order, copied-inside, copied-done, rules)
+pub ruleset copying = (copied_over, copied_order, copied_inside, copied_done, rules)
 
 -- A string without escapes stands for its own bytes.
 module _ (s : List ℕ) (string : ℕ) {t : Place} {e : ℕ} (f : t ≡ plain_string s string) (h : t ≡ At e) (w : (i : ℕ) → Fits w8 (get_or s i 0)) where
@@ -142,21 +142,21 @@ module _ (o : Out (List ℕ)) (at : ℕ) (d d₁ : List ℕ) (m : Bool) {w : dec
     it : Written q d at (decoded o) d₁
     it = fitted o at d d₁ g (sym e ∙ h)
 
-    pub signature-order : at ≤ q
-    signature-order = written_order it
+    pub signature_order : at ≤ q
+    signature_order = written_order it
 
-    pub signature-done : (r : Wrote) (d₂ : List ℕ) → WroteBy r d₁ at (raw_signature m (between d₁ at q)) d₂ → WroteBy r d at (raw_signature m (decoded o)) d₂
-    signature-done r d₂ k = written_settled it m r d₂ k
+    pub signature_done : (r : Wrote) (d₂ : List ℕ) → WroteBy r d₁ at (raw_signature m (between d₁ at q)) d₂ → WroteBy r d at (raw_signature m (decoded o)) d₂
+    signature_done r d₂ k = written_settled it m r d₂ k
 
   module _ (h : w ≡ decodes.NoString) where
-    pub signature-none-inside : at ≤ length d → at ≤ length d₁
-    signature-none-inside i = rw (g ∙ (none o at d (sym e ∙ h)).1) i
+    pub signature_none_inside : at ≤ length d → at ≤ length d₁
+    signature_none_inside i = rw (g ∙ (none o at d (sym e ∙ h)).1) i
 
-    pub signature-none : (r : Wrote) (d₂ : List ℕ) → WroteBy r d₁ at (raw_signature m (between d₁ at at)) d₂ → WroteBy r d at (raw_signature m (decoded o)) d₂
-    signature-none r d₂ k =
+    pub signature_none : (r : Wrote) (d₂ : List ℕ) → WroteBy r d₁ at (raw_signature m (between d₁ at at)) d₂ → WroteBy r d at (raw_signature m (decoded o)) d₂
+    signature_none r d₂ k =
         let size : at - at ≡ 0 = omega arith in
         let nothing : between d₁ at at ≡ decoded o = ap (λ n. take n (drop at d₁)) size ∙ sym (none o at d (sym e ∙ h)).0 in
         let k₁ : WroteBy r d₁ at (raw_signature m (decoded o)) d₂ = rw nothing at k in
         rw (g ∙ (none o at d (sym e ∙ h)).1) at k₁
 
-pub ruleset signing = (signature_over, signature-order, decoded_inside, signature-done, signature-none-inside, signature-none, rules)
+pub ruleset signing = (signature_over, signature_order, decoded_inside, signature_done, signature_none_inside, signature_none, rules)

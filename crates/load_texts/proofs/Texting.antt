@@ -24,11 +24,11 @@ use Rattle.descriptor.specs.Signatures.{raw_signature}
 use Rattle.ground.specs.Look.{Look, known, unknown}
 use Rattle.table_rows.specs.Classes.{Pair}
 use Rattle.table_pool.specs.Inner.Wrote.{WroteBy, TwoAt, TwoBy}
-use Rattle.table_pool.proofs.Writes.{written_length, wrote_told, wrote_then, wrote_as, two_no_first, two-no-second, two-done, two_told, two_none}
+use Rattle.table_pool.proofs.Writes.{written_length, wrote_told, wrote_then, wrote_as, two_no_first, two_no_second, two_done, two_told, two_none}
 use Rattle.tables.specs.Back.{read_back}
 use Rattle.descriptor.specs.Raw.{raw_type_of}
 use Rattle.load_raw_types.specs.Inner.Behind.{Indexed}
-use Rattle.load_raw_types.proofs.Indexing.{read-back-put}
+use Rattle.load_raw_types.proofs.Indexing.{read_back_put}
 use Rattle.load_rule.specs.Comments.{residual_in}
 use Rattle.load_rule.specs.Members.{owner_of, types_descriptor}
 use Rattle.load_residual.specs.declared.residual.Residual.{Residual}
@@ -42,45 +42,45 @@ use Rattle.load_texts.specs.Inner.Texts.{BodyIn, MemberIn, is_method, display_ty
 use Rattle.table_pool.specs.declared.write.TwoTexts.{TwoTexts}
 use Rattle.table_pool.specs.declared.write.TwoTexts.TheVariants as two
 use Rattle.load_texts.specs.Inner.Places.{EnteredTexts}
-use Rattle.load_texts.proofs.Typing.{indexed-after}
+use Rattle.load_texts.proofs.Typing.{indexed_after}
 
 -- Parts of a body lie in its line.
 module _ {b : Body} (n : ℕ) (i : BodyIn b n) where
   module _ {declared : Span} (e : b ≡ Field declared) where
-    declared-lies : Lies declared n
-    declared-lies = rw e at i
+    declared_lies : Lies declared n
+    declared_lies = rw e at i
 
-    pub declared-order : declared.start ≤ declared.«end»
-    declared-order = declared-lies.order
+    pub declared_order : declared.start ≤ declared.«end»
+    declared_order = declared_lies.order
 
-    pub declared-inside : declared.«end» ≤ n
-    declared-inside = declared-lies.within
+    pub declared_inside : declared.«end» ≤ n
+    declared_inside = declared_lies.within
 
   module _ {m : method.Method} (e : b ≡ Method m) where
     method_lies : MethodIn m n
     method_lies = rw e at i
 
-    pub arguments-order : m.arguments.start ≤ m.arguments.«end»
-    arguments-order = method_lies.2.order
+    pub arguments_order : m.arguments.start ≤ m.arguments.«end»
+    arguments_order = method_lies.2.order
 
-    pub arguments-inside : m.arguments.«end» ≤ n
-    arguments-inside = method_lies.2.within
+    pub arguments_inside : m.arguments.«end» ≤ n
+    arguments_inside = method_lies.2.within
 
-    pub returned-order : m.returned.start ≤ m.returned.«end»
-    returned-order = method_lies.0.order
+    pub returned_order : m.returned.start ≤ m.returned.«end»
+    returned_order = method_lies.0.order
 
-    pub returned-inside : m.returned.«end» ≤ n
-    returned-inside = method_lies.0.within
+    pub returned_inside : m.returned.«end» ≤ n
+    returned_inside = method_lies.0.within
 
     module _ {owner name : Span} (f : m.named ≡ Owned owner name) where
-      owner-lies : NameIn (Owned owner name) n
-      owner-lies = rw f at method_lies.1
+      owner_lies : NameIn (Owned owner name) n
+      owner_lies = rw f at method_lies.1
 
       pub owner_order : owner.start ≤ owner.«end»
-      owner_order = owner-lies.0.order
+      owner_order = owner_lies.0.order
 
       pub owner_inside : owner.«end» ≤ n
-      owner_inside = owner-lies.0.within
+      owner_inside = owner_lies.0.within
 
 -- The owner.
 module _ (own l : List ℕ) {b : Body} (r : Wrote) (d : List ℕ) (at : ℕ) (d₁ : List ℕ) where
@@ -92,10 +92,10 @@ module _ (own l : List ℕ) {b : Body} (r : Wrote) (d : List ℕ) (at : ℕ) (d�
         WroteBy r d at (owner_text own l b) d₁
     owner_named f w = wrote_as r d at d₁ (sym (ap (owner_text own l) e ∙ ap (owner_of own l) f)) w
 
-    pub owner-own : {name : Span} → m.named ≡ Plain name → WroteBy r d at (class_descriptor own) d₁ → WroteBy r d at (owner_text own l b) d₁
-    owner-own f w = wrote_as r d at d₁ (sym (ap (owner_text own l) e ∙ ap (owner_of own l) f)) w
+    pub owner_own : {name : Span} → m.named ≡ Plain name → WroteBy r d at (class_descriptor own) d₁ → WroteBy r d at (owner_text own l b) d₁
+    owner_own f w = wrote_as r d at d₁ (sym (ap (owner_text own l) e ∙ ap (owner_of own l) f)) w
 
-pub ruleset owning = (owner_order, owner_inside, owner_none, owner_named, owner-own, rules)
+pub ruleset owning = (owner_order, owner_inside, owner_none, owner_named, owner_own, rules)
 
 -- Display types.
 module _ (cs : List Pair) (l : List ℕ) {b : Body} (r : Wrote) (d : List ℕ) (at : ℕ) (d₁ : List ℕ) where
@@ -109,33 +109,33 @@ module _ (cs : List Pair) (l : List ℕ) {b : Body} (r : Wrote) (d : List ℕ) (
   display_method e w = wrote_as r d at d₁ (sym (ap (display_types cs l) e)) w
 
 pub ruleset displaying =
-    (declared-order, declared-inside, arguments-order, arguments-inside, returned-order, returned-inside, display_field, display_method, rules)
+    (declared_order, declared_inside, arguments_order, arguments_inside, returned_order, returned_inside, display_field, display_method, rules)
 
 -- The raw descriptor.
 module _ (s : List ℕ) {r : Residual} (g : Gives s r (residual_in (lines s))) where
   module _ {a e p : ℕ} (f : r ≡ Text a e p) where
-    json-lies : Lies (json_part (Text a e p)) (length s)
-    json-lies = rw f at g.lies
+    json_lies : Lies (json_part (Text a e p)) (length s)
+    json_lies = rw f at g.lies
 
-    pub json-order : a ≤ e
-    json-order = json-lies.order
+    pub json_order : a ≤ e
+    json_order = json_lies.order
 
-    pub json-inside : e ≤ length s
-    json-inside = json-lies.within
+    pub json_inside : e ≤ length s
+    json_inside = json_lies.within
 
-    pub descriptor-signed : (cs : List Pair) (l : List ℕ) (b : Body) {m : Bool} → m ≡ is_method b → (w : Wrote) (d : List ℕ) (at : ℕ) (d₁ : List ℕ) →
+    pub descriptor_signed : (cs : List Pair) (l : List ℕ) (b : Body) {m : Bool} → m ≡ is_method b → (w : Wrote) (d : List ℕ) (at : ℕ) (d₁ : List ℕ) →
         WroteBy w d at (raw_signature m (decoded (chars_from 0 (drop p (between s a e))))) d₁ → WroteBy w d at (descriptor_text cs (residual_in (lines s)) l b) d₁
-    descriptor-signed cs l b h w d at d₁ k =
+    descriptor_signed cs l b h w d at d₁ k =
         let known_as : residual_in (lines s) ≡ known (decoded (chars_from 0 (drop p (between s a e)))) = sym (sym (ap (residual_look s) f) ∙ g.look) in
         wrote_as w d at d₁ (ap (λ x. raw_signature x (decoded (chars_from 0 (drop p (between s a e))))) h ∙ sym (ap (λ o. descriptor_text cs o l b) known_as)) k
 
   pub descriptor_displayed : r ≡ Nothing → (cs : List Pair) (l : List ℕ) (b : Body) (w : Wrote) (d : List ℕ) (at : ℕ) (d₁ : List ℕ) →
       WroteBy w d at (display_types cs l b) d₁ → WroteBy w d at (descriptor_text cs (residual_in (lines s)) l b) d₁
   descriptor_displayed f cs l b w d at d₁ k =
-      let unknown-as : residual_in (lines s) ≡ unknown = sym (sym (ap (residual_look s) f) ∙ g.look) in
-      wrote_as w d at d₁ (sym (ap (λ o. descriptor_text cs o l b) unknown-as)) k
+      let unknown_as : residual_in (lines s) ≡ unknown = sym (sym (ap (residual_look s) f) ∙ g.look) in
+      wrote_as w d at d₁ (sym (ap (λ o. descriptor_text cs o l b) unknown_as)) k
 
-pub ruleset describing = (json-order, json-inside, descriptor-signed, descriptor_displayed, rules)
+pub ruleset describing = (json_order, json_inside, descriptor_signed, descriptor_displayed, rules)
 
 -- The parts of a member line lie in it.
 module _ {m : MemberLine} {n : ℕ} (i : MemberIn m n) where
@@ -154,22 +154,22 @@ module _ {m : MemberLine} {n : ℕ} (i : MemberIn m n) where
   pub body_inside : BodyIn m.body n
   body_inside = i.body
 
-pub ruleset display_part = (name_order, name_inside_lem, body_inside, two_no_first, two-no-second, two-done, rules)
+pub ruleset display_part = (name_order, name_inside_lem, body_inside, two_no_first, two_no_second, two_done, rules)
 
 -- The raw part: its second text is made from the classes.
 module _ (rows : List (List ℕ)) (index d : List ℕ) (at : ℕ) (x : Indexed rows d index at) (a : List ℕ) (o : Look) (l : List ℕ) (b : Body) (r : Wrote) (d₁ : List ℕ) (w : WroteBy r d at a d₁) where
   module _ {m : ℕ} (e : r ≡ Done m) where
     module _ (r₂ : Wrote) (d₂ : List ℕ) (v : WroteBy r₂ d₁ m (descriptor_text (read_back rows d₁) o l b) d₂) where
       same : WroteBy r₂ d₁ m (descriptor_text (read_back rows d) o l b) d₂
-      same = wrote_as r₂ d₁ m d₂ (ap (λ cs. descriptor_text cs o l b) (read-back-put x (wrote_told r d at a d₁ w e))) v
+      same = wrote_as r₂ d₁ m d₂ (ap (λ cs. descriptor_text cs o l b) (read_back_put x (wrote_told r d at a d₁ w e))) v
 
-      pub raw-no-second : r₂ ≡ NoRoom → length d < at + length (a ++ descriptor_text (read_back rows d) o l b)
-      raw-no-second f = two-no-second d at a (descriptor_text (read_back rows d) o l b) r d₁ w e r₂ d₂ same f
+      pub raw_no_second : r₂ ≡ NoRoom → length d < at + length (a ++ descriptor_text (read_back rows d) o l b)
+      raw_no_second f = two_no_second d at a (descriptor_text (read_back rows d) o l b) r d₁ w e r₂ d₂ same f
 
-      pub raw-done : {q : ℕ} → r₂ ≡ Done q → TwoAt m q d at a (descriptor_text (read_back rows d) o l b) d₂
-      raw-done f = two-done d at a (descriptor_text (read_back rows d) o l b) r d₁ w e r₂ d₂ same f
+      pub raw_done : {q : ℕ} → r₂ ≡ Done q → TwoAt m q d at a (descriptor_text (read_back rows d) o l b) d₂
+      raw_done f = two_done d at a (descriptor_text (read_back rows d) o l b) r d₁ w e r₂ d₂ same f
 
-pub ruleset raw_part = (raw_order, raw_inside, body_inside, two_no_first, indexed-after, raw-no-second, raw-done, rules)
+pub ruleset raw_part = (raw_order, raw_inside, body_inside, two_no_first, indexed_after, raw_no_second, raw_done, rules)
 
 -- Both parts.
 abbrev four : List ℕ → List ℕ → List ℕ → List ℕ → MemberTexts
@@ -188,19 +188,19 @@ module _ (d : List ℕ) (at : ℕ) (a b c e : List ℕ) (r : TwoTexts) (d₁ : L
     together : (a ++ b) ++ (c ++ e) ≡ all_texts (four a b c e)
     together = append_assoc a b (c ++ e)
 
-    pub texts-no-display : r₂ ≡ two.NoRoom → length d < at + length (all_texts (four a b c e))
-    texts-no-display g =
+    pub texts_no_display : r₂ ≡ two.NoRoom → length d < at + length (all_texts (four a b c e))
+    texts_no_display g =
         let h = two_none r₂ d₁ q c e d₂ v g in
         let n = written_length front.written in
         let s = ap length together in
         omega (arith, front.written.past, length-append (a ++ b) (c ++ e))
 
-    pub texts-done : {m₂ q₂ : ℕ} → r₂ ≡ two.At m₂ q₂ → EnteredTexts (record { descriptor = m; name = q; owner = m₂; «end» = q₂ }) d at (four a b c e) d₂
-    texts-done {m₂} {q₂} g =
+    pub texts_done : {m₂ q₂ : ℕ} → r₂ ≡ two.At m₂ q₂ → EnteredTexts (record { descriptor = m; name = q; owner = m₂; «end» = q₂ }) d at (four a b c e) d₂
+    texts_done {m₂} {q₂} g =
         let later = two_told r₂ d₁ q c e d₂ v g in
         record {
           placed = record { descriptor = front.second; name = front.next; owner = later.second; «end» = later.next };
           written = wrote_as (Done q₂) d at d₂ together (wrote_then (Done q₂) (c ++ e) d₂ front.written later.written);
         }
 
-pub ruleset texts = (texts_no_raw, texts-no-display, texts-done, rules)
+pub ruleset texts = (texts_no_raw, texts_no_display, texts_done, rules)

@@ -22,7 +22,7 @@ use Rattle.table_pool.proofs.Writes.{written_length, wrote_told, wrote_none, wro
 use Rattle.tables.specs.Back.{read_back}
 use Rattle.descriptor.specs.Raw.{raw_type_of}
 use Rattle.load_raw_types.specs.Inner.Behind.{Indexed}
-use Rattle.load_raw_types.proofs.Indexing.{read-back-put, indexed-put}
+use Rattle.load_raw_types.proofs.Indexing.{read_back_put, indexed_put}
 use Rattle.load_rule.specs.Members.{argument_types, types_descriptor}
 use Rattle.ground.proofs.Joins.{join_more, join_append}
 
@@ -65,21 +65,21 @@ module _ {rows : List (List ℕ)} {index d : List ℕ} {at : ℕ} {s : List ℕ}
   arguing_ends h = ended (ap arguments_of (drop_of_length-le s h) ∙ no_arguments)
 
   module _ {t : NextArgument} (p : t ≡ next_argument s «from») where
-    pub arguing-none : t ≡ NoArgument → WroteBy (Done to) d at (argument_types (read_back rows d) (arguments_of s)) d₁
-    arguing-none q = ended (arguments_end s «from» (sym p ∙ q))
+    pub arguing_none : t ≡ NoArgument → WroteBy (Done to) d at (argument_types (read_back rows d) (arguments_of s)) d₁
+    arguing_none q = ended (arguments_end s «from» (sym p ∙ q))
 
     module _ (h : «from» < length s) {a e n : ℕ} (q : t ≡ Argument a e n) where
       splits : Splits s «from» a e n
       splits = arguments_split s «from» h (sym p ∙ q)
 
-      pub arguing-order : a ≤ e
-      arguing-order = splits.order
+      pub arguing_order : a ≤ e
+      arguing_order = splits.order
 
-      pub arguing-inside : e ≤ length s
-      arguing-inside = let x = splits.ends in let w = splits.within in omega arith
+      pub arguing_inside : e ≤ length s
+      arguing_inside = let x = splits.ends in let w = splits.within in omega arith
 
-      pub arguing-falls : length s - n < length s - «from»
-      arguing-falls = let x = splits.past in let w = splits.within in omega arith
+      pub arguing_falls : length s - n < length s - «from»
+      arguing_falls = let x = splits.past in let w = splits.within in omega arith
 
       next : arguments_of s ≡ k.done ++ (between s a e ∷ arguments_of (drop n s))
       next = k.split ∙ ap (λ l. k.done ++ l) splits.split
@@ -88,16 +88,16 @@ module _ {rows : List (List ℕ)} {index d : List ℕ} {at : ℕ} {s : List ℕ}
         here : WroteBy r d₁ to (raw_type_of (read_back rows d) (between s a e)) d₂
         here = rw k.same at w
 
-        pub arguing-room : r ≡ NoRoom → length d < at + length (argument_types (read_back rows d) (arguments_of s))
+        pub arguing_room : r ≡ NoRoom → length d < at + length (argument_types (read_back rows d) (arguments_of s))
         unfolding join
-        arguing-room f =
+        arguing_room f =
             let cs : List Pair = read_back rows d in
             let all : argument_types cs (arguments_of s) ≡ argument_types cs k.done ++ (raw_type_of cs (between s a e) ++ argument_types cs (arguments_of (drop n s))) =
             ap (argument_types cs) next ∙ join_append (raw_type_of cs) k.done (between s a e ∷ arguments_of (drop n s)) in
             rw all (none_after d (raw_type_of cs (between s a e)) (argument_types cs (arguments_of (drop n s))) k.written (wrote_none r d₁ to (raw_type_of cs (between s a e)) d₂ here f))
 
-        pub arguing-more : {q : ℕ} → r ≡ Done q → Arguing rows index d at s q n d₂
-        arguing-more {q} f =
+        pub arguing_more : {q : ℕ} → r ≡ Done q → Arguing rows index d at s q n d₂
+        arguing_more {q} f =
             let one : Written q d₁ to (raw_type_of (read_back rows d) (between s a e)) d₂ = wrote_told r d₁ to (raw_type_of (read_back rows d) (between s a e)) d₂ here f in
             let more : argument_types (read_back rows d) (k.done ++ (between s a e ∷ [])) ≡ argument_types (read_back rows d) k.done ++ raw_type_of (read_back rows d) (between s a e) =
             join_more (raw_type_of (read_back rows d)) k.done (between s a e) in
@@ -105,52 +105,52 @@ module _ {rows : List (List ℕ)} {index d : List ℕ} {at : ℕ} {s : List ℕ}
               done = k.done ++ (between s a e ∷ []);
               split = next ∙ sym (append_assoc k.done (between s a e ∷ []) (arguments_of (drop n s)));
               written = rw more (wrote_then (Done q) (raw_type_of (read_back rows d) (between s a e)) d₂ k.written one);
-              indexed = indexed-put k.indexed one;
-              same = read-back-put k.indexed one ∙ k.same;
+              indexed = indexed_put k.indexed one;
+              same = read_back_put k.indexed one ∙ k.same;
               size = written_length one ∙ k.size;
             }
 
-pub ruleset arguing = (arguing_starts, arguing_indexed, arguing_ends, arguing-none, arguing-order, arguing-inside, arguing-falls, arguing-room, arguing-more, rules)
+pub ruleset arguing = (arguing_starts, arguing_indexed, arguing_ends, arguing_none, arguing_order, arguing_inside, arguing_falls, arguing_room, arguing_more, rules)
 
 -- One text after another, of which the second is made from the classes.
 module _ (rows : List (List ℕ)) (index d : List ℕ) (at : ℕ) (x : Indexed rows d index at) (a : List ℕ) (r : Wrote) (d₁ : List ℕ) (w : WroteBy r d at a d₁) where
   module _ {q : ℕ} (e : r ≡ Done q) where
-    pub indexed-after : Indexed rows d₁ index q
-    indexed-after = indexed-put x (wrote_told r d at a d₁ w e)
+    pub indexed_after : Indexed rows d₁ index q
+    indexed_after = indexed_put x (wrote_told r d at a d₁ w e)
 
-    both-done : (f : List Pair → List ℕ) (r₂ : Wrote) (d₂ : List ℕ) → WroteBy r₂ d₁ q (f (read_back rows d₁)) d₂ → WroteBy r₂ d at (a ++ f (read_back rows d)) d₂
-    both-done f r₂ d₂ v =
+    both_done : (f : List Pair → List ℕ) (r₂ : Wrote) (d₂ : List ℕ) → WroteBy r₂ d₁ q (f (read_back rows d₁)) d₂ → WroteBy r₂ d at (a ++ f (read_back rows d)) d₂
+    both_done f r₂ d₂ v =
         let first = wrote_told r d at a d₁ w e in
-        wrote_then r₂ (f (read_back rows d)) d₂ first (wrote_as r₂ d₁ q d₂ (ap f (read-back-put x first)) v)
+        wrote_then r₂ (f (read_back rows d)) d₂ first (wrote_as r₂ d₁ q d₂ (ap f (read_back_put x first)) v)
 
 -- `(` and the arguments, `)` and the return type
 module _ (rows : List (List ℕ)) (index d : List ℕ) (at : ℕ) (x : Indexed rows d index at) (r : Wrote) (d₁ : List ℕ) where
   module _ (arguments : List (List ℕ)) (w : WroteBy r d at (0x28 ∷ []) d₁) where
-    pub opening-none : r ≡ NoRoom → length d < at + length (0x28 ∷ argument_types (read_back rows d) arguments)
-    opening-none e = two_no_first d at (0x28 ∷ []) (argument_types (read_back rows d) arguments) r d₁ w e
+    pub opening_none : r ≡ NoRoom → length d < at + length (0x28 ∷ argument_types (read_back rows d) arguments)
+    opening_none e = two_no_first d at (0x28 ∷ []) (argument_types (read_back rows d) arguments) r d₁ w e
 
-    pub opening-done : {q : ℕ} → r ≡ Done q → (r₂ : Wrote) (d₂ : List ℕ) → WroteBy r₂ d₁ q (argument_types (read_back rows d₁) arguments) d₂ →
+    pub opening_done : {q : ℕ} → r ≡ Done q → (r₂ : Wrote) (d₂ : List ℕ) → WroteBy r₂ d₁ q (argument_types (read_back rows d₁) arguments) d₂ →
         WroteBy r₂ d at (0x28 ∷ argument_types (read_back rows d) arguments) d₂
-    opening-done e r₂ d₂ v = both-done rows index d at x (0x28 ∷ []) r d₁ w e (λ cs. argument_types cs arguments) r₂ d₂ v
+    opening_done e r₂ d₂ v = both_done rows index d at x (0x28 ∷ []) r d₁ w e (λ cs. argument_types cs arguments) r₂ d₂ v
 
   module _ (returned : List ℕ) (w : WroteBy r d at (0x29 ∷ []) d₁) where
-    pub returned-none : r ≡ NoRoom → length d < at + length (0x29 ∷ raw_type_of (read_back rows d) returned)
-    returned-none e = two_no_first d at (0x29 ∷ []) (raw_type_of (read_back rows d) returned) r d₁ w e
+    pub returned_none : r ≡ NoRoom → length d < at + length (0x29 ∷ raw_type_of (read_back rows d) returned)
+    returned_none e = two_no_first d at (0x29 ∷ []) (raw_type_of (read_back rows d) returned) r d₁ w e
 
-    pub returned-done : {q : ℕ} → r ≡ Done q → (r₂ : Wrote) (d₂ : List ℕ) → WroteBy r₂ d₁ q (raw_type_of (read_back rows d₁) returned) d₂ →
+    pub returned_done : {q : ℕ} → r ≡ Done q → (r₂ : Wrote) (d₂ : List ℕ) → WroteBy r₂ d₁ q (raw_type_of (read_back rows d₁) returned) d₂ →
         WroteBy r₂ d at (0x29 ∷ raw_type_of (read_back rows d) returned) d₂
-    returned-done e r₂ d₂ v = both-done rows index d at x (0x29 ∷ []) r d₁ w e (λ cs. raw_type_of cs returned) r₂ d₂ v
+    returned_done e r₂ d₂ v = both_done rows index d at x (0x29 ∷ []) r d₁ w e (λ cs. raw_type_of cs returned) r₂ d₂ v
 
   module _ (arguments : List (List ℕ)) (returned : List ℕ) (w : WroteBy r d at (0x28 ∷ argument_types (read_back rows d) arguments) d₁) where
-    pub types-none : r ≡ NoRoom → length d < at + length (types_descriptor (read_back rows d) arguments returned)
-    types-none e = two_no_first d at (0x28 ∷ argument_types (read_back rows d) arguments) (0x29 ∷ raw_type_of (read_back rows d) returned) r d₁ w e
+    pub types_none : r ≡ NoRoom → length d < at + length (types_descriptor (read_back rows d) arguments returned)
+    types_none e = two_no_first d at (0x28 ∷ argument_types (read_back rows d) arguments) (0x29 ∷ raw_type_of (read_back rows d) returned) r d₁ w e
 
-    pub types-done : {q : ℕ} → r ≡ Done q → (r₂ : Wrote) (d₂ : List ℕ) → WroteBy r₂ d₁ q (0x29 ∷ raw_type_of (read_back rows d₁) returned) d₂ →
+    pub types_done : {q : ℕ} → r ≡ Done q → (r₂ : Wrote) (d₂ : List ℕ) → WroteBy r₂ d₁ q (0x29 ∷ raw_type_of (read_back rows d₁) returned) d₂ →
         WroteBy r₂ d at (types_descriptor (read_back rows d) arguments returned) d₂
-    types-done e r₂ d₂ v = both-done rows index d at x (0x28 ∷ argument_types (read_back rows d) arguments) r d₁ w e (λ cs. 0x29 ∷ raw_type_of cs returned) r₂ d₂ v
+    types_done e r₂ d₂ v = both_done rows index d at x (0x28 ∷ argument_types (read_back rows d) arguments) r d₁ w e (λ cs. 0x29 ∷ raw_type_of cs returned) r₂ d₂ v
 
-pub ruleset opening = (indexed-after, opening-none, opening-done, rules)
+pub ruleset opening = (indexed_after, opening_none, opening_done, rules)
 
-pub ruleset returning = (indexed-after, returned-none, returned-done, rules)
+pub ruleset returning = (indexed_after, returned_none, returned_done, rules)
 
-pub ruleset types = (indexed-after, types-none, types-done, rules)
+pub ruleset types = (indexed_after, types_none, types_done, rules)

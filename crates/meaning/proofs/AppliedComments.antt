@@ -176,11 +176,11 @@ applied_member false l Blank e = absurd (let z = ap fate_number e in omega arith
 applied_member false l (Comment brace) e = absurd (let z = ap fate_number e in omega arith)
 applied_member false l (Class display raw) e = absurd (let z = ap fate_number e in omega arith)
 applied_member false l (Field declared name raw) e = absurd (let z = ap fate_number e in omega arith)
-applied_member false l (Method m raw) e = not-method m.short e
+applied_member false l (Method m raw) e = not_method m.short e
   where
-    not-method : (b : Bool) → pick b fate.Short fate.Method ≡ fate.Applied → ◌≡◌ {A = Bool} false true
-    not-method true f = absurd (let z = ap fate_number f in omega arith)
-    not-method false f = absurd (let z = ap fate_number f in omega arith)
+    not_method : (b : Bool) → pick b fate.Short fate.Method ≡ fate.Applied → ◌≡◌ {A = Bool} false true
+    not_method true f = absurd (let z = ap fate_number f in omega arith)
+    not_method false f = absurd (let z = ap fate_number f in omega arith)
 applied_member false l (Refused r) e = absurd (let z = ap fate_number e in omega arith)
 
 -- A comment that is counted as applied has its member: the lines before it end with one, and blank lines and comments behind it.

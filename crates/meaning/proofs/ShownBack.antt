@@ -27,7 +27,7 @@ use Rattle.tree_rule.proofs.Sound.{read_sound}
 use Rattle.apply_rule.specs.declared.Applied.TheVariants.{Done}
 use Rattle.apply_rule.specs.Applying.{applied_tree, apply_answer}
 use Rattle.apply_rule.specs.Theorems.{GivenWhen, when_done}
-use Rattle.apply_rule.proofs.Answers.{given_iff, accepted-reads-back}
+use Rattle.apply_rule.proofs.Answers.{given_iff, accepted_reads_back}
 use Rattle.meaning.specs.TurnedBack.{displays_once, names_closed, shows_raw, names_unmistaken, of_tokens, turns_back}
 use Rattle.meaning.specs.Outcomes.{Applies, Typed}
 use Rattle.meaning.proofs.LoadedTables.{tables_back}
@@ -60,7 +60,7 @@ module _
       let accepted : apply_answer t (used_of f names) class file room ≡ Done n = sym a.answer in
       let tree : read_tree (take n out) ≡ applied_tree (mapping_of t (used_of f names)) class (read_tree file) =
       ap (λ o. read_tree (take n o)) a.output
-      ∙ accepted-reads-back t (used_of f names) class file room typed.rows typed.bytes accepted in
+      ∙ accepted_reads_back t (used_of f names) class file room typed.rows typed.bytes accepted in
       ap (of_tokens (turns_back (classes_of ls))) tree
       ∙ tree_back (mapping_of t (used_of f names)) ls (ap (λ m. m.classes) (tables_back load)) once closed class (read_tree file)
       (accepted_sound t (used_of f names) class file room typed.bytes accepted) raw clear

@@ -40,8 +40,8 @@ last_as e f l = rw (e, f) at l
 module _ (s v : List ℕ) where
   -- From the signature to the text.
   module _ {i g : Stands} (e : comment_of s ≡ Readable i g) (ms : List Named) (j : JsonText s ms) where
-    id-last : says_residual s i ≡ true → Last (ascii "id") (text residual_id) ms
-    id-last = go i refl
+    id_last : says_residual s i ≡ true → Last (ascii "id") (text residual_id) ms
+    id_last = go i refl
       where
         go : (x : Stands) → i ≡ x → says_residual s x ≡ true → Last (ascii "id") (text residual_id) ms
         go Missing q h = clash h refl
@@ -51,8 +51,8 @@ module _ (s v : List ℕ) where
             let (w, l, t) = named_text s f (ascii "id") ((answer_parts s f e).0 ∙ q) in
             last_as (same_equal w residual_id (sym (id_said s p t) ∙ h)) (members_are s f j) l
 
-    signature-last : string_at s g ≡ known v → Last (ascii "signature") (text v) ms
-    signature-last = go g refl
+    signature_last : string_at s g ≡ known v → Last (ascii "signature") (text v) ms
+    signature_last = go g refl
       where
         go : (x : Stands) → g ≡ x → string_at s x ≡ known v → Last (ascii "signature") (text v) ms
         go Missing q h = clash (ap is_known h) refl
@@ -76,7 +76,7 @@ module _ (s v : List ℕ) where
       go (Readable i g) e h =
           let (ms, j) = readable_text s e in
           let (a, b) = picked (says_residual s i) (string_at s g) h in
-          record { members = ms; readable = j; id = id-last e ms j a; signature = signature-last e ms j b }
+          record { members = ms; readable = j; id = id_last e ms j a; signature = signature_last e ms j b }
 
   -- and back
   given : GivesSignature s v → signature_of s ≡ known v

@@ -96,10 +96,10 @@ module _ (m : Mapping) (ls : List (List ℕ)) (is : m.classes ≡ classes_of ls)
         let r : turn (back (classes_of ls)) (after d) ≡ after raw = ap (turn (back (classes_of ls))) e ∙ returned ∙ sym raw-kept in
         rw r (same_refl (after raw))
 
-    descriptor-turns : (b : Bool) → piece_known (shown m.classes) (parts_from [] (name raw)) ≡ b → (t : Token) →
+    descriptor_turns : (b : Bool) → piece_known (shown m.classes) (parts_from [] (name raw)) ≡ b → (t : Token) →
         ComesBy after (Descriptor raw display) (name_change (pick b (known (turn (shown m.classes) (name raw))) unknown)) t → Back t
-    descriptor-turns true q t (n, e, f) = rw e (shown_back n f)
-    descriptor-turns false q t e =
+    descriptor_turns true q t (n, e, f) = rw e (shown_back n f)
+    descriptor_turns false q t e =
         let stays : turn (shown m.classes) (name raw) ≡ name raw = unknown_stays (shown m.classes) (name raw) q in
         rw e (shown_back display (display-kept ∙ same_equal (name display) (name raw) shows ∙ sym stays))
 
@@ -111,32 +111,32 @@ module _ (m : Mapping) (ls : List (List ℕ)) (is : m.classes ≡ classes_of ls)
     token_back s c at (MemberName raw display) t e h k i =
         member_back_lem raw display (change_of m class name s c at (MemberName raw display)) t e
     token_back s c at (Descriptor raw display) t e h k (i, j) =
-        descriptor-turns raw display (kept raw i) (kept display j) h k
+        descriptor_turns raw display (kept raw i) (kept display j) h k
         (piece_known (shown m.classes) (parts_from [] (name raw))) refl t e
     token_back s c at (SourceLine raw display) t e h k i =
         line_back raw display (change_of m class name s c at (SourceLine raw display)) t e
 
-    made-back : (before : Token) (c : Changed) (t : Token) → Made m class name before c → ComesOut after c t →
+    made_back : (before : Token) (c : Changed) (t : Token) → Made m class name before c → ComesOut after c t →
         shows_raw name before ≡ true → names_unmistaken (classes_of ls) name before ≡ true → NamesBelow names before → Back t
-    made-back before c t d e h k i =
+    made_back before c t d e h k i =
         let f : ComesOut after (record { token = before; change = change_of m class name d.signature d.context d.place before }) t =
         rw d.is at e in
         token_back d.signature d.context d.place before t f h k i
 
-    tokens-back : {ts ends : List Token} {cs : List Changed} → Each (Made m class name) ts cs → Each (ComesOut after) cs ends →
+    tokens_back : {ts ends : List Token} {cs : List Changed} → Each (Made m class name) ts cs → Each (ComesOut after) cs ends →
         all_of (shows_raw name) ts ≡ true → all_of (names_unmistaken (classes_of ls) name) ts ≡ true → Every (NamesBelow names) ts →
         all_of (turns_back (classes_of ls) after) ends ≡ true
     unfolding all_of
-    tokens-back each_none each_none h k i = refl
-    tokens-back (each_one {x = before} {y = c} {l = ts} d ds) (each_one {y = t} {m = ends} e es) h k (every_one i is) =
+    tokens_back each_none each_none h k i = refl
+    tokens_back (each_one {x = before} {y = c} {l = ts} d ds) (each_one {y = t} {m = ends} e es) h k (every_one i is) =
         all_cons (turns_back (classes_of ls) after) t ends
-        (made-back before c t d e (all_head (shows_raw name) before ts h) (all_head (names_unmistaken (classes_of ls) name) before ts k) i)
-        (tokens-back ds es (all_tail (shows_raw name) before ts h) (all_tail (names_unmistaken (classes_of ls) name) before ts k) is)
+        (made_back before c t d e (all_head (shows_raw name) before ts h) (all_head (names_unmistaken (classes_of ls) name) before ts k) i)
+        (tokens_back ds es (all_tail (shows_raw name) before ts h) (all_tail (names_unmistaken (classes_of ls) name) before ts k) is)
 
 -- The whole tree, for a mapping whose classes are those of the lines.
 pub tree_back : (m : Mapping) (ls : List (List ℕ)) → m.classes ≡ classes_of ls → displays_once ls ≡ true → names_closed ls ≡ true →
     (class : List ℕ) (t : Tree) → SoundTree t → of_tokens shows_raw t ≡ true → of_tokens (names_unmistaken (classes_of ls)) t ≡ true →
     of_tokens (turns_back (classes_of ls)) (applied_tree m class t) ≡ true
 tree_back m ls is once closed class t sound h k =
-    tokens-back m ls is once closed (name_in t) (name_in (applied_tree m class t)) (length t.names) (kept_names m class t sound) class
+    tokens_back m ls is once closed (name_in t) (name_in (applied_tree m class t)) (length t.names) (kept_names m class t sound) class
     (nodes_made m class (name_in t) [] t.nodes) (comes_out m class t) h k sound.tokens

@@ -27,11 +27,11 @@ module _ (c m : List (List ℕ)) (p : List ℕ) (used : Used) {b : Bool} (w : b 
     malformed : well_formed c m p used ≡ false
     malformed = sym w ∙ not-true b n
 
-    pub display-malformed : Malformed ≡ display_of_class (tables c m p) used name
-    display-malformed = sym (rw malformed)
+    pub display_malformed : Malformed ≡ display_of_class (tables c m p) used name
+    display_malformed = sym (rw malformed)
 
-    pub raw-malformed : Malformed ≡ raw_of_class (tables c m p) used name
-    raw-malformed = sym (rw malformed)
+    pub raw_malformed : Malformed ≡ raw_of_class (tables c m p) used name
+    raw_malformed = sym (rw malformed)
 
     pub mapped_malformed : name ≡ mapped_class (tables c m p) used name
     mapped_malformed = sym (rw malformed)
@@ -52,25 +52,25 @@ module _ (c m : List (List ℕ)) (p : List ℕ) (used : Used) {b : Bool} (w : b 
         raw_inside = (raw_found rows p name (sym f ∙ e)).0
 
         module _ {d : Class} (g : d ≡ unpack_class (get_or rows i [])) where
-          pub display-row : {r : ClassName} → r ≡ found_at d.display → r ≡ display_of_class (tables c m p) used name
-          display-row h = h ∙ ap (λ x. found_at x.display) g ∙ sym (rw (tested_formed c m p used w n, ← f, e))
+          pub display_row : {r : ClassName} → r ≡ found_at d.display → r ≡ display_of_class (tables c m p) used name
+          display_row h = h ∙ ap (λ x. found_at x.display) g ∙ sym (rw (tested_formed c m p used w n, ← f, e))
 
-          pub mapped-row : {r : List ℕ} → r ≡ text_in p d.display → r ≡ mapped_class (tables c m p) used name
-          mapped-row h = h ∙ ap (λ x. text_in p x.display) g ∙ sym (rw (tested_formed c m p used w n, (raw_found rows p name (sym f ∙ e)).1))
+          pub mapped_row : {r : List ℕ} → r ≡ text_in p d.display → r ≡ mapped_class (tables c m p) used name
+          mapped_row h = h ∙ ap (λ x. text_in p x.display) g ∙ sym (rw (tested_formed c m p used w n, (raw_found rows p name (sym f ∙ e)).1))
 
     module _ (name : List ℕ) {o : Found} (f : o ≡ last_display rows p name) where
-      pub turned-unknown : o ≡ row.Unknown → Unknown ≡ raw_of_class (tables c m p) used name
-      turned-unknown e = sym (rw (tested_formed c m p used w n, ← f, e))
+      pub turned_unknown : o ≡ row.Unknown → Unknown ≡ raw_of_class (tables c m p) used name
+      turned_unknown e = sym (rw (tested_formed c m p used w n, ← f, e))
 
       module _ {i : ℕ} (e : o ≡ row.Row i) where
-        pub display-inside : i < length rows
-        display-inside = (display_found rows p name (sym f ∙ e)).0
+        pub display_inside : i < length rows
+        display_inside = (display_found rows p name (sym f ∙ e)).0
 
-        pub turned-row : {d : Class} → d ≡ unpack_class (get_or rows i []) → {r : ClassName} → r ≡ found_at d.raw → r ≡ raw_of_class (tables c m p) used name
-        turned-row g h = h ∙ ap (λ x. found_at x.raw) g ∙ sym (rw (tested_formed c m p used w n, ← f, e))
+        pub turned_row : {d : Class} → d ≡ unpack_class (get_or rows i []) → {r : ClassName} → r ≡ found_at d.raw → r ≡ raw_of_class (tables c m p) used name
+        turned_row g h = h ∙ ap (λ x. found_at x.raw) g ∙ sym (rw (tested_formed c m p used w n, ← f, e))
 
-pub ruleset displaying = (prefix_whole, display-malformed, class_rows_lent, display_unknown, raw_inside, display-row, rules)
+pub ruleset displaying = (prefix_whole, display_malformed, class_rows_lent, display_unknown, raw_inside, display_row, rules)
 
-pub ruleset turning = (prefix_whole, raw-malformed, class_rows_lent, turned-unknown, display-inside, turned-row, rules)
+pub ruleset turning = (prefix_whole, raw_malformed, class_rows_lent, turned_unknown, display_inside, turned_row, rules)
 
-pub ruleset mapping = (prefix_whole, mapped_malformed, class_rows_lent, mapped_unknown, raw_inside, mapped-row, rules)
+pub ruleset mapping = (prefix_whole, mapped_malformed, class_rows_lent, mapped_unknown, raw_inside, mapped_row, rules)

@@ -21,7 +21,7 @@ use Rattle.tables.specs.declared.search.Found.{Found}
 use Rattle.tables.specs.declared.search.Found.TheVariants.{Row, Unknown}
 use Rattle.tables.specs.Back.{text_in, read_back}
 use Rattle.tables.specs.Search.{last_raw}
-use Rattle.tables.proofs.Searching.{scanning_from, scanning-found, raw_found}
+use Rattle.tables.proofs.Searching.{scanning_from, scanning_found, raw_found}
 use Rattle.load_rule.specs.Members.{field, method, Entry}
 use Rattle.name_lines.specs.declared.lines.RawLine.{RawLine}
 use Rattle.name_lines.specs.declared.lines.LineName.{LineName}
@@ -46,10 +46,10 @@ module _ (pool r : List ℕ) {m : Member} (e : m ≡ unpack_member r) where
     pub name_told_lem : t ≡ m.raw_name → s ≡ text_in pool t → s ≡ text_in pool (unpack_member r).raw_name
     name_told_lem f g = g ∙ ap (text_in pool) f ∙ ap (λ x. text_in pool x.raw_name) e
 
-    pub descriptor-told : t ≡ m.descriptor → s ≡ text_in pool t → s ≡ text_in pool (unpack_member r).descriptor
-    descriptor-told f g = g ∙ ap (text_in pool) f ∙ ap (λ x. text_in pool x.descriptor) e
+    pub descriptor_told : t ≡ m.descriptor → s ≡ text_in pool t → s ≡ text_in pool (unpack_member r).descriptor
+    descriptor_told f g = g ∙ ap (text_in pool) f ∙ ap (λ x. text_in pool x.descriptor) e
 
-pub ruleset row_told = (ranges_told, name_told_lem, descriptor-told, rules)
+pub ruleset row_told = (ranges_told, name_told_lem, descriptor_told, rules)
 
 -- a method that is owned, by its ranges
 owned_holds : (look : Look) (b : Bool) (o : List ℕ) (g : Ranges) (n : RawLine) → owned_by look (pick b field (method o g)) ≡ true →
@@ -87,20 +87,20 @@ module _ (classes : List (List ℕ)) (rows : List (List ℕ)) (pool : List ℕ) 
   home_inside e = (raw_found classes pool raw e).0
 
   module _ (own : own_row classes rows pool k ≡ Row row) where
-    last-own : LastAt owns 0 rows row
-    last-own = last_told owns 0 rows own
+    last_own : LastAt owns 0 rows row
+    last_own = last_told owns 0 rows own
 
-    here-is : row - 0 ≡ row
-    here-is = omega arith
+    here_is : row - 0 ≡ row
+    here_is = omega arith
 
     pub own_inside : row < length rows
-    own_inside = rw here-is at last-own.inside
+    own_inside = rw here_is at last_own.inside
 
-    own-holds : owns (get_or rows row []) ≡ true
-    own-holds = rw here-is at last-own.holds
+    own_holds : owns (get_or rows row []) ≡ true
+    own_holds = rw here_is at last_own.holds
 
-    own-later : (j : ℕ) → row < j → j < length rows → owns (get_or rows j []) ≡ false
-    own-later j l h = last-own.later j (omega (arith, here-is)) h
+    own_later : (j : ℕ) → row < j → j < length rows → owns (get_or rows j []) ≡ false
+    own_later j l h = last_own.later j (omega (arith, here_is)) h
 
     module _ (n : RawLine) where
       abbrev holds : List ℕ → Bool
@@ -109,34 +109,34 @@ module _ (classes : List (List ℕ)) (rows : List (List ℕ)) (pool : List ℕ) 
       holds_later : (j : ℕ) → row + 1 ≤ j → j < length rows → holds (get_or rows j []) ≡ false
       holds_later j l h =
           let e : Entry = entry_back pool (get_or rows j []) in
-          both_more (owned_by (shown cs raw) e.kind) (kind_holds e.kind n) (matches cs k e) (own-later j (omega arith) h)
+          both_more (owned_by (shown cs raw) e.kind) (kind_holds e.kind n) (matches cs k e) (own_later j (omega arith) h)
 
-      kind-is : kind_holds (kind_back pool m) n ≡ holds_line m.ranges n
-      kind-is =
+      kind_is : kind_holds (kind_back pool m) n ≡ holds_line m.ranges n
+      kind_is =
           owned_holds (shown cs raw) (eqb m.kind 0) (text_in pool m.owner) m.ranges n
-          (both_left (owned_by (shown cs raw) (kind_back pool m)) (matches cs k (member_back pool m)) own-holds)
+          (both_left (owned_by (shown cs raw) (kind_back pool m)) (matches cs k (member_back pool m)) own_holds)
 
-      add-sub : (i : ℕ) → i + 1 - 1 ≡ i
-      add-sub i = omega arith
+      add_sub : (i : ℕ) → i + 1 - 1 ≡ i
+      add_sub i = omega arith
 
       module _ {g : Ranges} (e : g ≡ m.ranges) {b : Bool} (f : b ≡ holds_line g n) where
         -- the row itself holds the line
-        pub line-here : b ≡ true → {l : LineName} → l ≡ line_name g n → l ≡ line_of_method (mapping cs (entries_back rows pool)) k n
-        line-here t {l} q =
+        pub line_here : b ≡ true → {l : LineName} → l ≡ line_name g n → l ≡ line_of_method (mapping cs (entries_back rows pool)) k n
+        line_here t {l} q =
             let inside = own_inside in
             let last : Row row ≡ line_row cs k n rows pool =
-            ap Row (sym (add-sub row))
-            ∙ scanning-found (scanning_from holds rows (row + 1) (omega arith) holds_later) (omega arith)
-            (ap (λ i. holds (get_or rows i [])) (add-sub row) ∙ here) in
+            ap Row (sym (add_sub row))
+            ∙ scanning_found (scanning_from holds rows (row + 1) (omega arith) holds_later) (omega arith)
+            (ap (λ i. holds (get_or rows i [])) (add_sub row) ∙ here) in
             q ∙ ap (λ x. line_name x n) e ∙ sym (line_found cs k rows pool n (sym last)).1
           where
             here : holds (get_or rows row []) ≡ true
             here =
-                all_three (owned_by (shown cs raw) (kind_back pool m)) (kind_holds (kind_back pool m) n) (matches cs k (member_back pool m)) own-holds
-                (kind-is ∙ ap (λ x. holds_line x n) (sym e) ∙ sym f ∙ t)
+                all_three (owned_by (shown cs raw) (kind_back pool m)) (kind_holds (kind_back pool m) n) (matches cs k (member_back pool m)) own_holds
+                (kind_is ∙ ap (λ x. holds_line x n) (sym e) ∙ sym f ∙ t)
 
-        pub line-missing : b ≡ false → holds_line m.ranges n ≡ false
-        line-missing t = ap (λ x. holds_line x n) (sym e) ∙ sym f ∙ t
+        pub line_missing : b ≡ false → holds_line m.ranges n ≡ false
+        line_missing t = ap (λ x. holds_line x n) (sym e) ∙ sym f ∙ t
 
       -- it does not: the rows before it with the same mark are asked
       module _ (last : last_raw classes pool raw ≡ Row class) {d : List ℕ} (h : d ≡ display) {owner : List ℕ} (o : owner ≡ raw)
@@ -147,46 +147,46 @@ module _ (classes : List (List ℕ)) (rows : List (List ℕ)) (pool : List ℕ) 
         key_is : key owner name descriptor ≡ k
         key_is = rw (o, i, j)
 
-        as-asked : {A : Type 0} (f : Look → Key → A) → f (known d) (key owner name descriptor) ≡ f (shown cs raw) k
-        as-asked f = ap (λ l. f l (key owner name descriptor)) (sym look) ∙ ap (f (shown cs raw)) key_is
+        as_asked : {A : Type 0} (f : Look → Key → A) → f (known d) (key owner name descriptor) ≡ f (shown cs raw) k
+        as_asked f = ap (λ l. f l (key owner name descriptor)) (sym look) ∙ ap (f (shown cs raw)) key_is
 
-        answers-is : (r : List ℕ) → answers_by (OwnLine n) (known d) cs (key owner name descriptor) (entry_back pool r) ≡ holds r
-        answers-is r = as-asked (λ l q. answers_by (OwnLine n) l cs q (entry_back pool r))
+        answers_is : (r : List ℕ) → answers_by (OwnLine n) (known d) cs (key owner name descriptor) (entry_back pool r) ≡ holds r
+        answers_is r = as_asked (λ l q. answers_by (OwnLine n) l cs q (entry_back pool r))
 
         pub line_row_lem : {z : Found} → z ≡ last_member (answers_by (OwnLine n) (known d) cs (key owner name descriptor)) rows pool →
             z ≡ line_row cs k n rows pool
-        line_row_lem a = a ∙ as-asked (λ l q. last_member (answers_by (OwnLine n) l cs q) rows pool)
+        line_row_lem a = a ∙ as_asked (λ l q. last_member (answers_by (OwnLine n) l cs q) rows pool)
 
-        pub line-behind : {index : List ℕ} → Chained classes pool rows index (length rows) → holds_line m.ranges n ≡ false →
+        pub line_behind : {index : List ℕ} → Chained classes pool rows index (length rows) → holds_line m.ranges n ≡ false →
             {before : ℕ} → before ≡ get_or index (8192 + row) 0 →
             Behind classes pool rows (OwnLine n) (known d) owner name descriptor before
-        line-behind {index} x t q =
+        line_behind {index} x t q =
             behind_more classes pool rows (OwnLine n) (known d) owner name descriptor x from_here (omega arith) refl
-            (sym (ap (λ y. answers_by (OwnLine n) (known d) cs (key owner name descriptor) (member_back pool (unpack_member (get_or rows y [])))) (add-sub row)
-            ∙ answers-is (get_or rows row []) ∙ missing)) refl
-            (q ∙ ap (λ y. get_or index (8192 + y) 0) (sym (add-sub row)))
+            (sym (ap (λ y. answers_by (OwnLine n) (known d) cs (key owner name descriptor) (member_back pool (unpack_member (get_or rows y [])))) (add_sub row)
+            ∙ answers_is (get_or rows row []) ∙ missing)) refl
+            (q ∙ ap (λ y. get_or index (8192 + y) 0) (sym (add_sub row)))
           where
             missing : holds (get_or rows row []) ≡ false
-            missing = rw (kind-is ∙ t) (both_missing (owned_by (shown cs raw) (kind_back pool m)) (matches cs k (member_back pool m)))
+            missing = rw (kind_is ∙ t) (both_missing (owned_by (shown cs raw) (kind_back pool m)) (matches cs k (member_back pool m)))
 
             from_here : Behind classes pool rows (OwnLine n) (known d) owner name descriptor (row + 1)
             from_here =
                 record {
                   inside = let z = own_inside in omega arith;
-                  none = λ y l u. answers-is (get_or rows y []) ∙ holds_later y l u;
-                  at_mark = λ l. ap (mark_at classes pool rows) (add-sub row)
+                  none = λ y l u. answers_is (get_or rows y []) ∙ holds_later y l u;
+                  at_mark = λ l. ap (mark_at classes pool rows) (add_sub row)
                       ∙ mark_told classes pool rows Own (known d) owner name descriptor row
-                      (as-asked (λ l q. answers_by Own l cs q (entry_back pool (get_or rows row []))) ∙ own-holds);
+                      (as_asked (λ l q. answers_by Own l cs q (entry_back pool (get_or rows row []))) ∙ own_holds);
                 }
 
     module _ {index : List ℕ} (x : Chained classes pool rows index (length rows)) where
-      pub own-link : 8192 + row < length index
-      own-link = let i = own_inside in let s = x.size in let f = x.few in omega arith
+      pub own_link : 8192 + row < length index
+      own_link = let i = own_inside in let s = x.size in let f = x.few in omega arith
 
-      pub own-link-fits : Fits w64 (8192 + row)
-      own-link-fits = let i = own_inside in let f = x.few in omega arith
+      pub own_link_fits : Fits w64 (8192 + row)
+      own_link_fits = let i = own_inside in let f = x.few in omega arith
 
-pub ruleset lining_before = (home_inside, own_inside, line_row_lem, line-behind, own-link, own-link-fits, rules)
+pub ruleset lining_before = (home_inside, own_inside, line_row_lem, line_behind, own_link, own_link_fits, rules)
 
 -- What the row that answers says.
 module _ (cs : List Pair) (k : Key) (n : RawLine) (rows : List (List ℕ)) (pool : List ℕ) {z : Found} (a : z ≡ line_row cs k n rows pool) where
@@ -201,4 +201,4 @@ module _ (cs : List Pair) (k : Key) (n : RawLine) (rows : List (List ℕ)) (pool
         l ≡ line_of_method (mapping cs (entries_back rows pool)) k n
     line_other v q = q ∙ ap (λ w. line_name w n) v ∙ sym (line_found cs k rows pool n (sym a ∙ u)).1
 
-pub ruleset lining = (own_inside, line-here, line-missing, line_none, line_inside, line_other, rules)
+pub ruleset lining = (own_inside, line_here, line_missing, line_none, line_inside, line_other, rules)

@@ -156,28 +156,28 @@ module _ (classes : List (List ℕ)) (pool : List ℕ) (rows : List (List ℕ)) 
       }
 
   module _ {index : List ℕ} {k : ℕ} (c : Chained classes pool rows index k) where
-    pub chaining-ends : length rows ≤ k → Chained classes pool rows index (length rows)
-    chaining-ends h = let i = c.inside in let z : k ≡ length rows = omega arith in rw z at c
+    pub chaining_ends : length rows ≤ k → Chained classes pool rows index (length rows)
+    chaining_ends h = let i = c.inside in let z : k ≡ length rows = omega arith in rw z at c
 
     module _ (h : k < length rows) where
-      pub chaining-few : k < most_members
-      chaining-few = let f = c.few in omega arith
+      pub chaining_few : k < most_members
+      chaining_few = let f = c.few in omega arith
 
-      pub chaining-size : length index ≡ member_index_size
-      chaining-size = c.size
+      pub chaining_size : length index ≡ member_index_size
+      chaining_size = c.size
 
       module _ {m : Member} (e : m ≡ unpack_member (get_or rows k [])) {x : ℕ} (f : x ≡ row_mark classes pool m) where
         here : x ≡ mark_at classes pool rows k
         here = f ∙ ap (row_mark classes pool) e
 
-        pub chaining-small : x < mark_count
-        chaining-small =
+        pub chaining_small : x < mark_count
+        chaining_small =
             let r = unpack_member (get_or rows k []) in
             rw here (mark_below (text_in pool (unpack_class (get_or classes r.class [])).raw) (text_in pool r.raw_name) (text_in pool r.descriptor))
 
-        pub chaining-more : {new : List ℕ} → new ≡ chained index x k → Chained classes pool rows new (k + 1)
-        chaining-more g =
-            let s : mark_at classes pool rows k < mark_count = rw (← here) chaining-small in
+        pub chaining_more : {new : List ℕ} → new ≡ chained index x k → Chained classes pool rows new (k + 1)
+        chaining_more g =
+            let s : mark_at classes pool rows k < mark_count = rw (← here) chaining_small in
             let w = c.few in
             let z : k + 1 ≡ suc k = omega arith in
             let is : chained index x k ≡ chained index (mark_at classes pool rows k) k = ap (λ y. chained index y k) here in
@@ -208,7 +208,7 @@ pub record Indexing
   pub chain : Chained classes pool rows index k
   pub mark : kept.mark ≡ class_mark classes pool kept.class
 
-pub ruleset chaining = (kept_on, row_marked, class_small, chaining_length, chaining_starts, chaining-ends, chaining-few, chaining-size, chaining-small, chaining-more, rules)
+pub ruleset chaining = (kept_on, row_marked, class_small, chaining_length, chaining_starts, chaining_ends, chaining_few, chaining_size, chaining_small, chaining_more, rules)
 
 -- One row, as the code stores it.
 pub kept_size : (index : List ℕ) (i v : ℕ) → length index ≡ member_index_size → {m : ℕ} → m < mark_count → m < length (set index i v)

@@ -18,7 +18,7 @@ use Rattle.table_rows.specs.declared.rows.Member.{Member}
 use Rattle.table_rows.specs.Rows.{unpack_class, unpack_member}
 use Rattle.tables.specs.declared.search.Found.TheVariants.{Row, Unknown}
 use Rattle.tables.specs.Back.{text_in, pair_of, read_back}
-use Rattle.tables.proofs.Searching.{scanning_from, scanning-found, scanning_ends}
+use Rattle.tables.proofs.Searching.{scanning_from, scanning_found, scanning_ends}
 use Rattle.name_rule.specs.Mappings.{member_back, entry_back}
 use Rattle.name_rule.specs.MemberNames.{key, raw_of_row, is_text}
 use Rattle.name_rule.specs.MemberRows.{last_member}
@@ -87,28 +87,28 @@ module _ (classes : List (List ℕ)) (pool : List ℕ) (rows : List (List ℕ)) 
 
   module _ {index : List ℕ} (x : Chained classes pool rows index (length rows)) where
     module _ {mark : ℕ} (m : mark ≡ member_mark owner name descriptor) where
-      pub behind-starts : {count : ℕ} → count ≡ get_or index mark 0 → BehindHere count
-      behind-starts {count} e =
+      pub behind_starts : {count : ℕ} → count ≡ get_or index mark 0 → BehindHere count
+      behind_starts {count} e =
           let b = mark_below owner name descriptor in
           behind_last (length rows) (e ∙ x.starts mark (omega arith) ∙ ap (λ h. last_below (mark_at classes pool rows) h (length rows)) m) (omega arith)
           (λ i k h. absurd (omega arith))
 
     module _ {count : ℕ} (k : BehindHere count) where
-      pub behind-ends : count ≤ 0 → Unknown ≡ last_member (answers_by t d (read_back classes pool) (key owner name descriptor)) rows pool
-      behind-ends h = scanning_ends (scanning_from answers rows count k.inside k.none) h
+      pub behind_ends : count ≤ 0 → Unknown ≡ last_member (answers_by t d (read_back classes pool) (key owner name descriptor)) rows pool
+      behind_ends h = scanning_ends (scanning_from answers rows count k.inside k.none) h
 
       module _ (l : 0 < count) where
         pub row_inside : count - 1 < length rows
         row_inside = let i = k.inside in omega arith
 
-        pub link-inside : 8192 + (count - 1) < length index
-        link-inside = let i = k.inside in let s = x.size in let f = x.few in omega arith
+        pub link_inside : 8192 + (count - 1) < length index
+        link_inside = let i = k.inside in let s = x.size in let f = x.few in omega arith
 
         pub link_fits : Fits w64 (8192 + (count - 1))
         link_fits = let i = k.inside in let f = x.few in omega arith
 
-        pub behind-falls : {next : ℕ} → next ≡ get_or index (8192 + (count - 1)) 0 → next < count
-        behind-falls h =
+        pub behind_falls : {next : ℕ} → next ≡ get_or index (8192 + (count - 1)) 0 → next < count
+        behind_falls h =
             let i = k.inside in
             let y = last_inside (mark_at classes pool rows) (mark_at classes pool rows (count - 1)) (count - 1) in
             omega (arith, h ∙ x.links (count - 1) (omega arith))
@@ -118,8 +118,8 @@ module _ (classes : List (List ℕ)) (pool : List ℕ) (rows : List (List ℕ)) 
           here : answers (get_or rows (count - 1) []) ≡ b
           here = ap (λ z. answers_by t d (read_back classes pool) (key owner name descriptor) (member_back pool z)) (sym e) ∙ sym f
 
-          pub behind-found : b ≡ true → Row (count - 1) ≡ last_member (answers_by t d (read_back classes pool) (key owner name descriptor)) rows pool
-          behind-found g = scanning-found (scanning_from answers rows count k.inside k.none) l (here ∙ g)
+          pub behind_found : b ≡ true → Row (count - 1) ≡ last_member (answers_by t d (read_back classes pool) (key owner name descriptor)) rows pool
+          behind_found g = scanning_found (scanning_from answers rows count k.inside k.none) l (here ∙ g)
 
           pub behind_more : b ≡ false → {next : ℕ} → next ≡ get_or index (8192 + (count - 1)) 0 → BehindHere next
           behind_more g h =
@@ -132,4 +132,4 @@ module _ (classes : List (List ℕ)) (pool : List ℕ) (rows : List (List ℕ)) 
               below j u v (inl w) = k.none j w v
               below j u v (inr w) = let z : j ≡ count - 1 = omega arith in ap (λ y. answers (get_or rows y [])) z ∙ here ∙ g
 
-pub ruleset walking = (behind-ends, row_inside, link-inside, link_fits, behind-falls, behind-found, behind_more, rules)
+pub ruleset walking = (behind_ends, row_inside, link_inside, link_fits, behind_falls, behind_found, behind_more, rules)

@@ -32,13 +32,13 @@ use Rattle.name_index.specs.Inner.Chains.{member_mark, Chained, Behind, first_wa
 use Rattle.name_index.proofs.Walking.{
   mark_in_index,
   mark_doubled,
-  behind-starts,
-  behind-ends,
+  behind_starts,
+  behind_ends,
   row_inside,
-  link-inside,
+  link_inside,
   link_fits,
-  behind-falls,
-  behind-found,
+  behind_falls,
+  behind_found,
   behind_more,
 }
 
@@ -98,18 +98,18 @@ module _ (cs : List Pair) (pool owner name descriptor : List ℕ) (m : Member) (
     other_name i = sym (by_name ∙ ap (λ z. both owned (both z typed)) (not-true b i) ∙ both_false owned)
 
     module _ (i : not b ≡ false) {u : List ℕ} (j : u ≡ text_in pool m.descriptor) {d : Bool} (l : d ≡ same u descriptor) where
-      by-descriptor : wanted ≡ both owned d
-      by-descriptor =
+      by_descriptor : wanted ≡ both owned d
+      by_descriptor =
           by_name ∙ ap (λ z. both owned (both z typed)) (not-false b i)
           ∙ ap (both owned) (ap (λ x. same x descriptor) (sym j) ∙ sym l)
 
-      pub other-descriptor : not d ≡ true → false ≡ wanted
-      other-descriptor n = sym (by-descriptor ∙ ap (both owned) (not-true d n) ∙ both_false owned)
+      pub other_descriptor : not d ≡ true → false ≡ wanted
+      other_descriptor n = sym (by_descriptor ∙ ap (both owned) (not-true d n) ∙ both_false owned)
 
       pub by_class : not d ≡ false → {z : Bool} → z ≡ is_text (raw_of_row cs m.class) owner → z ≡ wanted
-      by_class n q = q ∙ sym (by-descriptor ∙ ap (both owned) (not-false d n) ∙ both_true owned)
+      by_class n q = q ∙ sym (by_descriptor ∙ ap (both owned) (not-false d n) ∙ both_true owned)
 
-pub ruleset wanting = (other_kind, other_name, other-descriptor, by_class, rules)
+pub ruleset wanting = (other_kind, other_name, other_descriptor, by_class, rules)
 
 -- What answers else is what is wanted, and what answers first is wanted too.
 else_is : (t : Bool) (look : Look) (cs : List Pair) (k : Key) (e : Entry) → answers_by (else_wanted t) look cs k e ≡ wanted_by t cs k e
@@ -162,78 +162,78 @@ module _ (classes : List (List ℕ)) (pool : List ℕ) (rows : List (List ℕ)) 
   WalkedHere any count = Walked classes pool rows t (known display) owner name descriptor any count
 
   module _ {index : List ℕ} (x : Chained classes pool rows index (length rows)) where
-    pub walked-starts : {mark count : ℕ} → count ≡ get_or index mark 0 → {o : List ℕ} → mark ≡ member_mark o name descriptor → o ≡ owner → WalkedHere 0 count
-    walked-starts {mark} e m g =
+    pub walked_starts : {mark count : ℕ} → count ≡ get_or index mark 0 → {o : List ℕ} → mark ≡ member_mark o name descriptor → o ≡ owner → WalkedHere 0 count
+    walked_starts {mark} e m g =
         let n : mark ≡ member_mark owner name descriptor = m ∙ ap (λ z. member_mark z name descriptor) g in
         record {
-          first = behind-starts classes pool rows (first_wanted t) (known display) owner name descriptor x n e;
-          none = λ z. behind-starts classes pool rows (else_wanted t) (known display) owner name descriptor x n e;
+          first = behind_starts classes pool rows (first_wanted t) (known display) owner name descriptor x n e;
+          none = λ z. behind_starts classes pool rows (else_wanted t) (known display) owner name descriptor x n e;
           some = λ z. absurd (omega arith);
         }
 
     module _ {any count : ℕ} (w : WalkedHere any count) where
       module _ (h : count ≤ 0) where
         none_first : Unknown ≡ lastFirst
-        none_first = behind-ends classes pool rows (first_wanted t) (known display) owner name descriptor x w.first h
+        none_first = behind_ends classes pool rows (first_wanted t) (known display) owner name descriptor x w.first h
 
         pub walked_none : any ≤ 0 → Unknown ≡ wanted_row t (known display) cs k rows pool
         walked_none z =
             answers_else lastFirst lastElse none_first
-            (behind-ends classes pool rows (else_wanted t) (known display) owner name descriptor x (w.none z) h)
+            (behind_ends classes pool rows (else_wanted t) (known display) owner name descriptor x (w.none z) h)
 
-        pub walked-some : 0 < any → Row (any - 1) ≡ wanted_row t (known display) cs k rows pool
-        walked-some z = answers_else lastFirst lastElse none_first (w.some z)
+        pub walked_some : 0 < any → Row (any - 1) ≡ wanted_row t (known display) cs k rows pool
+        walked_some z = answers_else lastFirst lastElse none_first (w.some z)
 
       module _ (l : 0 < count) {m : Member} (e : m ≡ unpack_member (get_or rows (count - 1) [])) {b : Bool} (f : b ≡ wanted_by t cs k (member_back pool m)) where
-        on-first : answers_by (first_wanted t) (known display) cs k (member_back pool m) ≡ false → {next : ℕ} → next ≡ get_or index (8192 + (count - 1)) 0 →
+        on_first : answers_by (first_wanted t) (known display) cs k (member_back pool m) ≡ false → {next : ℕ} → next ≡ get_or index (8192 + (count - 1)) 0 →
             Behind classes pool rows (first_wanted t) (known display) owner name descriptor next
-        on-first q n = behind_more classes pool rows (first_wanted t) (known display) owner name descriptor x w.first l e (sym q) refl n
+        on_first q n = behind_more classes pool rows (first_wanted t) (known display) owner name descriptor x w.first l e (sym q) refl n
 
         found_first : answers_by (first_wanted t) (known display) cs k (member_back pool m) ≡ true → Row (count - 1) ≡ wanted_row t (known display) cs k rows pool
         found_first q =
             answers_first lastFirst lastElse
-            (behind-found classes pool rows (first_wanted t) (known display) owner name descriptor x w.first l e (sym q) refl)
+            (behind_found classes pool rows (first_wanted t) (known display) owner name descriptor x w.first l e (sym q) refl)
 
-        as-else : answers_by (else_wanted t) (known display) cs k (member_back pool m) ≡ b
-        as-else = else_is t (known display) cs k (member_back pool m) ∙ sym f
+        as_else : answers_by (else_wanted t) (known display) cs k (member_back pool m) ≡ b
+        as_else = else_is t (known display) cs k (member_back pool m) ∙ sym f
 
-        pub walked-other : not b ≡ true → {next : ℕ} → next ≡ get_or index (8192 + (count - 1)) 0 → WalkedHere any next
-        walked-other h n =
+        pub walked_other : not b ≡ true → {next : ℕ} → next ≡ get_or index (8192 + (count - 1)) 0 → WalkedHere any next
+        walked_other h n =
             record {
-              first = on-first (first_not t (known display) cs k (member_back pool m) (sym f ∙ not-true b h)) n;
-              none = λ z. behind_more classes pool rows (else_wanted t) (known display) owner name descriptor x (w.none z) l e (sym as-else) (not-true b h) n;
+              first = on_first (first_not t (known display) cs k (member_back pool m) (sym f ∙ not-true b h)) n;
+              none = λ z. behind_more classes pool rows (else_wanted t) (known display) owner name descriptor x (w.none z) l e (sym as_else) (not-true b h) n;
               some = w.some;
             }
 
         module _ (h : not b ≡ false) where
-          is-wanted : wanted_by t cs k (member_back pool m) ≡ true
-          is-wanted = sym f ∙ not-false b h
+          is_wanted : wanted_by t cs k (member_back pool m) ≡ true
+          is_wanted = sym f ∙ not-false b h
 
-          pub walked-field : t ≡ true → Row (count - 1) ≡ wanted_row t (known display) cs k rows pool
-          walked-field q = found_first (first_field t (known display) cs k (member_back pool m) q is-wanted)
+          pub walked_field : t ≡ true → Row (count - 1) ≡ wanted_row t (known display) cs k rows pool
+          walked_field q = found_first (first_field t (known display) cs k (member_back pool m) q is_wanted)
 
           module _ (q : t ≡ false) {s : List ℕ} (g : s ≡ text_in pool m.owner) {c : Bool} (j : c ≡ same display s) where
             as_own : answers_by (first_wanted t) (known display) cs k (member_back pool m) ≡ c
-            as_own = first_own t display cs k pool m q is-wanted ∙ ap (same display) (sym g) ∙ sym j
+            as_own = first_own t display cs k pool m q is_wanted ∙ ap (same display) (sym g) ∙ sym j
 
-            pub walked-own : c ≡ true → Row (count - 1) ≡ wanted_row t (known display) cs k rows pool
-            walked-own r = found_first (as_own ∙ r)
+            pub walked_own : c ≡ true → Row (count - 1) ≡ wanted_row t (known display) cs k rows pool
+            walked_own r = found_first (as_own ∙ r)
 
             module _ (r : c ≡ false) {next : ℕ} (n : next ≡ get_or index (8192 + (count - 1)) 0) where
-              pub walked-kept : 0 < any → WalkedHere any next
-              walked-kept z = record { first = on-first (as_own ∙ r) n; none = λ y. absurd (omega arith); some = w.some }
+              pub walked_kept : 0 < any → WalkedHere any next
+              walked_kept z = record { first = on_first (as_own ∙ r) n; none = λ y. absurd (omega arith); some = w.some }
 
-              pub walked-any : any ≤ 0 → WalkedHere count next
-              walked-any z =
+              pub walked_any : any ≤ 0 → WalkedHere count next
+              walked_any z =
                   record {
-                    first = on-first (as_own ∙ r) n;
+                    first = on_first (as_own ∙ r) n;
                     none = λ y. absurd (omega arith);
-                    some = λ y. behind-found classes pool rows (else_wanted t) (known display) owner name descriptor x (w.none z) l e (sym as-else)
+                    some = λ y. behind_found classes pool rows (else_wanted t) (known display) owner name descriptor x (w.none z) l e (sym as_else)
                         (not-false b h);
                   }
 
 pub ruleset walking_wanted =
-    (row_inside, link-inside, link_fits, behind-falls, walked_none, walked-some, walked-other, walked-field, walked-own, walked-kept, walked-any, rules)
+    (row_inside, link_inside, link_fits, behind_falls, walked_none, walked_some, walked_other, walked_field, walked_own, walked_kept, walked_any, rules)
 
 -- What is wanted of the class at a row, which is the last with its raw descriptor.
 or_itself : (a : Found) → or_row a a ≡ a
@@ -251,14 +251,14 @@ module _ (classes rows : List (List ℕ)) (pool name descriptor : List ℕ) (i :
   answer b = pick b (field_row (read_back classes pool) (key raw name descriptor) rows pool) (method_row (read_back classes pool) (key raw name descriptor) rows pool)
 
   module _ (last : last_raw classes pool raw ≡ Row i) where
-    pub class-inside : i < length classes
-    class-inside = (raw_found classes pool raw last).0
+    pub class_inside : i < length classes
+    class_inside = (raw_found classes pool raw last).0
 
-    pub chained-answer : {d : List ℕ} → d ≡ text_in pool (unpack_class (get_or classes i [])).display → {z : Found} → z ≡ asked (known d) → z ≡ answer t
-    chained-answer h g = g ∙ ap asked (sym ((raw_found classes pool raw last).1 ∙ ap known (sym h))) ∙ go t
+    pub chained_answer : {d : List ℕ} → d ≡ text_in pool (unpack_class (get_or classes i [])).display → {z : Found} → z ≡ asked (known d) → z ≡ answer t
+    chained_answer h g = g ∙ ap asked (sym ((raw_found classes pool raw last).1 ∙ ap known (sym h))) ∙ go t
       where
         go : (b : Bool) → wanted_row b (shown (read_back classes pool) raw) (read_back classes pool) (key raw name descriptor) rows pool ≡ answer b
         go true = or_itself (answer true)
         go false = refl
 
-pub ruleset chained_wanted = (mark_in_index, mark_doubled, class-inside, walked-starts, chained-answer, rules)
+pub ruleset chained_wanted = (mark_in_index, mark_doubled, class_inside, walked_starts, chained_answer, rules)

@@ -25,15 +25,15 @@ module _ (n : RawLine) {g : Ranges} where
   line_display e = sym (rw e)
 
   module _ {p q a z : ℕ} (e : g ≡ Both p q a z) {b : Bool} (w : b ≡ within p q n.0) where
-    pub line-outside : not b ≡ true → Unknown ≡ line_name g n
-    line-outside h = sym (rw (e, sym w ∙ not-true b h))
+    pub line_outside : not b ≡ true → Unknown ≡ line_name g n
+    line_outside h = sym (rw (e, sym w ∙ not-true b h))
 
     module _ (h : not b ≡ false) where
       held : within p q n.0 ≡ true
       held = sym w ∙ not-false b h
 
-      pub line-from : p ≤ n.0
-      line-from = (within_both p q n.0 held).0
+      pub line_from_lem : p ≤ n.0
+      line_from_lem = (within_both p q n.0 held).0
 
       module _ {d : ℕ} (f : d ≡ z - a) {x : ℕ} (i : x ≡ min (n.0 - p) d) where
         is : x ≡ min (n.0 - p) (z - a)
@@ -42,10 +42,10 @@ module _ (n : RawLine) {g : Ranges} where
         pub line_fits : Fits w32 a → Fits w32 z → Fits w32 (a + x)
         line_fits u v = let y = is in omega arith
 
-        pub line-shown : Line (display_line (a + x)) ≡ line_name g n
-        line-shown = ap (λ y. Line (display_line (a + y))) is ∙ sym (rw (e, held))
+        pub line_shown_lem : Line (display_line (a + x)) ≡ line_name g n
+        line_shown_lem = ap (λ y. Line (display_line (a + y))) is ∙ sym (rw (e, held))
 
-pub ruleset translating = (line_none, line_display, line-outside, line-from, line_fits, line-shown, rules)
+pub ruleset translating = (line_none, line_display, line_outside, line_from_lem, line_fits, line_shown_lem, rules)
 
 pub range_holds : (g : Ranges) (n : RawLine) {p q a e : ℕ} → g ≡ Both p q a e → {b : Bool} → b ≡ within p q n.0 → b ≡ holds_line g n
 range_holds g n f w = w ∙ sym (rw f)

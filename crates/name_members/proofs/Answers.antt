@@ -62,18 +62,18 @@ module _ (a : Asked) (c m : List (List ℕ)) (p : List ℕ) (used : Used) (k : K
           let n = row_inside a (read_back (take used.classes c) p) k (take used.members m) p (sym f ∙ e) in
           omega (arith, length-take used.members m)
 
-      pub answering-unknown : o ≡ row.Unknown → answer.Unknown ≡ answering a (tables c m p) used k
-      answering-unknown e = sym (rw (tested_formed c m p used w n, sym f ∙ e))
+      pub answering_unknown : o ≡ row.Unknown → answer.Unknown ≡ answering a (tables c m p) used k
+      answering_unknown e = sym (rw (tested_formed c m p used w n, sym f ∙ e))
 
-pub ruleset answers = (prefix_whole, answering_malformed, class_rows_lent, member_rows_lent, answering_row, row_fits, answering-unknown, rules)
+pub ruleset answers = (prefix_whole, answering_malformed, class_rows_lent, member_rows_lent, answering_row, row_fits, answering_unknown, rules)
 
 module _ (a : Asked) (t : Tables) (used : Used) (k : Key) where
-  abbrev asked-row : Found
-  asked-row = row_asked a (read_back (take used.classes t.classes) t.pool) k (take used.members t.members) t.pool
+  abbrev asked_row : Found
+  asked_row = row_asked a (read_back (take used.classes t.classes) t.pool) k (take used.members t.members) t.pool
 
   -- an answer that is a row says that the tables are well formed, and which row it is
-  pub row_answers : {i : ℕ} → answering a t used k ≡ answer.Row i → asked-row ≡ row.Row i
-  row_answers {i} e = go (well_formed t.classes t.members t.pool used) asked-row e
+  pub row_answers : {i : ℕ} → answering a t used k ≡ answer.Row i → asked_row ≡ row.Row i
+  row_answers {i} e = go (well_formed t.classes t.members t.pool used) asked_row e
     where
       go : (b : Bool) (o : Found) → pick b (answer_of_row o) answer.Malformed ≡ answer.Row i → o ≡ row.Row i
       go true (row.Row j) q = ap row.Row (let z : j ≡ i = cc in z)

@@ -52,12 +52,12 @@ module _ (classes rows : List (List ℕ)) (pool owner name descriptor : List ℕ
   asked_none a e = none_asked a cs k rows pool (raw_unknown classes pool owner (sym f ∙ e))
 
   module _ {i : ℕ} (e : o ≡ Row i) where
-    pub asked-inside : i < length classes
-    asked-inside = (raw_found classes pool owner (sym f ∙ e)).0
+    pub asked_inside : i < length classes
+    asked_inside = (raw_found classes pool owner (sym f ∙ e)).0
 
     -- no look-up needs this: it lets the wrong program that asks the first row be refused for its answer
-    pub asked-some : 0 < length classes
-    asked-some = let h = asked-inside in omega arith
+    pub asked_some : 0 < length classes
+    asked_some = let h = asked_inside in omega arith
 
     module _ {d : List ℕ} (h : d ≡ text_in pool (unpack_class (get_or classes i [])).display) where
       shows : shown cs owner ≡ known d
@@ -66,15 +66,15 @@ module _ (classes rows : List (List ℕ)) (pool owner name descriptor : List ℕ
       abbrev found : Sought → Found
       found t = last_member (answers_by t (known d) cs k) rows pool
 
-      as-shown : (t : Sought) → found t ≡ last_member (answers_by t (shown cs owner) cs k) rows pool
-      as-shown t = ap (λ l. last_member (answers_by t l cs k) rows pool) (sym shows)
+      as_shown : (t : Sought) → found t ≡ last_member (answers_by t (shown cs owner) cs k) rows pool
+      as_shown t = ap (λ l. last_member (answers_by t l cs k) rows pool) (sym shows)
 
       module _ (a : Asked) {t : Sought} (q : t ≡ first_sought a) {z : Found} (r : z ≡ found t) where
         first : z ≡ last_member (answers_by (first_sought a) (shown cs owner) cs k) rows pool
-        first = r ∙ ap found q ∙ as-shown (first_sought a)
+        first = r ∙ ap found q ∙ as_shown (first_sought a)
 
-        pub asked-row : {j : ℕ} → z ≡ Row j → Row j ≡ row_asked a cs k rows pool
-        asked-row {j} s = go a (sym (sym first ∙ s))
+        pub asked_row : {j : ℕ} → z ≡ Row j → Row j ≡ row_asked a cs k rows pool
+        asked_row {j} s = go a (sym (sym first ∙ s))
           where
             go : (b : Asked) → Row j ≡ last_member (answers_by (first_sought b) (shown cs owner) cs k) rows pool → Row j ≡ row_asked b cs k rows pool
             go asked.Field u = u
@@ -82,16 +82,16 @@ module _ (classes rows : List (List ℕ)) (pool owner name descriptor : List ℕ
             go (asked.Line n) u = u
 
         module _ (s : z ≡ Unknown) {b : Bool} (w : b ≡ is_method_asked a) where
-          pub asked-other : b ≡ false → Unknown ≡ row_asked a cs k rows pool
-          asked-other u = go a (sym w ∙ u) (sym (sym first ∙ s))
+          pub asked_other : b ≡ false → Unknown ≡ row_asked a cs k rows pool
+          asked_other u = go a (sym w ∙ u) (sym (sym first ∙ s))
             where
               go : (d : Asked) → is_method_asked d ≡ false → Unknown ≡ last_member (answers_by (first_sought d) (shown cs owner) cs k) rows pool → Unknown ≡ row_asked d cs k rows pool
               go asked.Field i u = u
               go asked.Method i u = clash refl i
               go (asked.Line n) i u = u
 
-          pub asked-any : b ≡ true → {y : Found} → y ≡ found sought.Method → y ≡ row_asked a cs k rows pool
-          asked-any u {y} v = v ∙ go a (sym w ∙ u) (sym (sym first ∙ s))
+          pub asked_any : b ≡ true → {y : Found} → y ≡ found sought.Method → y ≡ row_asked a cs k rows pool
+          asked_any u {y} v = v ∙ go a (sym w ∙ u) (sym (sym first ∙ s))
             where
               go : (d : Asked) → is_method_asked d ≡ true → Unknown ≡ last_member (answers_by (first_sought d) (shown cs owner) cs k) rows pool →
                   found sought.Method ≡ row_asked d cs k rows pool
@@ -106,4 +106,4 @@ display_read classes pool i g h = h ∙ ap (λ x. text_in pool x.display) g
 
 pub ruleset display_reading = (display_read, rules)
 
-pub ruleset asking = (asked_none, asked-inside, asked-some, asked-row, asked-other, asked-any, rules)
+pub ruleset asking = (asked_none, asked_inside, asked_some, asked_row, asked_other, asked_any, rules)

@@ -16,7 +16,7 @@ use Rattle.table_rows.specs.declared.rows.Ranges.{Ranges}
 use Rattle.table_rows.specs.Classes.{Pair}
 use Rattle.table_rows.specs.Rows.{unpack_class, unpack_member}
 use Rattle.tables.specs.Back.{text_in, pair_of, read_back}
-use Rattle.tables.proofs.Searching.{scanning_starts, scanning_ends, scanning-inside, scanning-found, scanning-more}
+use Rattle.tables.proofs.Searching.{scanning_starts, scanning_ends, scanning_inside, scanning_found, scanning_more}
 use Rattle.load_rule.specs.Members.{field, method}
 use Rattle.name_lines.specs.declared.lines.RawLine.{RawLine}
 use Rattle.name_lines.specs.LineNames.{holds_line}
@@ -53,11 +53,11 @@ module _ (cs : List Pair) (pool owner name descriptor : List ℕ) (m : Member) {
     pub other_name : not b ≡ true → false ≡ matches cs (key owner name descriptor) (member_back pool m)
     other_name i = sym (rw (first, second ∙ not-true b i))
 
-    pub by-descriptor : not b ≡ false → {t : List ℕ} → t ≡ text_in pool m.descriptor → {d : Bool} → d ≡ same t descriptor →
+    pub by_descriptor : not b ≡ false → {t : List ℕ} → t ≡ text_in pool m.descriptor → {d : Bool} → d ≡ same t descriptor →
         d ≡ matches cs (key owner name descriptor) (member_back pool m)
-    by-descriptor i j l = l ∙ ap (λ x. same x descriptor) j ∙ sym (rw (first, second ∙ not-false b i))
+    by_descriptor i j l = l ∙ ap (λ x. same x descriptor) j ∙ sym (rw (first, second ∙ not-false b i))
 
-pub ruleset matching = (other_class, other_name, by-descriptor, rules)
+pub ruleset matching = (other_class, other_name, by_descriptor, rules)
 
 -- What a member is, by its kind.
 kind_field : (pool : List ℕ) (m : Member) → m.kind ≡ 0 → kind_back pool m ≡ field
@@ -84,23 +84,23 @@ module _ (pool display : List ℕ) (m : Member) (t : Sought) where
     pub no_field : t ≡ Field → false ≡ sought_by t (known display) (kind_back pool m)
     no_field e = sym (rw (e, kind_method pool m n))
 
-    pub any-method : t ≡ Method → true ≡ sought_by t (known display) (kind_back pool m)
-    any-method e = sym (rw (e, kind_method pool m n))
+    pub any_method : t ≡ Method → true ≡ sought_by t (known display) (kind_back pool m)
+    any_method e = sym (rw (e, kind_method pool m n))
 
     module _ {s : List ℕ} (f : s ≡ text_in pool m.owner) {b : Bool} (g : b ≡ same display s) where
       owned : same display (text_in pool m.owner) ≡ b
       owned = ap (same display) (sym f) ∙ sym g
 
-      pub own-method : t ≡ Own → b ≡ sought_by t (known display) (kind_back pool m)
-      own-method e = sym (rw (e, kind_method pool m n, owned))
+      pub own_method : t ≡ Own → b ≡ sought_by t (known display) (kind_back pool m)
+      own_method e = sym (rw (e, kind_method pool m n, owned))
 
     -- numbers are compared before texts
     module _ {l : RawLine} (e : t ≡ OwnLine l) {r : Ranges} (q : r ≡ m.ranges) {h : Bool} (j : h ≡ holds_line r l) where
       held : sought_by t (known display) (kind_back pool m) ≡ both (same display (text_in pool m.owner)) h
       held = rw (e, kind_method pool m n) (ap (both (same display (text_in pool m.owner))) (ap (λ x. holds_line x l) (sym q) ∙ sym j))
 
-      pub other-line : not h ≡ true → false ≡ sought_by t (known display) (kind_back pool m)
-      other-line i = sym (held ∙ ap (both (same display (text_in pool m.owner))) (not-true h i) ∙ both_false (same display (text_in pool m.owner)))
+      pub other_line : not h ≡ true → false ≡ sought_by t (known display) (kind_back pool m)
+      other_line i = sym (held ∙ ap (both (same display (text_in pool m.owner))) (not-true h i) ∙ both_false (same display (text_in pool m.owner)))
 
       pub own_line : not h ≡ false → {s : List ℕ} → s ≡ text_in pool m.owner → {b : Bool} → b ≡ same display s →
           b ≡ sought_by t (known display) (kind_back pool m)
@@ -109,7 +109,7 @@ module _ (pool display : List ℕ) (m : Member) (t : Sought) where
           let a : b ≡ o = g ∙ ap (same display) f in
           a ∙ sym (held ∙ ap (both o) (not-false h i) ∙ both_true o)
 
-pub ruleset seeking_kind = (sought_field, no_field, any-method, own-method, other-line, own_line, rules)
+pub ruleset seeking_kind = (sought_field, no_field, any_method, own_method, other_line, own_line, rules)
 
 -- Both together.
 module _ (t : Sought) (d : Look) (cs : List Pair) (k : Key) (pool : List ℕ) (m : Member) {a : Bool} (e : a ≡ sought_by t d (kind_back pool m)) where
@@ -126,4 +126,4 @@ pub row_told : (t : Sought) (d : Look) (cs : List Pair) (k : Key) (pool row : Li
     {b : Bool} → b ≡ answers_by t d cs k (member_back pool m) → {z : Bool} → b ≡ z → answers_by t d cs k (entry_back pool row) ≡ z
 row_told t d cs k pool row e f g = ap (λ x. answers_by t d cs k (member_back pool x)) (sym e) ∙ sym f ∙ g
 
-pub ruleset members_scanned = (scanning_starts, scanning_ends, scanning-inside, scanning-found, scanning-more, row_told, rules)
+pub ruleset members_scanned = (scanning_starts, scanning_ends, scanning_inside, scanning_found, scanning_more, row_told, rules)

@@ -33,14 +33,14 @@ module _ (classes rows : List (List ℕ)) (pool owner name descriptor : List ℕ
     has : text_in pool (unpack_class (get_or classes i [])).raw ≡ owner
     has = raw_has classes pool owner (sym f ∙ e)
 
-    pub last-class : last_raw classes pool (text_in pool (unpack_class (get_or classes i [])).raw) ≡ Row i
-    last-class = raw_last classes pool owner (sym f ∙ e)
+    pub last_class : last_raw classes pool (text_in pool (unpack_class (get_or classes i [])).raw) ≡ Row i
+    last_class = raw_last classes pool owner (sym f ∙ e)
 
     pub class_row_lem : {z : Found} → z ≡ row_asked Method (read_back classes pool) (key (text_in pool (unpack_class (get_or classes i [])).raw) name descriptor) rows pool →
         z ≡ row_asked Method (read_back classes pool) (key owner name descriptor) rows pool
     class_row_lem g = g ∙ ap (λ x. row_asked Method (read_back classes pool) (key x name descriptor) rows pool) has
 
-pub ruleset probing_row = (unknown_class, last-class, class_row_lem, rules)
+pub ruleset probing_row = (unknown_class, last_class, class_row_lem, rules)
 
 -- The number.
 number_of : (o : Found) → row_number o ≡ answer_number (answer_of_row o)
@@ -57,16 +57,16 @@ module _ (c m : List (List ℕ)) (p n : List ℕ) (k : Key) {u : Used} (e : u �
       sym x ∙ as_counted u e
 
   module _ (h : not b ≡ false) where
-    pub member-rows-few : length (take u.members m) ≤ most_members
-    member-rows-few = let f = (formed c m p u (tested_formed c m p u w h)).counts.member_rows in omega (arith, length-take u.members m)
+    pub member_rows_few : length (take u.members m) ≤ most_members
+    member_rows_few = let f = (formed c m p u (tested_formed c m p u w h)).counts.member_rows in omega (arith, length-take u.members m)
 
-    pub probe-row : {o : Found} → o ≡ row_asked Method (read_back (take u.classes c) p) k (take u.members m) p → {r : ℕ} → r ≡ row_number o →
+    pub probe_row : {o : Found} → o ≡ row_asked Method (read_back (take u.classes c) p) k (take u.members m) p → {r : ℕ} → r ≡ row_number o →
         r ≡ answer_number (answering Method (tables c m p) (used_by n) k)
-    probe-row {o} f g =
+    probe_row {o} f g =
         let x : answer_number (answering Method (tables c m p) u k) ≡ answer_number (answer_of_row o) = rw (tested_formed c m p u w h, ← f) refl in
         g ∙ number_of o ∙ sym x ∙ as_counted u e
 
-pub ruleset probing = (prefix_whole, probe_malformed, class_rows_lent, member_rows_lent, member-rows-few, probe-row, rules)
+pub ruleset probing = (prefix_whole, probe_malformed, class_rows_lent, member_rows_lent, member_rows_few, probe_row, rules)
 
 pub row_number_lem : (o : Found) {i : ℕ} → o ≡ Row i → i % 4294967296 + 2 ≡ row_number o
 row_number_lem o e = sym (rw e)

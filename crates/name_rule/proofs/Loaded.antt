@@ -26,7 +26,7 @@ use Rattle.name_rule.specs.Mappings.{entry_back, entries_back, mapping, mapping_
 module _ (pool : List ℕ) (used : Used) where
   -- the four texts of a method
   record Texts (p : ℕ) (r d n o : List ℕ) : Type 0 where
-    raw-name : text_in pool (text p (length r)) ≡ r
+    raw_name_lem : text_in pool (text p (length r)) ≡ r
     descriptor : text_in pool (text (p + length r) (length d)) ≡ d
     name : text_in pool (text (p + length r + length d) (length n)) ≡ n
     owner : text_in pool (text (p + length r + length d + length n) (length o)) ≡ o
@@ -35,14 +35,14 @@ module _ (pool : List ℕ) (used : Used) where
   texts p r d n o h =
       let rest = holds_second r (d ++ (n ++ o)) h in
       let last = holds_second d (n ++ o) rest in
-      record { raw-name = (holds_first r (d ++ (n ++ o)) h).is; descriptor = (holds_first d (n ++ o) rest).is; name = (holds_first n o last).is; owner = (holds_second n o last).is }
+      record { raw_name_lem = (holds_first r (d ++ (n ++ o)) h).is; descriptor = (holds_first d (n ++ o) rest).is; name = (holds_first n o last).is; owner = (holds_second n o last).is }
 
   method_back : (p c : ℕ) (r d n o : List ℕ) (g : Ranges) → Texts p r d n o →
       entry_back pool (entry_row p (record { class = c; raw_name = r; descriptor = d; name = n; kind = method o g }))
       ≡ record { class = c; raw_name = r; descriptor = d; name = n; kind = method o g }
-  method_back p c r d n o None h = rw (h.raw-name, h.descriptor, h.name, h.owner)
-  method_back p c r d n o (Display x y) h = rw (h.raw-name, h.descriptor, h.name, h.owner)
-  method_back p c r d n o (Both v w x y) h = rw (h.raw-name, h.descriptor, h.name, h.owner)
+  method_back p c r d n o None h = rw (h.raw_name_lem, h.descriptor, h.name, h.owner)
+  method_back p c r d n o (Display x y) h = rw (h.raw_name_lem, h.descriptor, h.name, h.owner)
+  method_back p c r d n o (Both v w x y) h = rw (h.raw_name_lem, h.descriptor, h.name, h.owner)
 
   entry_back_lem : (p : ℕ) (e : Entry) → Holds pool used p (entry_text e) → entry_back pool (entry_row p e) ≡ e
   entry_back_lem p e h = go e.kind h

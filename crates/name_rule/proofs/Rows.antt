@@ -18,7 +18,7 @@ use Rattle.tables.specs.declared.search.Found.{Found}
 use Rattle.tables.specs.declared.search.Found.TheVariants.{Row, Unknown}
 use Rattle.tables.specs.Back.{text_in}
 use Rattle.tables.specs.Search.{or_row, last_row_from}
-use Rattle.tables.proofs.Searching.{answer-row, answer-none}
+use Rattle.tables.proofs.Searching.{answer_row, answer_none}
 use Rattle.load_rule.specs.Members.{MemberKind, field, method, Entry}
 use Rattle.name_lines.specs.declared.lines.RawLine.{RawLine}
 use Rattle.name_lines.specs.declared.lines.LineName.{LineName}
@@ -61,12 +61,12 @@ module _ (p : Entry → Bool) (pool : List ℕ) where
   named_step row rows = refl
 
   module _ (rows : List (List ℕ)) where
-    pub named-row : {i : ℕ} → last_member p rows pool ≡ Row i →
+    pub named_row : {i : ℕ} → last_member p rows pool ≡ Row i →
         (i < length rows) × (p (entry_back pool (get_or rows i [])) ≡ true) × (last_named p (entries_back rows pool) ≡ known (entry_back pool (get_or rows i [])).name)
-    named-row e = answer-row unknown or_look says (λ row. p (entry_back pool row)) named named_empty named_step (λ l. refl) (λ row l q. refl) rows e
+    named_row e = answer_row unknown or_look says (λ row. p (entry_back pool row)) named named_empty named_step (λ l. refl) (λ row l q. refl) rows e
 
     pub named_none : last_member p rows pool ≡ Unknown → last_named p (entries_back rows pool) ≡ unknown
-    named_none e = answer-none unknown or_look says (λ row. p (entry_back pool row)) named named_empty named_step (λ l. refl) (λ row l q. refl) rows e
+    named_none e = answer_none unknown or_look says (λ row. p (entry_back pool row)) named named_empty named_step (λ l. refl) (λ row l q. refl) rows e
 
 -- The line by the last member of which `p` holds and whose raw range holds it.
 shown_line : (g : Ranges) (n : RawLine) (l : LineName) → holds_line g n ≡ true → or_line (line_shown g n) l ≡ line_shown g n
@@ -125,22 +125,22 @@ module _ (cs : List Pair) (k : Key) (n : RawLine) (pool : List ℕ) where
   first_stays (method o g) l h = shown_line g n l h
 
   module _ (rows : List (List ℕ)) where
-    pub translated-row : {i : ℕ} → line_row cs k n rows pool ≡ Row i →
+    pub translated_row : {i : ℕ} → line_row cs k n rows pool ≡ Row i →
         (i < length rows) × (holds (get_or rows i []) ≡ true) × (translated rows ≡ shows (get_or rows i []))
-    translated-row e =
-        answer-row line.Unknown or_line shows holds translated translated_empty translated_step (λ l. refl)
+    translated_row e =
+        answer_row line.Unknown or_line shows holds translated translated_empty translated_step (λ l. refl)
         (λ row l q. first_stays (entry_back pool row).kind l (kind_holds_lem row q)) rows e
 
-    pub translated-none : line_row cs k n rows pool ≡ Unknown → translated rows ≡ line.Unknown
-    translated-none e =
-        answer-none line.Unknown or_line shows holds translated translated_empty translated_step (λ l. refl)
+    pub translated_none : line_row cs k n rows pool ≡ Unknown → translated rows ≡ line.Unknown
+    translated_none e =
+        answer_none line.Unknown or_line shows holds translated translated_empty translated_step (λ l. refl)
         (λ row l q. first_stays (entry_back pool row).kind l (kind_holds_lem row q)) rows e
 
 -- What the row that answers says.
 module _ (cs : List Pair) (k : Key) (rows : List (List ℕ)) (pool : List ℕ) where
   pub field_found : {i : ℕ} → field_row cs k rows pool ≡ Row i →
       (i < length rows) × (field_name (mapping cs (entries_back rows pool)) k ≡ known (text_in pool (unpack_member (get_or rows i [])).name))
-  field_found e = let t = named-row (field_matches cs k) pool rows e in (t.0, t.2)
+  field_found e = let t = named_row (field_matches cs k) pool rows e in (t.0, t.2)
 
   pub field_unknown : field_row cs k rows pool ≡ Unknown → field_name (mapping cs (entries_back rows pool)) k ≡ unknown
   field_unknown e = named_none (field_matches cs k) pool rows e
@@ -157,8 +157,8 @@ module _ (cs : List Pair) (k : Key) (rows : List (List ℕ)) (pool : List ℕ) w
     where
       go : (a b : Found) → own ≡ a → any ≡ b → or_row a b ≡ Row i →
           (i < length rows) × (method_name (mapping cs (entries_back rows pool)) k ≡ known (text_in pool (unpack_member (get_or rows i [])).name))
-      go (Row j) b f g h = let t = named-row (owner_matches cs k) pool rows (f ∙ h) in (t.0, rw t.2)
-      go Unknown b f g h = let t = named-row (method_matches cs k) pool rows (g ∙ h) in (t.0, rw (named_none (owner_matches cs k) pool rows f, t.2))
+      go (Row j) b f g h = let t = named_row (owner_matches cs k) pool rows (f ∙ h) in (t.0, rw t.2)
+      go Unknown b f g h = let t = named_row (method_matches cs k) pool rows (g ∙ h) in (t.0, rw (named_none (owner_matches cs k) pool rows f, t.2))
 
   pub method_unknown : method_row cs k rows pool ≡ Unknown → method_name (mapping cs (entries_back rows pool)) k ≡ unknown
   method_unknown e = go own any refl refl e
@@ -171,12 +171,12 @@ module _ (cs : List Pair) (k : Key) (rows : List (List ℕ)) (pool : List ℕ) w
       (i < length rows) × (line_of_method (mapping cs (entries_back rows pool)) k n ≡ line_name (unpack_member (get_or rows i [])).ranges n)
   line_found n {i} e =
       let row : List ℕ = get_or rows i [] in
-      let t = translated-row cs k n pool rows e in
+      let t = translated_row cs k n pool rows e in
       let h = kind_holds_lem cs k n pool row t.1 in
       (t.0, t.2 ∙ shown_is (eqb (unpack_member row).kind 0) (text_in pool (unpack_member row).owner) (unpack_member row).ranges n h)
 
   pub line_unknown : (n : RawLine) → line_row cs k n rows pool ≡ Unknown → line_of_method (mapping cs (entries_back rows pool)) k n ≡ line.Unknown
-  line_unknown n e = translated-none cs k n pool rows e
+  line_unknown n e = translated_none cs k n pool rows e
 
 -- A member belongs to a class that there is.
 pub row_raw : (f : List ℕ → Pair) (rows : List (List ℕ)) (i : ℕ) → i < length rows → raw_of_row (map f rows) i ≡ known (f (get_or rows i [])).raw

@@ -31,54 +31,54 @@ module _ (s : List ℕ) {p : Place} (e : p ≡ first_colon s) where
   lead_no_colon g = sym (rw (sym e ∙ g))
 
   module _ {first : ℕ} (g : p ≡ At first) where
-    pub colon-inside : first < length s
-    colon-inside = first_inside (starts 0x3A) s (sym e ∙ g)
+    pub colon_inside : first < length s
+    colon_inside = first_inside (starts 0x3A) s (sym e ∙ g)
 
-    pub lead-after-fits : length s < 2 ^ 64 → Fits w64 (first + 1)
-    lead-after-fits b = let i = colon-inside in omega arith
+    pub lead_after_fits : length s < 2 ^ 64 → Fits w64 (first + 1)
+    lead_after_fits b = let i = colon_inside in omega arith
 
     pub lead_after : first + 1 ≤ length s
-    lead_after = let i = colon-inside in omega arith
+    lead_after = let i = colon_inside in omega arith
 
     module _ {q : Place} (f : q ≡ first_colon (between s (first + 1) (length s))) where
       second : q ≡ first_colon (drop (first + 1) s)
       second = rw (take_rest s (first + 1)) at f
 
-      pub lead-one-colon : q ≡ Nowhere → Leading.NotTaken ≡ leading_range s
-      lead-one-colon h = sym (rw (sym e ∙ g, sym second ∙ h))
+      pub lead_one_colon : q ≡ Nowhere → Leading.NotTaken ≡ leading_range s
+      lead_one_colon h = sym (rw (sym e ∙ g, sym second ∙ h))
 
       module _ {width : ℕ} (h : q ≡ At width) where
         reaches : first + 1 + width < length s
         reaches = let i = first_inside (starts 0x3A) (drop (first + 1) s) (sym second ∙ h) in omega (arith, length-drop (first + 1) s)
 
-        pub lead-reaches : first + 1 + width ≤ length s
-        lead-reaches = let i = reaches in omega arith
+        pub lead_reaches : first + 1 + width ≤ length s
+        lead_reaches = let i = reaches in omega arith
 
-        pub lead-fits : length s < 2 ^ 64 → Fits w64 (first + 1 + width)
-        lead-fits b = let i = reaches in omega arith
+        pub lead_fits : length s < 2 ^ 64 → Fits w64 (first + 1 + width)
+        lead_fits b = let i = reaches in omega arith
 
-        pub lead-rest-fits : length s < 2 ^ 64 → Fits w64 (first + 1 + width + 1)
-        lead-rest-fits b = let i = reaches in omega arith
+        pub lead_rest_fits : length s < 2 ^ 64 → Fits w64 (first + 1 + width + 1)
+        lead_rest_fits b = let i = reaches in omega arith
 
         whole : leading_range s ≡ both_read (number_of (take first s)) (number_of (take width (drop (first + 1) s))) (first + 1 + width + 1)
         whole = rw (sym e ∙ g, sym second ∙ h)
 
         module _ {n : Number} (a : n ≡ number_of (take first s)) where
-          pub lead-first-unread : n ≡ Unread → Leading.NotTaken ≡ leading_range s
-          lead-first-unread y = sym (whole ∙ rw (sym a ∙ y))
+          pub lead_first_unread : n ≡ Unread → Leading.NotTaken ≡ leading_range s
+          lead_first_unread y = sym (whole ∙ rw (sym a ∙ y))
 
           module _ {start : ℕ} (y : n ≡ Value start) {m : Number} (b : m ≡ number_of (between s (first + 1) (first + 1 + width))) where
             other : m ≡ number_of (take width (drop (first + 1) s))
             other = let z : first + 1 + width - (first + 1) ≡ width = omega arith in rw z at b
 
-            pub lead-second-unread : m ≡ Unread → Leading.NotTaken ≡ leading_range s
-            lead-second-unread w = sym (whole ∙ rw (sym a ∙ y, sym other ∙ w))
+            pub lead_second_unread : m ≡ Unread → Leading.NotTaken ≡ leading_range s
+            lead_second_unread w = sym (whole ∙ rw (sym a ∙ y, sym other ∙ w))
 
-            pub lead-taken : {«end» : ℕ} → m ≡ Value «end» → Leading.Taken start «end» (first + 1 + width + 1) ≡ leading_range s
-            lead-taken w = sym (whole ∙ rw (sym a ∙ y, sym other ∙ w))
+            pub lead_taken : {«end» : ℕ} → m ≡ Value «end» → Leading.Taken start «end» (first + 1 + width + 1) ≡ leading_range s
+            lead_taken w = sym (whole ∙ rw (sym a ∙ y, sym other ∙ w))
 
 pub ruleset leading =
-    (lead_no_colon, colon-inside, prefix_size, lead-after-fits, lead_after, lead-one-colon, lead-reaches, lead-fits, lead-rest-fits, lead-first-unread, lead-second-unread, lead-taken, rules)
+    (lead_no_colon, colon_inside, prefix_size, lead_after_fits, lead_after, lead_one_colon, lead_reaches, lead_fits, lead_rest_fits, lead_first_unread, lead_second_unread, lead_taken, rules)
 
 -- What is left starts right behind a colon.
 pub record Behind (s : List ℕ) (rest : ℕ) : Type 0 where
@@ -120,10 +120,10 @@ module _ (s : List ℕ) {p : Place} (e : p ≡ first_colon s) where
   colon_none g = sym (rw (sym e ∙ g))
 
   module _ {i : ℕ} (g : p ≡ At i) where
-    pub colon-cut : take i s ≡ to_colon s
-    colon-cut = sym (rw (sym e ∙ g))
+    pub colon_cut : take i s ≡ to_colon s
+    colon_cut = sym (rw (sym e ∙ g))
 
-pub ruleset to_colon_lem = (colon_none, colon-cut, colon-inside, prefix_size, rules)
+pub ruleset to_colon_lem = (colon_none, colon_cut, colon_inside, prefix_size, rules)
 
 module _ {n : Number} (t : List ℕ) (a : n ≡ number_of t) where
   pub one_unread : n ≡ Unread → Trailing.NotTaken ≡ one_number (number_of t)
@@ -142,13 +142,13 @@ module _ (s : List ℕ) (i : ℕ) {n : Number} (a : n ≡ number_of (take i s)) 
     later : number_of (to_colon (drop (i + 1) s)) ≡ m
     later = sym (b ∙ rw (c, take_rest s (i + 1)))
 
-    pub two-short : m ≡ Unread → Trailing.Taken start start true ≡ two_numbers (number_of (take i s)) (number_of (to_colon (drop (i + 1) s)))
-    two-short w = sym (rw (sym a ∙ y, later ∙ w))
+    pub two_short : m ≡ Unread → Trailing.Taken start start true ≡ two_numbers (number_of (take i s)) (number_of (to_colon (drop (i + 1) s)))
+    two_short w = sym (rw (sym a ∙ y, later ∙ w))
 
     pub two_read : {«end» : ℕ} → m ≡ Value «end» → Trailing.Taken start «end» false ≡ two_numbers (number_of (take i s)) (number_of (to_colon (drop (i + 1) s)))
     two_read w = sym (rw (sym a ∙ y, later ∙ w))
 
-pub ruleset two_numbers_lem = (prefix_size, two_unread, two-short, two_read, rules)
+pub ruleset two_numbers_lem = (prefix_size, two_unread, two_short, two_read, rules)
 
 pub trail_empty : (s : List ℕ) → length s ≡ 0 → Trailing.NotTaken ≡ trailing_range s
 trail_empty [] h = refl
@@ -170,13 +170,13 @@ module _ (s : List ℕ) (h : length s ≡ 0 → ⊥) (c : get_or s 0 0 ≡ 0x3A)
   trail_one g a = a ∙ sym (colon_first s h c ∙ rw (sym numbers ∙ g, take_rest s 1))
 
   module _ {i : ℕ} (g : p ≡ At i) where
-    pub trail-inside : i < length (between s 1 (length s))
-    trail-inside = first_inside (starts 0x3A) (take (length s - 1) (drop 1 s)) (sym e ∙ g)
+    pub trail_inside : i < length (between s 1 (length s))
+    trail_inside = first_inside (starts 0x3A) (take (length s - 1) (drop 1 s)) (sym e ∙ g)
 
-    pub trail-two :
+    pub trail_two :
         {r : TrailingRange} →
         r ≡ two_numbers (number_of (take i (between s 1 (length s)))) (number_of (to_colon (drop (i + 1) (between s 1 (length s))))) →
         r ≡ trailing_range s
-    trail-two a = a ∙ sym (colon_first s h c ∙ rw (sym numbers ∙ g, take_rest s 1))
+    trail_two a = a ∙ sym (colon_first s h c ∙ rw (sym numbers ∙ g, take_rest s 1))
 
-pub ruleset trailing = (trail_empty, trail_other, trail_one, trail-inside, trail-two, rules)
+pub ruleset trailing = (trail_empty, trail_other, trail_one, trail_inside, trail_two, rules)

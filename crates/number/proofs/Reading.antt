@@ -48,22 +48,22 @@ module _ {s : List ℕ} {start value at : ℕ} (r : Read s start value at) where
     unfolding digits_from
     read_low b = rw (drop-cons s at 0 h, within_low 0x30 0x39 (get_or s at 0) b) at r.decides
 
-    pub read-high : 0x39 < get_or s at 0 → Unread ≡ plain (drop start s)
+    pub read_high : 0x39 < get_or s at 0 → Unread ≡ plain (drop start s)
     unfolding digits_from
-    read-high b = rw (drop-cons s at 0 h, within_high 0x30 0x39 (get_or s at 0) b) at r.decides
+    read_high b = rw (drop-cons s at 0 h, within_high 0x30 0x39 (get_or s at 0) b) at r.decides
 
     module _ (l : 0x30 ≤ get_or s at 0) (u : get_or s at 0 ≤ 0x39) where
       goes : digits_from (value * 10 + (get_or s at 0 - 0x30)) (drop (suc at) s) ≡ plain (drop start s)
       unfolding digits_from
       goes = rw (drop-cons s at 0 h, within_yes 0x30 0x39 (get_or s at 0) l u) at r.decides
 
-      pub read-over : 4294967295 < value * 10 + (get_or s at 0 - 0x30) → Unread ≡ plain (drop start s)
-      read-over b = sym (digits_over (value * 10 + (get_or s at 0 - 0x30)) (drop (suc at) s) b) ∙ goes
+      pub read_over : 4294967295 < value * 10 + (get_or s at 0 - 0x30) → Unread ≡ plain (drop start s)
+      read_over b = sym (digits_over (value * 10 + (get_or s at 0 - 0x30)) (drop (suc at) s) b) ∙ goes
 
       pub read_more : value * 10 + (get_or s at 0 - 0x30) ≤ 4294967295 → Read s start (value * 10 + (get_or s at 0 - 0x30)) (at + 1)
       read_more b = record { inside = omega arith; small = b; decides = rw add-one goes }
 
-pub ruleset reading = (read_none, read_starts, read_all, read_low, read-high, read-over, read_more, rules)
+pub ruleset reading = (read_none, read_starts, read_all, read_low, read_high, read_over, read_more, rules)
 
 -- The optional plus.
 pub number_none : (s : List ℕ) → length s ≡ 0 → Unread ≡ number_of s

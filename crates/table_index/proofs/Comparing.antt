@@ -117,22 +117,22 @@ module _ {a b : List ℕ} {i : ℕ} (k : Weighing a b i) where
   weighing_short h g = rw (drop_of_length-le a h, drop-cons b i 0 g) at k.decides
 
   module _ (h : i < length a) where
-    pub weighing-long : length b ≤ i → After ≡ compared a b
+    pub weighing_long : length b ≤ i → After ≡ compared a b
     unfolding compared
-    weighing-long g = rw (drop-cons a i 0 h, drop_of_length-le b g) at k.decides
+    weighing_long g = rw (drop-cons a i 0 h, drop_of_length-le b g) at k.decides
 
     module _ (g : i < length b) where
       here : compared (get_or a i 0 ∷ drop (suc i) a) (get_or b i 0 ∷ drop (suc i) b) ≡ compared a b
       here = rw (drop-cons a i 0 h, drop-cons b i 0 g) at k.decides
 
-      pub weighing-less : get_or a i 0 < get_or b i 0 → Before ≡ compared a b
-      weighing-less l = sym (compared_less (get_or a i 0) (get_or b i 0) (drop (suc i) a) (drop (suc i) b) l) ∙ here
+      pub weighing_less : get_or a i 0 < get_or b i 0 → Before ≡ compared a b
+      weighing_less l = sym (compared_less (get_or a i 0) (get_or b i 0) (drop (suc i) a) (drop (suc i) b) l) ∙ here
 
-      pub weighing-more : get_or b i 0 < get_or a i 0 → After ≡ compared a b
-      weighing-more l = sym (compared_more (get_or a i 0) (get_or b i 0) (drop (suc i) a) (drop (suc i) b) l) ∙ here
+      pub weighing_more : get_or b i 0 < get_or a i 0 → After ≡ compared a b
+      weighing_more l = sym (compared_more (get_or a i 0) (get_or b i 0) (drop (suc i) a) (drop (suc i) b) l) ∙ here
 
-      pub weighing-next : get_or b i 0 ≤ get_or a i 0 → get_or a i 0 ≤ get_or b i 0 → Weighing a b (i + 1)
-      weighing-next l m = record {
+      pub weighing_next : get_or b i 0 ≤ get_or a i 0 → get_or a i 0 ≤ get_or b i 0 → Weighing a b (i + 1)
+      weighing_next l m = record {
         in_first = omega arith;
         in_second = omega arith;
         decides = rw add-one
@@ -146,7 +146,7 @@ weighing_past a b zero h k e = weighing_starts a b
 weighing_past a b (suc i) h k e =
     let here : get_or a i 0 ≡ get_or b i 0 = e i (omega arith) in
     rw add-one at
-    (weighing-next (weighing_past a b i (omega arith) (omega arith) (λ j l. e j (omega arith))) (omega arith) (omega arith)
+    (weighing_next (weighing_past a b i (omega arith) (omega arith) (λ j l. e j (omega arith))) (omega arith) (omega arith)
     (omega arith) (omega arith))
 
 pub weighing_alike : (a b : List ℕ) {i : ℕ} → AlikeTo a 0 b false i → Weighing a b i
@@ -155,4 +155,4 @@ weighing_alike a b {i} x =
     weighing_past a b i (omega arith) x.in_name (λ j l. ap (λ n. get_or a n 0) (sym (zero-add j)) ∙ x.each j l)
 
 pub ruleset weighing =
-    (weighing_alike, weighing_same, weighing_short, weighing-long, weighing-less, weighing-more, weighing-next, rules)
+    (weighing_alike, weighing_same, weighing_short, weighing_long, weighing_less, weighing_more, weighing_next, rules)

@@ -21,7 +21,7 @@ use Rattle.table_index.specs.Inner.Index.{IndexBy}
 use Rattle.table_index.proofs.Comparing.{Way, less, even, more, way}
 use Rattle.table_index.proofs.Heads.{head_inside, count_here, count_other, count_rises, count_room, shelf_inside, shelf_before}
 use Rattle.table_index.proofs.Shelving.{shelf_same, shelf_other, shelf_more, ranked_wider}
-use Rattle.table_index.proofs.Laying.{grouped_size, grouped_rows, laid-shelved}
+use Rattle.table_index.proofs.Laying.{grouped_size, grouped_rows, laid_shelved}
 
 module _ {n : ℕ} {keys : List (List ℕ)} {ms index : List ℕ} {k : ℕ} (x : Shelved n keys ms index k) (h : k < n) where
   pub head_place : heads_at + k < length index
@@ -43,8 +43,8 @@ module _ {n : ℕ} {keys : List (List ℕ)} {ms index : List ℕ} {k : ℕ} (x :
     pub head_few : f < most_classes
     head_few = let w = x.few in let i = small in omega arith
 
-    pub shelf-size : length index ≡ index_size
-    shelf-size = x.size
+    pub shelf_size : length index ≡ index_size
+    shelf_size = x.size
 
     module _ {a b : ℕ} (c : ShelfAt index f a b) where
       start_is : a ≡ count_below ms f n
@@ -60,14 +60,14 @@ module _ {n : ℕ} {keys : List (List ℕ)} {ms index : List ℕ} {k : ℕ} (x :
       below : b < n
       below = let r = room in let i = shelf_inside ms f n in omega arith
 
-      own-shelf : Shelf keys ms index k f a b
-      own-shelf = rw (start_is, end_is) (x.shelves f small)
+      own_shelf : Shelf keys ms index k f a b
+      own_shelf = rw (start_is, end_is) (x.shelves f small)
 
-      pub shelf-ranked : Ranked keys index n a b
-      shelf-ranked = let i = x.inside in ranked_wider (omega arith) own-shelf.ranked
+      pub shelf_ranked : Ranked keys index n a b
+      shelf_ranked = let i = x.inside in ranked_wider (omega arith) own_shelf.ranked
 
-      pub end-few : b < most_classes
-      end-few = let r = below in let w = x.few in omega arith
+      pub end_few : b < most_classes
+      end_few = let r = below in let w = x.few in omega arith
 
       module _ {p : ℕ} (v : Bound keys index a b (get_or keys k []) p) where
         pub place_inside : p ≤ b
@@ -80,8 +80,8 @@ module _ {n : ℕ} {keys : List (List ℕ)} {ms index : List ℕ} {k : ℕ} (x :
           same_size : length done ≡ length index
           same_size = length-set new (ends_at + f) (b + 1) ∙ y.size
 
-          end-place : ends_at + f < length new
-          end-place = let z = y.size in let s = x.size in let i = head_few in omega arith
+          end_place : ends_at + f < length new
+          end_place = let z = y.size in let s = x.size in let i = head_few in omega arith
 
           -- the numbers that no shelf has
           parts : (i : ℕ) → most_classes ≤ i → (i ≡ ends_at + f → ⊥) → get_or done i 0 ≡ get_or index i 0
@@ -102,7 +102,7 @@ module _ {n : ℕ} {keys : List (List ℕ)} {ms index : List ℕ} {k : ℕ} (x :
                   let z : f ≡ g = eqb-true f g q in
                   let i = end_is in
                   let r = ap (count_with ms f) (add-one k) ∙ count_here ms f k own in
-                  rw (← z) (get_or-set_same new (ends_at + f) (b + 1) 0 end-place ∙ omega arith)
+                  rw (← z) (get_or-set_same new (ends_at + f) (b + 1) 0 end_place ∙ omega arith)
               go false q =
                   let z = eqb-false f g q in
                   let r = ap (count_with ms g) (add-one k) ∙ count_other ms g k (λ o. z (sym own ∙ o)) in
@@ -111,17 +111,17 @@ module _ {n : ℕ} {keys : List (List ℕ)} {ms index : List ℕ} {k : ℕ} (x :
                   parts (ends_at + g) (omega arith) (λ o. z (omega arith)) ∙ omega arith
 
           -- the shelf of the row, and any other
-          shelf-here : Shelf keys ms done (k + 1) f a (b + 1)
-          shelf-here =
+          shelf_here : Shelf keys ms done (k + 1) f a (b + 1)
+          shelf_here =
               let r = below in
               let w = x.few in
-              let s = own-shelf in
+              let s = own_shelf in
               shelf_same (length-set new (ends_at + f) (b + 1)) (λ i l m. rows i (omega arith))
-              (shelf_more own-shelf y v (let z = x.size in omega arith))
+              (shelf_more own_shelf y v (let z = x.size in omega arith))
 
-          shelf-there : (g : ℕ) → g < n → Way f g → (f ≡ g → ⊥) →
+          shelf_there : (g : ℕ) → g < n → Way f g → (f ≡ g → ⊥) →
               Shelf keys ms done (k + 1) g (count_below ms g n) (count_below ms g n + count_with ms g k)
-          shelf-there g l (less o) z =
+          shelf_there g l (less o) z =
               let r = room in
               let q = shelf_before ms f g n o in
               let j = x.inside in
@@ -131,8 +131,8 @@ module _ {n : ℕ} {keys : List (List ℕ)} {ms index : List ℕ} {k : ℕ} (x :
               shelf_same same_size
               (λ m u v. rows m (omega arith) ∙ y.rest m (omega arith))
               (shelf_other (λ q. z (sym own ∙ q)) (x.shelves g l))
-          shelf-there g l (even o) z = absurd (z o)
-          shelf-there g l (more o) z =
+          shelf_there g l (even o) z = absurd (z o)
+          shelf_there g l (more o) z =
               let q = shelf_before ms g f n o in
               let j = x.inside in
               let i = count_rises ms g k n (omega arith) in
@@ -144,9 +144,9 @@ module _ {n : ℕ} {keys : List (List ℕ)} {ms index : List ℕ} {k : ℕ} (x :
               (λ m u v. rows m (omega arith) ∙ y.front m (omega arith))
               (shelf_other (λ q. z (sym own ∙ q)) (x.shelves g l))
 
-          shelves-more : (g : ℕ) → g < n →
+          shelves_more : (g : ℕ) → g < n →
               Shelf keys ms done (k + 1) g (count_below ms g n) (count_below ms g n + count_with ms g (k + 1))
-          shelves-more g l = go (eqb f g) refl
+          shelves_more g l = go (eqb f g) refl
             where
               go : (o : Bool) → eqb f g ≡ o →
                   Shelf keys ms done (k + 1) g (count_below ms g n) (count_below ms g n + count_with ms g (k + 1))
@@ -155,15 +155,15 @@ module _ {n : ℕ} {keys : List (List ℕ)} {ms index : List ℕ} {k : ℕ} (x :
                   let i = end_is in
                   let r = ap (count_with ms f) (add-one k) ∙ count_here ms f k own in
                   let s : count_below ms f n + count_with ms f (k + 1) ≡ b + 1 = omega arith in
-                  rw (← z, s, ← start_is) shelf-here
+                  rw (← z, s, ← start_is) shelf_here
               go false q =
                   let z = eqb-false f g q in
                   let r : count_with ms g (k + 1) ≡ count_with ms g k =
                   ap (count_with ms g) (add-one k) ∙ count_other ms g k (λ o. z (sym own ∙ o)) in
-                  rw r (shelf-there g l (way f g) z)
+                  rw r (shelf_there g l (way f g) z)
 
-          one-shelved : Shelved n keys ms done (k + 1)
-          one-shelved = record {
+          one_shelved : Shelved n keys ms done (k + 1)
+          one_shelved = record {
             few = x.few;
             inside = omega arith;
             size = same_size ∙ x.size;
@@ -171,18 +171,18 @@ module _ {n : ℕ} {keys : List (List ℕ)} {ms index : List ℕ} {k : ℕ} (x :
             heads = λ r l. let i = small in let w = x.few in parts (heads_at + r) (omega arith) (λ q. omega arith) ∙ x.heads r l;
             starts = λ g l. let i = small in let w = x.few in parts (starts_at + g) (omega arith) (λ q. omega arith) ∙ x.starts g l;
             ends = ends_more;
-            shelves = shelves-more;
+            shelves = shelves_more;
           }
 
         module _ {new : List ℕ} (y : Filed index new p b k f) where
-          pub row-shelved : Shelved n keys ms new (k + 1)
-          row-shelved = rw y.is (one-shelved y.inserted)
+          pub row_shelved : Shelved n keys ms new (k + 1)
+          row_shelved = rw y.is (one_shelved y.inserted)
 
-          pub row-length : length new ≡ length index
-          row-length = row-shelved.size ∙ sym x.size
+          pub row_length : length new ≡ length index
+          row_length = row_shelved.size ∙ sym x.size
 
 pub ruleset filing =
-    (head_place, head_place_fits, row_few, head_few, shelf-size, shelf-ranked, end-few, place_inside, row-shelved, row-length, rules)
+    (head_place, head_place_fits, row_few, head_few, shelf_size, shelf_ranked, end_few, place_inside, row_shelved, row_length, rules)
 
 -- The place of a row, by its text.
 pub place_told : {keys : List (List ℕ)} {order : List ℕ} {a b : ℕ} (row : ℕ) {p : ℕ} {t : List ℕ} → t ≡ get_or keys row [] →
@@ -219,7 +219,7 @@ pub made_index : (side : Side) (rows : List (List ℕ)) (pool index : List ℕ) 
     IndexBy side rows pool index
 made_index side rows pool index x = record { shelved = λ e. x }
 
-pub ruleset making = (grouped_size, grouped_rows, laid-shelved, made_length, made_index, rules)
+pub ruleset making = (grouped_size, grouped_rows, laid_shelved, made_length, made_index, rules)
 
 -- No table of that size.
 pub no_index : {side : Side} {rows : List (List ℕ)} {pool index : List ℕ} → (length index ≡ index_size → ⊥) →

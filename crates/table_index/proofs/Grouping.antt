@@ -133,22 +133,22 @@ module _ (keys : List (List ℕ)) {n k : ℕ} {index : List ℕ} (g : Grouped n 
       abbrev numbered : List ℕ
       numbered = set index (marks_at + mark) (k + 1)
 
-      pub new-size : (v : ℕ) → length (set index (marks_at + mark) v) ≡ index_size
-      new-size v = length-set index (marks_at + mark) v ∙ g.size
+      pub new_size : (v : ℕ) → length (set index (marks_at + mark) v) ≡ index_size
+      new_size v = length-set index (marks_at + mark) v ∙ g.size
 
       kept : (i : ℕ) → (i ≡ marks_at + mark → ⊥) → get_or numbered i 0 ≡ get_or index i 0
       kept i n = get_or-set_other index (marks_at + mark) i (k + 1) 0 n
 
-      pub new-count : (v : ℕ) → get_or (set index (marks_at + mark) v) (ends_at + k) 0 < most_classes
-      new-count v =
+      pub new_count : (v : ℕ) → get_or (set index (marks_at + mark) v) (ends_at + k) 0 < most_classes
+      new_count v =
           let w = g.few in
           let s = get_or-set_other index (marks_at + mark) (ends_at + k) v 0 (λ e. omega arith) in
           let c = g.counts k (omega arith) in
           let i = count_inside (marks_of keys) k k in
           omega arith
 
-      is-new : first_with (marks_of keys) (get_or (marks_of keys) k 0) k ≡ 0
-      is-new = sym first_is ∙ z
+      is_new : first_with (marks_of keys) (get_or (marks_of keys) k 0) k ≡ 0
+      is_new = sym first_is ∙ z
 
       numbers : (m : ℕ) → m < mark_count → get_or numbered (marks_at + m) 0 ≡ first_with (marks_of keys) m (suc k)
       numbers m l = go (eqb mark m) refl
@@ -160,44 +160,44 @@ module _ (keys : List (List ℕ)) {n k : ℕ} {index : List ℕ} (g : Grouped n 
               ap (λ x. get_or numbered (marks_at + x) 0) (sym v)
               ∙ get_or-set_same index (marks_at + mark) (k + 1) 0 mark_place ∙ add-one k
               ∙ sym (ap (λ x. first_with (marks_of keys) x (suc k)) q
-              ∙ first_here (marks_of keys) (get_or (marks_of keys) k 0) k refl ∙ ap (λ x. or_number x (suc k)) is-new)
+              ∙ first_here (marks_of keys) (get_or (marks_of keys) k 0) k refl ∙ ap (λ x. or_number x (suc k)) is_new)
           go false o =
               let v = eqb-false mark m o in
               kept (marks_at + m) (λ y. v (omega arith)) ∙ g.firsts m l
               ∙ sym (first_other (marks_of keys) m k (λ y. v (told ∙ y)))
 
-      pub new-grouped : {new : List ℕ} → new ≡ joined (set index (marks_at + mark) (k + 1)) k k →
+      pub new_grouped : {new : List ℕ} → new ≡ joined (set index (marks_at + mark) (k + 1)) k k →
           Grouped n (marks_of keys) new (k + 1)
-      new-grouped y =
+      new_grouped y =
           let w = g.few in
           rw y
-          (joined_grouped n (marks_of keys) numbered k k g.few h (new-size (k + 1)) (head_new (marks_of keys) k is-new) numbers
+          (joined_grouped n (marks_of keys) numbered k k g.few h (new_size (k + 1)) (head_new (marks_of keys) k is_new) numbers
           (λ r l. kept (heads_at + r) (λ o. omega arith) ∙ g.heads r l)
           (λ x l. kept (ends_at + x) (λ o. omega arith) ∙ g.counts x l) (add-one k))
 
     module _ (z : first ≡ 0 → ⊥) where
-      pub old-sub : 1 ≤ first
-      old-sub = omega arith
+      pub old_sub : 1 ≤ first
+      old_sub = omega arith
 
-      pub old-head : first - 1 < most_classes
-      old-head =
+      pub old_head : first - 1 < most_classes
+      old_head =
           let w = g.few in
           let q = first_is in
           let i = first_inside (marks_of keys) (get_or (marks_of keys) k 0) k in
           omega arith
 
-      pub old-count : get_or index (ends_at + (first - 1)) 0 < most_classes
-      old-count =
+      pub old_count : get_or index (ends_at + (first - 1)) 0 < most_classes
+      old_count =
           let w = g.few in
-          let c = g.counts (first - 1) old-head in
+          let c = g.counts (first - 1) old_head in
           let i = count_inside (marks_of keys) (first - 1) k in
           omega arith
 
       own : head_of (marks_of keys) k ≡ first - 1
       own = head_old (marks_of keys) k first_is z
 
-      numbers-old : (m : ℕ) → m < mark_count → get_or index (marks_at + m) 0 ≡ first_with (marks_of keys) m (suc k)
-      numbers-old m l = g.firsts m l ∙ go (eqb (get_or (marks_of keys) k 0) m) refl
+      numbers_old : (m : ℕ) → m < mark_count → get_or index (marks_at + m) 0 ≡ first_with (marks_of keys) m (suc k)
+      numbers_old m l = g.firsts m l ∙ go (eqb (get_or (marks_of keys) k 0) m) refl
         where
           go : (b : Bool) → eqb (get_or (marks_of keys) k 0) m ≡ b → first_with (marks_of keys) m k ≡ first_with (marks_of keys) m (suc k)
           go true o =
@@ -209,10 +209,10 @@ module _ (keys : List (List ℕ)) {n k : ℕ} {index : List ℕ} (g : Grouped n 
               rw (← q) (omega arith)
           go false o = sym (first_other (marks_of keys) m k (eqb-false (get_or (marks_of keys) k 0) m o))
 
-      pub old-grouped : {new : List ℕ} → new ≡ joined index k (first - 1) → Grouped n (marks_of keys) new (k + 1)
-      old-grouped y =
+      pub old_grouped : {new : List ℕ} → new ≡ joined index k (first - 1) → Grouped n (marks_of keys) new (k + 1)
+      old_grouped y =
           rw y
-          (joined_grouped n (marks_of keys) index k (first - 1) g.few h g.size own numbers-old g.heads g.counts (add-one k))
+          (joined_grouped n (marks_of keys) index k (first - 1) g.few h g.size own numbers_old g.heads g.counts (add-one k))
 
 pub joined_length : (index : List ℕ) (i v : ℕ) {new : List ℕ} (k f : ℕ) → new ≡ joined (set index i v) k f →
     length new ≡ length index
@@ -225,13 +225,13 @@ pub ruleset grouping = (
   mark_place_fits,
   number_fits,
   row_few,
-  new-size,
-  new-count,
-  new-grouped,
-  old-sub,
-  old-head,
-  old-count,
-  old-grouped,
+  new_size,
+  new_count,
+  new_grouped,
+  old_sub,
+  old_head,
+  old_count,
+  old_grouped,
   joined_length,
   rules,
 )

@@ -35,8 +35,8 @@ halving_starts t r = record {
 
 module _ {keys : List (List ℕ)} {order : List ℕ} {a b : ℕ} {t : List ℕ} {low high : ℕ} (x : Halving keys order a b t low high)
   where
-    pub halving-ends : high ≤ low → Bound keys order a b t low
-    halving-ends h = record {
+    pub halving_ends : high ≤ low → Bound keys order a b t low
+    halving_ends h = record {
       after = x.after;
       before = let c = x.before in let d = x.goes in omega arith;
       below = x.below;
@@ -47,20 +47,20 @@ module _ {keys : List (List ℕ)} {order : List ℕ} {a b : ℕ} {t : List ℕ} 
       pub middle_inside : middle < length order
       middle_inside = let c = x.before in let d = r.room in omega arith
 
-      pub middle-fits : length order < 2 ^ 64 → Fits w64 (middle + 1)
-      middle-fits f = let c = x.before in let d = r.room in omega arith
+      pub middle_fits : length order < 2 ^ 64 → Fits w64 (middle + 1)
+      middle_fits f = let c = x.before in let d = r.room in omega arith
 
       module _ {row : ℕ} (e : row ≡ get_or order middle 0) where
-        pub middle-row : row < n
-        middle-row = let c = x.before in let d = x.after in let o = r.only middle (omega arith) (omega arith) in omega arith
+        pub middle_row : row < n
+        middle_row = let c = x.before in let d = x.after in let o = r.only middle (omega arith) (omega arith) in omega arith
 
         module _ {s : List ℕ} (u : s ≡ get_or keys row []) {o : Order} (v : o ≡ compared s t) {z : Bool} (w : z ≡ not_after o) where
           told : {y : Bool} → z ≡ y → at_most (key_at keys order middle) t ≡ y
           told f =
               ap (λ j. at_most (get_or keys j []) t) (sym e) ∙ ap (λ k. at_most k t) (sym u) ∙ ap not_after (sym v) ∙ sym w ∙ f
 
-          pub halving-up : z ≡ true → Halving keys order a b t (middle + 1) high
-          halving-up f = record {
+          pub halving_up : z ≡ true → Halving keys order a b t (middle + 1) high
+          halving_up f = record {
             after = let d = x.after in omega arith;
             goes = omega arith;
             before = x.before;
@@ -74,8 +74,8 @@ module _ {keys : List (List ℕ)} {order : List ℕ} {a b : ℕ} {t : List ℕ} 
                   let d = x.before in
                   most_trans (key_at keys order i) (key_at keys order middle) t (r.sorted i middle m c (omega arith)) (told f)
 
-          pub halving-down : z ≡ false → Halving keys order a b t low middle
-          halving-down f = record {
+          pub halving_down : z ≡ false → Halving keys order a b t low middle
+          halving_down f = record {
             after = x.after;
             goes = l;
             before = let d = x.before in omega arith;
@@ -102,4 +102,4 @@ pub down_less : {low middle high : ℕ} → low ≤ middle → middle < high →
 down_less l h = omega arith
 
 pub ruleset halving =
-    (halving_starts, halving-ends, middle_inside, middle-fits, middle-row, halving-up, halving-down, up_less, down_less, rules)
+    (halving_starts, halving_ends, middle_inside, middle_fits, middle_row, halving_up, halving_down, up_less, down_less, rules)

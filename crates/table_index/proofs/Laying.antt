@@ -88,8 +88,8 @@ module _ {old : List ℕ} {n : ℕ} {index : List ℕ} {g sum : ℕ} (x : Laid o
     abbrev started : List ℕ
     started = set index (starts_at + g) sum
 
-    started-size : length started ≡ index_size
-    started-size = length-set index (starts_at + g) sum ∙ x.size
+    started_size : length started ≡ index_size
+    started_size = length-set index (starts_at + g) sum ∙ x.size
 
     others : (i : ℕ) → (i ≡ starts_at + g → ⊥) → (i ≡ ends_at + g → ⊥) → get_or (placed index g sum) i 0 ≡ get_or index i 0
     others i a b = get_or-set_other started (ends_at + g) i sum 0 b ∙ get_or-set_other index (starts_at + g) i sum 0 a
@@ -109,7 +109,7 @@ module _ {old : List ℕ} {n : ℕ} {index : List ℕ} {g sum : ℕ} (x : Laid o
     ends_more : (f : ℕ) → f < g + 1 → (g ≤ f) ⊎ (f < g) → get_or (placed index g sum) (ends_at + f) 0 ≡ rows_before old f
     ends_more f l (inl o) =
         let w = x.few in
-        let s = started-size in
+        let s = started_size in
         let z : f ≡ g = omega arith in
         rw z (get_or-set_same started (ends_at + g) sum 0 (omega arith) ∙ x.summed)
     ends_more f l (inr o) =
@@ -123,7 +123,7 @@ module _ {old : List ℕ} {n : ℕ} {index : List ℕ} {g sum : ℕ} (x : Laid o
           few = x.few;
           inside = omega arith;
           bounded = x.bounded;
-          size = length-set started (ends_at + g) sum ∙ started-size;
+          size = length-set started (ends_at + g) sum ∙ started_size;
           firsts = λ m l. others (marks_at + m) (λ q. omega arith) (λ q. omega arith) ∙ x.firsts m l;
           heads = λ r l. others (heads_at + r) (λ q. omega arith) (λ q. omega arith) ∙ x.heads r l;
           starts = λ f l. starts_more f l (le_or_lt g f);
@@ -160,8 +160,8 @@ module _ {n : ℕ} {ms old : List ℕ} (g : Grouped n ms old n) where
 
   module _ (keys : List (List ℕ)) {index : List ℕ} {sum : ℕ} (x : Laid old n index n sum) where
     -- a shelf with no row
-    empty-shelf : (f : ℕ) → f < n → Shelf keys ms index 0 f (count_below ms f n) (count_below ms f n + count_with ms f 0)
-    empty-shelf f h =
+    empty_shelf : (f : ℕ) → f < n → Shelf keys ms index 0 f (count_below ms f n) (count_below ms f n + count_with ms f 0)
+    empty_shelf f h =
         let c = count_zero ms f in
         let b = below_inside ms f n in
         let s = x.size in
@@ -177,8 +177,8 @@ module _ {n : ℕ} {ms old : List ℕ} (g : Grouped n ms old n) where
           all = λ r l e. absurd (omega arith);
         }
 
-    pub laid-shelved : Shelved n keys ms index 0
-    laid-shelved = record {
+    pub laid_shelved : Shelved n keys ms index 0
+    laid_shelved = record {
       few = x.few;
       inside = omega arith;
       size = x.size;
@@ -190,5 +190,5 @@ module _ {n : ℕ} {ms old : List ℕ} (g : Grouped n ms old n) where
           let e = x.ends f l in
           let r = rows_are f (omega arith) in
           omega arith;
-      shelves = empty-shelf;
+      shelves = empty_shelf;
     }

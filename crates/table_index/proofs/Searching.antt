@@ -18,8 +18,8 @@ use Rattle.tables.specs.declared.search.Side.{Side}
 use Rattle.tables.specs.declared.search.Found.{Found}
 use Rattle.tables.specs.declared.search.Found.TheVariants.{Row, Unknown}
 use Rattle.tables.specs.Search.{has_name, last_with}
-use Rattle.tables.proofs.Searching.{Scanning, scanning_from, scanning_starts, scanning_ends, scanning-inside, scanning-found}
-use Rattle.tables.proofs.Searching.{scanning-more}
+use Rattle.tables.proofs.Searching.{Scanning, scanning_from, scanning_starts, scanning_ends, scanning_inside, scanning_found}
+use Rattle.tables.proofs.Searching.{scanning_more}
 use Rattle.table_index.specs.Inner.Order.{at_most}
 use Rattle.table_index.specs.Inner.Marks.{mark_count, mark_of, marks_of}
 use Rattle.table_index.specs.Inner.Keys.{keys_of}
@@ -68,7 +68,7 @@ module _ (side : Side) (rows : List (List ℕ)) (pool name : List ℕ) where
       scanning_from (has_name side pool name) rows (r + 1) (omega arith) (λ i l m. refuted i (n i (omega arith) m)) in
       let here : has_name side pool name (get_or rows (r + 1 - 1) []) ≡ true =
       rw z (row_has r ∙ ap (λ s. same s name) e ∙ same_refl name) in
-      rw z at (scanning-found k (omega arith) here)
+      rw z at (scanning_found k (omega arith) here)
 
 -- All rows, from the last one on.
 pub scanned_row : (side : Side) (rows : List (List ℕ)) (pool name : List ℕ) (i : ℕ) {t : List ℕ} →
@@ -77,7 +77,7 @@ pub scanned_row : (side : Side) (rows : List (List ℕ)) (pool name : List ℕ) 
 scanned_row side rows pool name i e f g = row_has side rows pool name i ∙ ap (λ s. same s name) (sym e) ∙ sym f ∙ g
 
 pub ruleset scanning_all =
-    (scanned_row, scanning_starts, scanning_ends, scanning-inside, scanning-found, scanning-more, rules)
+    (scanned_row, scanning_starts, scanning_ends, scanning_inside, scanning_found, scanning_more, rules)
 
 -- The last row of a shelf.
 module _ {keys : List (List ℕ)} {order : List ℕ} {n a b : ℕ} (r : Ranked keys order n a b) (t : List ℕ) where
@@ -101,18 +101,18 @@ module _ {keys : List (List ℕ)} {order : List ℕ} {n a b : ℕ} (r : Ranked k
 
   module _ {p : ℕ} (g : Bound keys order a b t p) where
     -- a row with the text stands before the bound
-    not-above : (i : ℕ) → p ≤ i → i < b → key_at keys order i ≡ t → ⊥
-    not-above i h l f = clash (ap (λ y. at_most y t) f ∙ most_refl t) (g.above i h l)
+    not_above : (i : ℕ) → p ≤ i → i < b → key_at keys order i ≡ t → ⊥
+    not_above i h l f = clash (ap (λ y. at_most y t) f ∙ most_refl t) (g.above i h l)
 
     pub none_before : p ≡ a → (i : ℕ) → a ≤ i → i < b → key_at keys order i ≡ t → ⊥
-    none_before q i h l f = not-above i (omega arith) l f
+    none_before q i h l f = not_above i (omega arith) l f
 
     module _ (some : p ≡ a → ⊥) where
-      pub last-sub : 1 ≤ p
-      last-sub = let o = g.after in omega arith
+      pub last_sub : 1 ≤ p
+      last_sub = let o = g.after in omega arith
 
-      pub last-place : p - 1 < length order
-      last-place = let o = g.before in let z = r.room in let q = g.after in omega arith
+      pub last_place : p - 1 < length order
+      last_place = let o = g.before in let z = r.room in let q = g.after in omega arith
 
       module _ {row : ℕ} (w : row ≡ get_or order (p - 1) 0) where
         pub last_row : row < n
@@ -130,7 +130,7 @@ module _ {keys : List (List ℕ)} {order : List ℕ} {n a b : ℕ} (r : Ranked k
         nowhere m i h l f = go (le_or_lt p i) (le_or_lt (p - 1) i)
           where
             go : (p ≤ i) ⊎ (i < p) → (p - 1 ≤ i) ⊎ (i < p - 1) → ⊥
-            go (inl o) q = not-above i o l f
+            go (inl o) q = not_above i o l f
             go (inr o) (inl q) =
                 let y : i ≡ p - 1 = omega arith in
                 m (sym here ∙ ap (λ j. key_at keys order j) (sym y) ∙ f)
@@ -140,11 +140,11 @@ module _ {keys : List (List ℕ)} {order : List ℕ} {n a b : ℕ} (r : Ranked k
                 ap (λ y. at_most y (key_at keys order (p - 1))) (sym f) ∙ r.sorted i (p - 1) h q (omega arith) in
                 m (sym here ∙ most_equal (key_at keys order (p - 1)) t (g.below (p - 1) (omega arith) (omega arith)) up)
 
-        pub last-last : (o : Found) → o ≡ pick (same (get_or keys row []) t) (Row row) Unknown → LastOn o keys order a b t
-        last-last =
+        pub last_last : (o : Found) → o ≡ pick (same (get_or keys row []) t) (Row row) Unknown → LastOn o keys order a b t
+        last_last =
             let q = g.after in
             let o = g.before in
-            asked (p - 1) (omega arith) (omega arith) (λ i h l f. not-above i (omega arith) l f) w nowhere
+            asked (p - 1) (omega arith) (omega arith) (λ i h l f. not_above i (omega arith) l f) w nowhere
 
 pub ranked_goes : {keys : List (List ℕ)} {order : List ℕ} {n a b : ℕ} → Ranked keys order n a b → a ≤ b
 ranked_goes r = r.goes
@@ -164,12 +164,12 @@ module _ {keys : List (List ℕ)} {order : List ℕ} {a b : ℕ} {t : List ℕ} 
   trying_ends h i l m f = x.none i (omega arith) m f
 
   module _ {n : ℕ} (r : Ranked keys order n a b) (h : a < p) where
-    pub trying-read : p - 1 < length order
-    trying-read = let c = x.before in let z = r.room in omega arith
+    pub trying_read : p - 1 < length order
+    trying_read = let c = x.before in let z = r.room in omega arith
 
     module _ {row : ℕ} (w : row ≡ get_or order (p - 1) 0) where
-      pub trying-row : row < n
-      trying-row = let c = x.before in let z = r.only (p - 1) (omega arith) (omega arith) in omega arith
+      pub trying_row : row < n
+      trying_row = let c = x.before in let z = r.only (p - 1) (omega arith) (omega arith) in omega arith
 
       module _ {s : List ℕ} (e : s ≡ get_or keys row []) {z : Bool} (f : z ≡ same s t) where
         decided : {y : Bool} → z ≡ y → same (get_or keys row []) t ≡ y
@@ -200,10 +200,10 @@ module _ {keys : List (List ℕ)} {order : List ℕ} {a b : ℕ} {t : List ℕ} 
                 clash (ap (λ j. same j t) k ∙ same_refl t) (decided g)
 
 pub ruleset trying =
-    (trying_starts, trying_ends, trying-read, trying-row, trying_found, trying_more, rules)
+    (trying_starts, trying_ends, trying_read, trying_row, trying_found, trying_more, rules)
 
 pub ruleset last_of_shelf =
-    (ranked_goes, none_before, last-sub, last-place, last_row, last-last, rules)
+    (ranked_goes, none_before, last_sub, last_place, last_row, last_last, rules)
 
 -- The last row of all.
 module _ {side : Side} {rows : List (List ℕ)} {pool index : List ℕ} (found : IndexBy side rows pool index)
@@ -233,12 +233,12 @@ module _ {side : Side} {rows : List (List ℕ)} {pool index : List ℕ} (found :
         let m : get_or ms i 0 ≡ mark = mark_is keys i ∙ ap mark_of f ∙ sym e in
         d ∙ x.firsts mark below ∙ ap (λ y. first_with ms y (length rows)) (sym m) ∙ head_told ms (length rows) i h
 
-    pub search-none : first ≡ 0 → Unknown ≡ last_with side rows pool name
-    search-none z = none_at_all side rows pool name (λ i h f. let t = told i h f in omega arith)
+    pub search_none : first ≡ 0 → Unknown ≡ last_with side rows pool name
+    search_none z = none_at_all side rows pool name (λ i h f. let t = told i h f in omega arith)
 
     module _ (z : first ≡ 0 → ⊥) where
-      pub head-sub : 1 ≤ first
-      head-sub = omega arith
+      pub head_sub : 1 ≤ first
+      head_sub = omega arith
 
       small : first - 1 < length rows
       small =
@@ -253,8 +253,8 @@ module _ {side : Side} {rows : List (List ℕ)} {pool index : List ℕ} (found :
         shelf : Shelf keys ms index (length rows) (first - 1) a b
         shelf = rw (u.starts ∙ x.starts (first - 1) small, u.ends ∙ x.ends (first - 1) small) (x.shelves (first - 1) small)
 
-        pub search-ranked : Ranked (keys_of side rows pool) index (length rows) a b
-        search-ranked = shelf.ranked
+        pub search_ranked : Ranked (keys_of side rows pool) index (length rows) a b
+        search_ranked = shelf.ranked
 
         -- a row with the name stands on the shelf
         seat : (i : ℕ) → i < length rows → get_or keys i [] ≡ name → Seat index a b i
@@ -262,18 +262,18 @@ module _ {side : Side} {rows : List (List ℕ)} {pool index : List ℕ} (found :
 
         -- the last there is the last of all
         module _ {row : ℕ} (o : LastSeat keys index a b name row) where
-          no-later : (i : ℕ) → row < i → (t : Seat index a b i) → get_or keys i [] ≡ name → Way t.place o.place → ⊥
-          no-later i h t f (less q) =
+          no_later : (i : ℕ) → row < i → (t : Seat index a b i) → get_or keys i [] ≡ name → Way t.place o.place → ⊥
+          no_later i h t f (less q) =
               let k : key_at keys index t.place ≡ name = ap (λ j. get_or keys j []) t.here ∙ f in
               let m : key_at keys index o.place ≡ name = ap (λ j. get_or keys j []) o.here ∙ o.has in
               let y = shelf.ranked.stable t.place o.place t.after q o.before (k ∙ sym m) in
               let v = t.here in
               let w = o.here in
               omega arith
-          no-later i h t f (even q) =
+          no_later i h t f (even q) =
               let s : i ≡ row = sym t.here ∙ ap (λ j. get_or index j 0) q ∙ o.here in
               omega arith
-          no-later i h t f (more q) = o.later t.place q t.before (ap (λ j. get_or keys j []) t.here ∙ f)
+          no_later i h t f (more q) = o.later t.place q t.before (ap (λ j. get_or keys j []) t.here ∙ f)
 
           inside : row < length rows
           inside = let y = shelf.ranked.only o.place o.after o.before in let w = o.here in omega arith
@@ -281,16 +281,16 @@ module _ {side : Side} {rows : List (List ℕ)} {pool index : List ℕ} (found :
           found_last : Row row ≡ last_with side rows pool name
           found_last =
               last_one side rows pool name row inside o.has
-              (λ i h l f. let t = seat i l f in no-later i h t f (way t.place o.place))
+              (λ i h l f. let t = seat i l f in no_later i h t f (way t.place o.place))
 
         none_last : ((i : ℕ) → a ≤ i → i < b → key_at keys index i ≡ name → ⊥) → Unknown ≡ last_with side rows pool name
         none_last n =
             none_at_all side rows pool name
             (λ i h f. let t = seat i h f in n t.place t.after t.before (ap (λ j. get_or keys j []) t.here ∙ f))
 
-        pub search-last : (r : Found) → LastOn r (keys_of side rows pool) index a b name → r ≡ last_with side rows pool name
-        search-last (Row row) o = found_last o
-        search-last Unknown o = none_last o
+        pub search_last : (r : Found) → LastOn r (keys_of side rows pool) index a b name → r ≡ last_with side rows pool name
+        search_last (Row row) o = found_last o
+        search_last Unknown o = none_last o
 
 pub ruleset searching =
-    (mark_place, mark_place_fits, search-none, head-sub, head_few, search-ranked, search-last, rules)
+    (mark_place, mark_place_fits, search_none, head_sub, head_few, search_ranked, search_last, rules)

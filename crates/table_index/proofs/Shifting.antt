@@ -36,17 +36,17 @@ shifting_starts h r = record {
 
 module _ {old now : List ℕ} {p b i : ℕ} (s : Shifting old now p b i) where
   module _ (h : p < i) where
-    pub shifting-read : i - 1 < length now
-    shifting-read = let a = s.inside in let r = s.room in let z = s.size in omega arith
+    pub shifting_read : i - 1 < length now
+    shifting_read = let a = s.inside in let r = s.room in let z = s.size in omega arith
 
-    pub shifting-write : i < length now
-    shifting-write = let a = s.inside in let r = s.room in let z = s.size in omega arith
+    pub shifting_write : i < length now
+    shifting_write = let a = s.inside in let r = s.room in let z = s.size in omega arith
 
     abbrev moved : List ℕ
     moved = set now i (get_or now (i - 1) 0)
 
-    pub shifting-more : Shifting old (set now i (get_or now (i - 1) 0)) p b (i - 1)
-    shifting-more = record {
+    pub shifting_more : Shifting old (set now i (get_or now (i - 1) 0)) p b (i - 1)
+    shifting_more = record {
       above = omega arith;
       inside = let a = s.inside in omega arith;
       room = s.room;
@@ -59,19 +59,19 @@ module _ {old now : List ℕ} {p b i : ℕ} (s : Shifting old now p b i) where
         go : (k : ℕ) → k ≤ b → (k ≤ i) ⊎ (i < k) → i - 1 < k → get_or moved k 0 ≡ get_or old (k - 1) 0
         go k l (inl o) g =
             let z : k ≡ i = omega arith in
-            ap (λ j. get_or moved j 0) z ∙ get_or-set_same now i (get_or now (i - 1) 0) 0 shifting-write
+            ap (λ j. get_or moved j 0) z ∙ get_or-set_same now i (get_or now (i - 1) 0) 0 shifting_write
             ∙ s.front (i - 1) (omega arith) ∙ ap (λ j. get_or old (j - 1) 0) (sym z)
         go k l (inr o) g = get_or-set_other now i k (get_or now (i - 1) 0) 0 (λ e. omega arith) ∙ s.back k o l
 
   module _ (h : i ≤ p) where
-    pub shifting-last : p < length now
-    shifting-last = let a = s.inside in let r = s.room in let z = s.size in let c = s.above in omega arith
+    pub shifting_last : p < length now
+    shifting_last = let a = s.inside in let r = s.room in let z = s.size in let c = s.above in omega arith
 
-    pub shifting-ends : (row : ℕ) → Inserted old (set now p row) p b row
-    shifting-ends row = record {
+    pub shifting_ends : (row : ℕ) → Inserted old (set now p row) p b row
+    shifting_ends row = record {
       size = length-set now p row ∙ s.size;
       front = λ k g. get_or-set_other now p k row 0 (λ e. omega arith) ∙ s.front k (let c = s.above in omega arith);
-      here = get_or-set_same now p row 0 shifting-last;
+      here = get_or-set_same now p row 0 shifting_last;
       back = λ k g l. get_or-set_other now p k row 0 (λ e. omega arith) ∙ s.back k (omega arith) l;
       rest = λ k g.
           let a = s.inside in
@@ -83,4 +83,4 @@ pub row_fits : {row : ℕ} → row < most_classes → Fits w16 row
 row_fits h = omega arith
 
 pub ruleset shifting =
-    (shifting_starts, shifting-read, shifting-write, shifting-more, shifting-last, shifting-ends, row_fits, rules)
+    (shifting_starts, shifting_read, shifting_write, shifting_more, shifting_last, shifting_ends, row_fits, rules)

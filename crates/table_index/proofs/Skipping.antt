@@ -62,25 +62,25 @@ module _ {text : List ℕ} {shift : ℕ} {name : List ℕ} {dots : Bool} {k : �
   skipped_fits f = let i = x.in_text in omega arith
 
   module _ (h : 16 ≤ length name - k) where
-    pub skipped-in-name : k + 16 ≤ length name
-    skipped-in-name = let i = x.in_name in omega arith
+    pub skipped_in_name : k + 16 ≤ length name
+    skipped_in_name = let i = x.in_name in omega arith
 
-    pub skipped-next-fits : length name < 2 ^ 64 → Fits w64 (k + 16)
-    skipped-next-fits f = let i = x.in_name in omega arith
+    pub skipped_next_fits : length name < 2 ^ 64 → Fits w64 (k + 16)
+    skipped_next_fits f = let i = x.in_name in omega arith
 
-    pub skipped-less : length name - (k + 16) < length name - k
-    skipped-less = let i = x.in_name in omega arith
+    pub skipped_less : length name - (k + 16) < length name - k
+    skipped_less = let i = x.in_name in omega arith
 
     module _ (l : 16 ≤ length text - (shift + k)) where
-      pub skipped-in-text : shift + k + 16 ≤ length text
-      skipped-in-text = let i = x.in_text in omega arith
+      pub skipped_in_text : shift + k + 16 ≤ length text
+      skipped_in_text = let i = x.in_text in omega arith
 
-      pub skipped-more : {r : Bool} →
+      pub skipped_more : {r : Bool} →
           (r ≡ false → (j : ℕ) → j < 16 → get_or text (shift + k + j) 0 ≡ slash_if dots (get_or name (k + j) 0)) → r ≡ false →
           AlikeTo text shift name dots (k + 16)
-      skipped-more f o = record {
+      skipped_more f o = record {
         in_text = let i = x.in_text in omega arith;
-        in_name = skipped-in-name;
+        in_name = skipped_in_name;
         each = λ j m. go j m (le_or_lt k j);
       }
         where
@@ -96,10 +96,10 @@ pub ruleset skipping = (
   skipped_name,
   skipped_text,
   skipped_fits,
-  skipped-in-name,
-  skipped-next-fits,
-  skipped-less,
-  skipped-in-text,
-  skipped-more,
+  skipped_in_name,
+  skipped_next_fits,
+  skipped_less,
+  skipped_in_text,
+  skipped_more,
   rules,
 )

@@ -23,8 +23,8 @@ use Rattle.table_index.specs.declared.forms.NameForm.{NameForm}
 use Rattle.table_index.specs.declared.forms.NameForm.TheVariants.{Whole, Piece}
 use Rattle.table_index.specs.Inner.Order.{compared, Weighing, AlikeTo}
 use Rattle.table_index.specs.Inner.Forms.{spelled}
-use Rattle.table_index.proofs.Comparing.{weighing_starts, weighing_past, weighing_same, weighing_short, weighing-long}
-use Rattle.table_index.proofs.Comparing.{weighing-less, weighing-more, weighing-next}
+use Rattle.table_index.proofs.Comparing.{weighing_starts, weighing_past, weighing_same, weighing_short, weighing_long}
+use Rattle.table_index.proofs.Comparing.{weighing_less, weighing_more, weighing_next}
 
 -- The bytes of a piece.
 module _ (dots : Bool) (name : List ℕ) where
@@ -49,16 +49,16 @@ module _ (dots : Bool) (name : List ℕ) where
     up : suc (i - 1) ≡ i
     up = omega arith
 
-    pub byte-inner : i - 1 < length name → {x : ℕ} → x ≡ slash_if dots (get_or name (i - 1) 0) →
+    pub byte_inner : i - 1 < length name → {x : ℕ} → x ≡ slash_if dots (get_or name (i - 1) 0) →
         x ≡ get_or (class_piece dots name) i 0
-    byte-inner h e = e ∙ sym (inner_byte (i - 1) h) ∙ ap (λ j. get_or (class_piece dots name) j 0) up
+    byte_inner h e = e ∙ sym (inner_byte (i - 1) h) ∙ ap (λ j. get_or (class_piece dots name) j 0) up
 
     pub byte_last : length name ≤ i - 1 → i < length name + 2 → 0x3B ≡ get_or (class_piece dots name) i 0
     byte_last h l =
         let z : suc (length name) ≡ i = omega arith in
         sym last_byte ∙ ap (λ j. get_or (class_piece dots name) j 0) z
 
-pub ruleset bytes = (byte_first, byte-inner, byte_last, rules)
+pub ruleset bytes = (byte_first, byte_inner, byte_last, rules)
 
 pub ends_low : (name : List ℕ) {i : ℕ} → i < 2 → false ≡ leb (length name + 2) i
 ends_low name {i} h = sym (lt-leb (length name + 2) i (omega arith))
@@ -78,11 +78,11 @@ module _ (text name : List ℕ) (dots : Bool) where
   alike_none = weighing_starts text (class_piece dots name)
 
   module _ {past : ℕ} (x : AlikeTo text 1 name dots past) where
-    pub alike-fits : length text < 2 ^ 64 → Fits w64 (past + 1)
-    alike-fits f = let t = x.in_text in omega arith
+    pub alike_fits : length text < 2 ^ 64 → Fits w64 (past + 1)
+    alike_fits f = let t = x.in_text in omega arith
 
-    pub alike-past : get_or text 0 0 ≡ 0x4C → Weighing text (class_piece dots name) (past + 1)
-    alike-past f =
+    pub alike_past : get_or text 0 0 ≡ 0x4C → Weighing text (class_piece dots name) (past + 1)
+    alike_past f =
         let t = x.in_text in
         let n = x.in_name in
         let p = piece_length dots name in
@@ -95,7 +95,7 @@ module _ (text name : List ℕ) (dots : Bool) where
             let up : suc j ≡ 1 + j = omega arith in
             ap (λ i. get_or text i 0) up ∙ x.each j (omega arith) ∙ sym (inner_byte dots name j (omega arith))
 
-pub ruleset past_alike = (alike_none, alike-fits, alike-past, rules)
+pub ruleset past_alike = (alike_none, alike_fits, alike_past, rules)
 
 -- A text compared with a piece.
 module _ (name : List ℕ) (dots : Bool) {a : List ℕ} {i : ℕ} (k : Weighing a (class_piece dots name) i)
@@ -113,24 +113,24 @@ module _ (name : List ℕ) (dots : Bool) {a : List ℕ} {i : ℕ} (k : Weighing 
   piece_short h t = weighing_short k h (going t)
 
   module _ (h : i < length a) where
-    pub piece-long : z ≡ true → After ≡ compared a (class_piece dots name)
-    piece-long t = weighing-long k h (ended t)
+    pub piece_long : z ≡ true → After ≡ compared a (class_piece dots name)
+    piece_long t = weighing_long k h (ended t)
 
     module _ (t : z ≡ false) {x : ℕ} (f : x ≡ get_or (class_piece dots name) i 0) where
-      pub piece-less : get_or a i 0 < x → Before ≡ compared a (class_piece dots name)
-      piece-less l = weighing-less k h (going t) (omega arith)
+      pub piece_less : get_or a i 0 < x → Before ≡ compared a (class_piece dots name)
+      piece_less l = weighing_less k h (going t) (omega arith)
 
-      pub piece-more : x < get_or a i 0 → After ≡ compared a (class_piece dots name)
-      piece-more l = weighing-more k h (going t) (omega arith)
+      pub piece_more : x < get_or a i 0 → After ≡ compared a (class_piece dots name)
+      piece_more l = weighing_more k h (going t) (omega arith)
 
-      pub piece-next : x ≤ get_or a i 0 → get_or a i 0 ≤ x → Weighing a (class_piece dots name) (i + 1)
-      piece-next l m = weighing-next k h (going t) (omega arith) (omega arith)
+      pub piece_next : x ≤ get_or a i 0 → get_or a i 0 ≤ x → Weighing a (class_piece dots name) (i + 1)
+      piece_next l m = weighing_next k h (going t) (omega arith) (omega arith)
 
 pub piece_byte_inside : (name : List ℕ) {i : ℕ} {z : Bool} → z ≡ leb (length name + 2) i → z ≡ false → i < length name + 2
 piece_byte_inside name {i} e t = leb-false (length name + 2) i (sym e ∙ t)
 
 pub ruleset piecing =
-    (piece_same, piece_short, piece-long, piece-less, piece-more, piece-next, piece_byte_inside, rules)
+    (piece_same, piece_short, piece_long, piece_less, piece_more, piece_next, piece_byte_inside, rules)
 
 module _ (a name : List ℕ) {form : NameForm} {o : Order} where
   pub named_whole : form ≡ Whole → o ≡ compared a name → o ≡ compared a (spelled form name)
@@ -147,8 +147,8 @@ module _ (text name : List ℕ) (dots : Bool) where
   is_short h = matching_uneven text (class_piece dots name) (λ e. let b = piece_length dots name in omega arith)
 
   module _ (two : 2 ≤ length text) where
-    pub is-uneven : (length text - 2 ≡ length name → ⊥) → false ≡ same text (class_piece dots name)
-    is-uneven n = matching_uneven text (class_piece dots name) (λ e. n (let b = piece_length dots name in omega arith))
+    pub is_uneven : (length text - 2 ≡ length name → ⊥) → false ≡ same text (class_piece dots name)
+    is_uneven n = matching_uneven text (class_piece dots name) (λ e. n (let b = piece_length dots name in omega arith))
 
     module _ (e : length text - 2 ≡ length name) where
       pub last_fits : length text < 2 ^ 64 → Fits w64 (length name + 1)
@@ -164,36 +164,36 @@ module _ (text name : List ℕ) (dots : Bool) where
       last_inside = omega arith
 
       module _ {k : ℕ} (a : AlikeTo text 1 name dots k) where
-        pub alike-place : k < length name → 1 + k < length text
-        alike-place h = omega arith
+        pub alike_place : k < length name → 1 + k < length text
+        alike_place h = omega arith
 
-        pub alike-place-fits : k < length name → length text < 2 ^ 64 → Fits w64 (1 + k)
-        alike-place-fits h b = omega arith
+        pub alike_place_fits : k < length name → length text < 2 ^ 64 → Fits w64 (1 + k)
+        alike_place_fits h b = omega arith
 
         module _ (h : k < length name) {x : ℕ} (f : x ≡ slash_if dots (get_or name k 0)) where
-          pub alike-differs : (get_or text (1 + k) 0 ≡ x → ⊥) → false ≡ same text (class_piece dots name)
-          alike-differs n =
+          pub alike_differs : (get_or text (1 + k) 0 ≡ x → ⊥) → false ≡ same text (class_piece dots name)
+          alike_differs n =
               let up : 1 + k ≡ suc k = omega arith in
               let here : get_or (class_piece dots name) (1 + k) 0 ≡ x =
               ap (λ j. get_or (class_piece dots name) j 0) up ∙ inner_byte dots name k h ∙ sym f in
               unlike_at text (class_piece dots name) (1 + k) (λ g. n (g ∙ here))
 
-          pub alike-more : get_or text (1 + k) 0 ≡ x → AlikeTo text 1 name dots (k + 1)
-          alike-more g = record { in_text = omega arith; in_name = omega arith; each = λ j l. go j l (le_or_lt k j) }
+          pub alike_more : get_or text (1 + k) 0 ≡ x → AlikeTo text 1 name dots (k + 1)
+          alike_more g = record { in_text = omega arith; in_name = omega arith; each = λ j l. go j l (le_or_lt k j) }
             where
               go : (j : ℕ) → j < k + 1 → (k ≤ j) ⊎ (j < k) → get_or text (1 + j) 0 ≡ slash_if dots (get_or name j 0)
               go j l (inl q) = let z : j ≡ k = omega arith in rw z (g ∙ f)
               go j l (inr q) = a.each j q
 
         module _ (z : length name ≤ k) where
-          pub other-letter : (get_or text 0 0 ≡ 0x4C → ⊥) → false ≡ same text (class_piece dots name)
-          other-letter n = unlike_at text (class_piece dots name) 0 n
+          pub other_letter : (get_or text 0 0 ≡ 0x4C → ⊥) → false ≡ same text (class_piece dots name)
+          other_letter n = unlike_at text (class_piece dots name) 0 n
 
           last_is : get_or (class_piece dots name) (length name + 1) 0 ≡ 0x3B
           last_is = let up : length name + 1 ≡ suc (length name) = omega arith in rw up (last_byte dots name)
 
-          pub other-end : (get_or text (length name + 1) 0 ≡ 0x3B → ⊥) → false ≡ same text (class_piece dots name)
-          other-end n = unlike_at text (class_piece dots name) (length name + 1) (λ g. n (g ∙ last_is))
+          pub other_end : (get_or text (length name + 1) 0 ≡ 0x3B → ⊥) → false ≡ same text (class_piece dots name)
+          other_end n = unlike_at text (class_piece dots name) (length name + 1) (λ g. n (g ∙ last_is))
 
           pub is_same : get_or text 0 0 ≡ 0x4C → get_or text (length name + 1) 0 ≡ 0x3B → true ≡ same text (class_piece dots name)
           is_same f l = sym (ap (λ t. same t (class_piece dots name)) equal ∙ same_refl (class_piece dots name))
@@ -217,17 +217,17 @@ module _ (text name : List ℕ) (dots : Bool) where
 
 pub ruleset sameness = (
   is_short,
-  is-uneven,
+  is_uneven,
   last_fits,
   one_inside,
   first_inside,
   last_inside,
-  alike-place,
-  alike-place-fits,
-  alike-differs,
-  alike-more,
-  other-letter,
-  other-end,
+  alike_place,
+  alike_place_fits,
+  alike_differs,
+  alike_more,
+  other_letter,
+  other_end,
   is_same,
   rules,
 )

@@ -9,7 +9,7 @@ use mir.Val.{Fits}
 use mir.Syntax.{w64}
 use borrow.Author.Rules.{rules}
 use Rattle.table_pool.specs.Inner.Wrote.{Written}
-use Rattle.table_pool.proofs.Writes.{Pasting, text-starts, text-done, byte_more}
+use Rattle.table_pool.proofs.Writes.{Pasting, text_starts, text_done, byte_more}
 
 module _ (d : List ℕ) (at place size : ℕ) (b : place + size ≤ at) where
   pub copy_over : length d < at → length d < at + length (take size (drop place d))
@@ -19,22 +19,22 @@ module _ (d : List ℕ) (at place size : ℕ) (b : place + size ≤ at) where
     copied : length (take size (drop place d)) ≡ size
     copied = length-take-le size (drop place d) (omega (arith, length-drop place d))
 
-    pub copy-no-room : length d - at < size → length d < at + length (take size (drop place d))
-    copy-no-room h = omega (arith, copied)
+    pub copy_no_room : length d - at < size → length d < at + length (take size (drop place d))
+    copy_no_room h = omega (arith, copied)
 
     module _ (h : size ≤ length d - at) where
-      room-copy : length (take size (drop place d)) ≤ length d - at
-      room-copy = omega (arith, copied)
+      room_copy : length (take size (drop place d)) ≤ length d - at
+      room_copy = omega (arith, copied)
 
-      pub copy-starts : Pasting d at (take size (drop place d)) d 0
-      copy-starts = text-starts d at (take size (drop place d)) i room-copy
+      pub copy_starts : Pasting d at (take size (drop place d)) d 0
+      copy_starts = text_starts d at (take size (drop place d)) i room_copy
 
       module _ {room : List ℕ} {k : ℕ} (w : Pasting d at (take size (drop place d)) room k) where
         pub copy_done : size ≤ k → Written (at + k) d at (take size (drop place d)) room
-        copy_done l = text-done d at (take size (drop place d)) i room-copy w (omega (arith, copied))
+        copy_done l = text_done d at (take size (drop place d)) i room_copy w (omega (arith, copied))
 
-        pub copy-inside : k < size → at + k < length room
-        copy-inside l = omega (arith, w.size)
+        pub copy_inside : k < size → at + k < length room
+        copy_inside l = omega (arith, w.size)
 
         pub copy_read : k < size → place + k < length room
         copy_read l = omega (arith, w.size)
@@ -49,13 +49,13 @@ module _ (d : List ℕ) (at place size : ℕ) (b : place + size ≤ at) where
 
         pub copy_more : k < size → Pasting d at (take size (drop place d)) (set room (at + k) (get_or room (place + k) 0)) (k + 1)
         copy_more l =
-            byte_more d at (take size (drop place d)) i room-copy w (omega (arith, copied))
+            byte_more d at (take size (drop place d)) i room_copy w (omega (arith, copied))
             (untouched l ∙ sym (get_or-take size (drop place d) k 0 l ∙ get_or-drop place d k 0))
 
-        pub copy-fits : length d < 2 ^ 64 → Fits w64 (at + k)
-        copy-fits z = omega (arith, w.some, copied)
+        pub copy_fits : length d < 2 ^ 64 → Fits w64 (at + k)
+        copy_fits z = omega (arith, w.some, copied)
 
-        pub copy-fits-read : length d < 2 ^ 64 → Fits w64 (place + k)
-        copy-fits-read z = omega (arith, w.some, copied)
+        pub copy_fits_read : length d < 2 ^ 64 → Fits w64 (place + k)
+        copy_fits_read z = omega (arith, w.some, copied)
 
-pub ruleset copying = (copy_over, copy-no-room, copy-starts, copy_done, copy-inside, copy_read, copy_more, copy-fits, copy-fits-read, rules)
+pub ruleset copying = (copy_over, copy_no_room, copy_starts, copy_done, copy_inside, copy_read, copy_more, copy_fits, copy_fits_read, rules)

@@ -76,25 +76,25 @@ module _ (d : List ℕ) (at : ℕ) (text : List ℕ) (n : 8 ≤ length text) (i 
   begun_none = record { some = omega arith; is = sym (put_nothing d at); size = refl }
 
   module _ {room : List ℕ} {k : ℕ} (w : Begun d at text room k) where
-    pub begun-inside : k < length text - 8 → at + k + 8 ≤ length room
-    begun-inside l = omega (arith, w.size)
+    pub begun_inside : k < length text - 8 → at + k + 8 ≤ length room
+    begun_inside l = omega (arith, w.size)
 
-    pub begun-last : at + (length text - 8) + 8 ≤ length room
-    begun-last = omega (arith, w.size)
+    pub begun_last : at + (length text - 8) + 8 ≤ length room
+    begun_last = omega (arith, w.size)
 
-    pub begun-fits : length d < 2 ^ 64 → Fits w64 (at + k)
-    begun-fits z = omega (arith, w.some)
+    pub begun_fits : length d < 2 ^ 64 → Fits w64 (at + k)
+    begun_fits z = omega (arith, w.some)
 
     pub begun_more : k < length text - 8 → {after : List ℕ} → after ≡ put room (at + k) (take 8 (drop k text)) → Begun d at text after (k + 8)
     begun_more l {after} e =
         let is : after ≡ put d at (take (k + 8) text) = e ∙ ap (λ r. put r (at + k) (take 8 (drop k text))) w.is ∙ over d at text k k 8 i (omega arith) (omega arith) (omega arith) in
         record { some = omega arith; is = is; size = ap length is ∙ length_put d at (take (k + 8) text) (omega (arith, length-take-le (k + 8) text (omega arith))) }
 
-    pub begun-done : length text - 8 ≤ k → {after : List ℕ} → after ≡ put room (at + (length text - 8)) (take 8 (drop (length text - 8) text)) → after ≡ put d at text
-    begun-done l e =
+    pub begun_done : length text - 8 ≤ k → {after : List ℕ} → after ≡ put room (at + (length text - 8)) (take 8 (drop (length text - 8) text)) → after ≡ put d at text
+    begun_done l e =
         let whole : length text - 8 + 8 ≡ length text = omega arith in
         e ∙ ap (λ r. put r (at + (length text - 8)) (take 8 (drop (length text - 8) text))) w.is
         ∙ over d at text (length text - 8) k 8 i (omega arith) (omega (arith, w.some)) (omega arith)
         ∙ ap (λ x. put d at (take x text)) whole ∙ ap (put d at) (take-length text)
 
-pub ruleset eights = (begun_none, begun-inside, begun-last, begun-fits, begun_more, begun-done, rules)
+pub ruleset eights = (begun_none, begun_inside, begun_last, begun_fits, begun_more, begun_done, rules)

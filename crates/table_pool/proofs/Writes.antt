@@ -49,34 +49,34 @@ module _ (d : List ℕ) (at : ℕ) (text : List ℕ) where
   text_no_room i h = omega arith
 
   module _ (i : at ≤ length d) (h : length text ≤ length d - at) where
-    pub text-starts : Pasting d at text d 0
-    text-starts = paste_starts d at text
+    pub text_starts : Pasting d at text d 0
+    text_starts = paste_starts d at text
 
-    pub text-room : at + length text ≤ length d
-    text-room = omega arith
+    pub text_room : at + length text ≤ length d
+    text_room = omega arith
 
-    pub text-whole : {after : List ℕ} → after ≡ put d at text → Written (at + length text) d at text after
-    text-whole e = record { past = refl; room = omega arith; is = e }
+    pub text_whole : {after : List ℕ} → after ≡ put d at text → Written (at + length text) d at text after
+    text_whole e = record { past = refl; room = omega arith; is = e }
 
     module _ {room : List ℕ} {k : ℕ} (w : Pasting d at text room k) where
-      pub text-done : length text ≤ k → Written (at + k) d at text room
-      text-done = paste_done d at text (omega arith) w
+      pub text_done : length text ≤ k → Written (at + k) d at text room
+      text_done = paste_done d at text (omega arith) w
 
       pub text_inside : k < length text → at + k < length room
       text_inside l = omega (arith, w.size)
 
-      pub text-more : k < length text → Pasting d at text (set room (at + k) (get_or text k 0)) (k + 1)
-      text-more l = paste_more d at text (omega arith) w l refl
+      pub text_more : k < length text → Pasting d at text (set room (at + k) (get_or text k 0)) (k + 1)
+      text_more l = paste_more d at text (omega arith) w l refl
 
-      pub text-fits : length d < 2 ^ 64 → Fits w64 (at + k)
-      text-fits z = omega (arith, w.some)
+      pub text_fits : length d < 2 ^ 64 → Fits w64 (at + k)
+      text_fits z = omega (arith, w.some)
 
 -- the next of the bytes `b`
 pub byte_more : (d : List ℕ) (at : ℕ) (b : List ℕ) → at ≤ length d → length b ≤ length d - at → {room : List ℕ} {k : ℕ} → Pasting d at b room k → k < length b → {x : ℕ} → x ≡ get_or b k 0 →
     Pasting d at b (set room (at + k) x) (k + 1)
-byte_more d at b i h {room} {k} w l e = rw e (text-more d at b i h w l)
+byte_more d at b i h {room} {k} w l e = rw e (text_more d at b i h w l)
 
-pub ruleset texts = (no_room_at, text_no_room, text-room, text-whole, text-starts, text-done, text_inside, text-more, text-fits, rules)
+pub ruleset texts = (no_room_at, text_no_room, text_room, text_whole, text_starts, text_done, text_inside, text_more, text_fits, rules)
 
 -- One byte so many times.
 module _ (d : List ℕ) (at byte count : ℕ) where
@@ -87,26 +87,26 @@ module _ (d : List ℕ) (at byte count : ℕ) where
   bytes_no_room i h = omega (arith, length-replicate count byte)
 
   module _ (i : at ≤ length d) (h : count ≤ length d - at) where
-    pub bytes-starts : Pasting d at (replicate count byte) d 0
-    bytes-starts = paste_starts d at (replicate count byte)
+    pub bytes_starts : Pasting d at (replicate count byte) d 0
+    bytes_starts = paste_starts d at (replicate count byte)
 
     room_for : at + length (replicate count byte) ≤ length d
     room_for = omega (arith, length-replicate count byte)
 
     module _ {room : List ℕ} {k : ℕ} (w : Pasting d at (replicate count byte) room k) where
-      pub bytes-done : count ≤ k → Written (at + k) d at (replicate count byte) room
-      bytes-done l = paste_done d at (replicate count byte) room_for w (omega (arith, length-replicate count byte))
+      pub bytes_done : count ≤ k → Written (at + k) d at (replicate count byte) room
+      bytes_done l = paste_done d at (replicate count byte) room_for w (omega (arith, length-replicate count byte))
 
       pub bytes_inside : k < count → at + k < length room
       bytes_inside l = omega (arith, w.size)
 
-      pub bytes-more : k < count → Pasting d at (replicate count byte) (set room (at + k) byte) (k + 1)
-      bytes-more l = paste_more d at (replicate count byte) room_for w (omega (arith, length-replicate count byte)) (sym (get_or-replicate count k byte 0 l))
+      pub bytes_more : k < count → Pasting d at (replicate count byte) (set room (at + k) byte) (k + 1)
+      bytes_more l = paste_more d at (replicate count byte) room_for w (omega (arith, length-replicate count byte)) (sym (get_or-replicate count k byte 0 l))
 
-      pub bytes-fits : length d < 2 ^ 64 → Fits w64 (at + k)
-      bytes-fits z = omega (arith, w.some, length-replicate count byte)
+      pub bytes_fits : length d < 2 ^ 64 → Fits w64 (at + k)
+      bytes_fits z = omega (arith, w.some, length-replicate count byte)
 
-pub ruleset bytes = (bytes_over, bytes_no_room, bytes-starts, bytes-done, bytes_inside, bytes-more, bytes-fits, rules)
+pub ruleset bytes = (bytes_over, bytes_no_room, bytes_starts, bytes_done, bytes_inside, bytes_more, bytes_fits, rules)
 
 -- One after the other.
 pub wrote_told : (r : Wrote) (d : List ℕ) (at : ℕ) (b d₁ : List ℕ) {q : ℕ} → WroteBy r d at b d₁ → r ≡ Done q → Written q d at b d₁
@@ -156,11 +156,11 @@ module _ (d : List ℕ) (at : ℕ) (a b : List ℕ) (r : Wrote) (d₁ : List ℕ
     first : Written m d at a d₁
     first = wrote_told r d at a d₁ w e
 
-    pub two-no-second : r₂ ≡ NoRoom → length d < at + length (a ++ b)
-    two-no-second f = wrote_none r₂ d at (a ++ b) d₂ (wrote_then r₂ b d₂ first v) f
+    pub two_no_second : r₂ ≡ NoRoom → length d < at + length (a ++ b)
+    two_no_second f = wrote_none r₂ d at (a ++ b) d₂ (wrote_then r₂ b d₂ first v) f
 
-    pub two-done : {q : ℕ} → r₂ ≡ Done q → TwoAt m q d at a b d₂
-    two-done f = record {
+    pub two_done : {q : ℕ} → r₂ ≡ Done q → TwoAt m q d at a b d₂
+    two_done f = record {
       second = first.past;
       next = (wrote_told r₂ d₁ m b d₂ v f).past;
       written = wrote_told r₂ d at (a ++ b) d₂ (wrote_then r₂ b d₂ first v) f;

@@ -33,10 +33,10 @@ module _ (row : List ℕ) where
     pub ranges_display : get_or row 10 0 ≡ 1 → Display (get_or row 13 0) (get_or row 14 0) ≡ unpack_ranges row
     ranges_display e = sym (rw (ne_eqb (get_or row 10 0) 0 n, eq-eqb (get_or row 10 0) 1 e))
 
-    pub ranges-both : (get_or row 10 0 ≡ 1 → ⊥) → Both (get_or row 11 0) (get_or row 12 0) (get_or row 13 0) (get_or row 14 0) ≡ unpack_ranges row
-    ranges-both m = sym (rw (ne_eqb (get_or row 10 0) 0 n, ne_eqb (get_or row 10 0) 1 m))
+    pub ranges_both : (get_or row 10 0 ≡ 1 → ⊥) → Both (get_or row 11 0) (get_or row 12 0) (get_or row 13 0) (get_or row 14 0) ≡ unpack_ranges row
+    ranges_both m = sym (rw (ne_eqb (get_or row 10 0) 0 n, ne_eqb (get_or row 10 0) 1 m))
 
-pub ruleset unpacking = (ranges_none, ranges_display, ranges-both, rules)
+pub ruleset unpacking = (ranges_none, ranges_display, ranges_both, rules)
 
 pub member_parts : (row : List ℕ) {r : Ranges} → r ≡ unpack_ranges row →
     ◌≡◌ {A = Member}

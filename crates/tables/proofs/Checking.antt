@@ -89,8 +89,8 @@ module _ (pool : List ℕ) (used : Used) where
           valid = valid_told (text_in pool t) (both_right p (is_utf8 (text_in pool t)) e);
         }
 
-    pub text-fine : FineText pool used t → text_fine pool used t ≡ true
-    text-fine k = rw (le-leb (t.place + t.length) used.pool k.inside, k.valid)
+    pub text_fine_lem : FineText pool used t → text_fine pool used t ≡ true
+    text_fine_lem k = rw (le-leb (t.place + t.length) used.pool k.inside, k.valid)
 
   -- A class row.
   pub record FineClass (row : List ℕ) : Type 0 where
@@ -102,7 +102,7 @@ module _ (pool : List ℕ) (used : Used) where
     pub class_row_lem : (unpack_member row).class < used.classes
     pub kind : (unpack_member row).kind ≤ 1
     pub flag : flag_of row ≤ 2
-    pub raw-name : FineText pool used (unpack_member row).raw_name
+    pub raw_name_lem : FineText pool used (unpack_member row).raw_name
     pub descriptor : FineText pool used (unpack_member row).descriptor
     pub name : FineText pool used (unpack_member row).name
     pub owner : FineText pool used (unpack_member row).owner
@@ -114,8 +114,8 @@ module _ (pool : List ℕ) (used : Used) where
         let b : Bool = text_fine pool used (unpack_class row).display in
         record { raw = text_told (unpack_class row).raw (both_left a b e); display = text_told (unpack_class row).display (both_right a b e) }
 
-    pub class-fine : FineClass row → class_fine pool used row ≡ true
-    class-fine k = rw (text-fine (unpack_class row).raw k.raw) (text-fine (unpack_class row).display k.display)
+    pub class_fine_lem : FineClass row → class_fine pool used row ≡ true
+    class_fine_lem k = rw (text_fine_lem (unpack_class row).raw k.raw) (text_fine_lem (unpack_class row).display k.display)
 
     pub member_told : member_fine pool used row ≡ true → FineMember row
     member_told e =
@@ -135,7 +135,7 @@ module _ (pool : List ℕ) (used : Used) where
           class_row_lem = ltb-true m.class used.classes (both_left n (both k f) numbers);
           kind = leb-true m.kind 1 (both_left k f (both_right n (both k f) numbers));
           flag = leb-true (flag_of row) 2 (both_right k f (both_right n (both k f) numbers));
-          raw-name = text_told m.raw_name (both_left a (both b (both c d)) texts);
+          raw_name_lem = text_told m.raw_name (both_left a (both b (both c d)) texts);
           descriptor = text_told m.descriptor (both_left b (both c d) texts₂);
           name = text_told m.name (both_left c d texts₃);
           owner = text_told m.owner (both_right c d texts₃);
@@ -147,11 +147,11 @@ module _ (pool : List ℕ) (used : Used) where
           lt-ltb (unpack_member row).class used.classes k.class_row_lem,
           le-leb (unpack_member row).kind 1 k.kind,
           le-leb (flag_of row) 2 k.flag,
-          text-fine (unpack_member row).raw_name k.raw-name,
-          text-fine (unpack_member row).descriptor k.descriptor,
-          text-fine (unpack_member row).name k.name,
+          text_fine_lem (unpack_member row).raw_name k.raw_name_lem,
+          text_fine_lem (unpack_member row).descriptor k.descriptor,
+          text_fine_lem (unpack_member row).name k.name,
         )
-        (text-fine (unpack_member row).owner k.owner)
+        (text_fine_lem (unpack_member row).owner k.owner)
 
 -- The whole.
 pub record Formed (classes members : List (List ℕ)) (pool : List ℕ) (used : Used) : Type 0 where

@@ -54,19 +54,19 @@ module _ {p : List ℕ → Bool} {rows : List (List ℕ)} {«end» : ℕ} (k : S
   scanning_ends h = let z : «end» ≡ 0 = omega arith in sym (rw z at k.none)
 
   module _ (h : 0 < «end») where
-    pub scanning-inside : «end» - 1 < length rows
-    scanning-inside = omega (arith, k.inside)
+    pub scanning_inside : «end» - 1 < length rows
+    scanning_inside = omega (arith, k.inside)
 
     before : last_row_from p («end» - 1) (drop («end» - 1) rows) ≡ pick (p (get_or rows («end» - 1) [])) (Row («end» - 1)) Unknown
     before =
         let up : «end» ≡ suc («end» - 1) = omega arith in
-        step_back p rows («end» - 1) scanning-inside (rw up at k.none)
+        step_back p rows («end» - 1) scanning_inside (rw up at k.none)
 
-    pub scanning-found : p (get_or rows («end» - 1) []) ≡ true → Row («end» - 1) ≡ last_row_from p 0 rows
-    scanning-found e = sym (last_stays p rows («end» - 1) («end» - 1) (omega (arith, k.inside)) (rw (before, e)))
+    pub scanning_found : p (get_or rows («end» - 1) []) ≡ true → Row («end» - 1) ≡ last_row_from p 0 rows
+    scanning_found e = sym (last_stays p rows («end» - 1) («end» - 1) (omega (arith, k.inside)) (rw (before, e)))
 
-    pub scanning-more : p (get_or rows («end» - 1) []) ≡ false → Scanning p rows («end» - 1)
-    scanning-more e = record { inside = omega (arith, k.inside); none = rw (before, e) }
+    pub scanning_more : p (get_or rows («end» - 1) []) ≡ false → Scanning p rows («end» - 1)
+    scanning_more e = record { inside = omega (arith, k.inside); none = rw (before, e) }
 
 -- where no row from a place on is the one
 pub scanning_from : (p : List ℕ → Bool) (rows : List (List ℕ)) («end» : ℕ) → «end» ≤ length rows →
@@ -79,7 +79,7 @@ scanning_from p rows «end» h none = go (length rows - «end») «end» (omega 
         let later : Scanning p rows (suc e) = go k (suc e) (omega arith) (λ i a b. n i (omega arith) b) in
         let z : suc e - 1 ≡ e = omega arith in
         let here : p (get_or rows (suc e - 1) []) ≡ false = rw z (n e (omega arith) (omega arith)) in
-        rw z at (scanning-more later (omega arith) here)
+        rw z at (scanning_more later (omega arith) here)
 
 -- The test of a row, as the code makes it.
 pub side_told : (side : Side) (pool name row : List ℕ) {c : Class} → c ≡ unpack_class row → {t : Text} → t ≡ text_on side c → {s : List ℕ} → s ≡ text_in pool t →
@@ -87,7 +87,7 @@ pub side_told : (side : Side) (pool name row : List ℕ) {c : Class} → c ≡ u
 side_told side pool name row e f g h q =
     ap (λ x. same (text_in pool (text_on side x)) name) (sym e) ∙ ap (λ x. same (text_in pool x) name) (sym f) ∙ ap (λ x. same x name) (sym g) ∙ sym h ∙ q
 
-pub ruleset scanning = (scanning_starts, scanning_ends, scanning-inside, scanning-found, scanning-more, side_told, rules)
+pub ruleset scanning = (scanning_starts, scanning_ends, scanning_inside, scanning_found, scanning_more, side_told, rules)
 
 -- An answer that goes over the rows as the search does: where a row is found it is what that row says, and where none is found there is
 -- none.
@@ -116,14 +116,14 @@ module _
       later Unknown false e f = step row rows ∙ rw (f, e) (else-none none)
 
   module _ (rows : List (List ℕ)) where
-    pub answer-row : {i : ℕ} → last_row_from p 0 rows ≡ Row i → (i < length rows) × (p (get_or rows i []) ≡ true) × (g rows ≡ says (get_or rows i []))
-    answer-row {i} e =
+    pub answer_row : {i : ℕ} → last_row_from p 0 rows ≡ Row i → (i < length rows) × (p (get_or rows i []) ≡ true) × (g rows ≡ says (get_or rows i []))
+    answer_row {i} e =
         let t : Told 0 rows (Row i) = rw e at (told 0 rows) in
         let z : i - 0 ≡ i = omega arith in
         (omega (arith, t.1), rw z at t.2, rw z at t.3)
 
-    pub answer-none : last_row_from p 0 rows ≡ Unknown → g rows ≡ none
-    answer-none e = rw e at (told 0 rows)
+    pub answer_none : last_row_from p 0 rows ≡ Unknown → g rows ≡ none
+    answer_none e = rw e at (told 0 rows)
 
 -- Of the classes read back: the pairs `f row` of the rows.
 module _ (f : List ℕ → Pair) (name : List ℕ) (rows : List (List ℕ)) where
@@ -143,11 +143,11 @@ module _ (f : List ℕ → Pair) (name : List ℕ) (rows : List (List ℕ)) wher
 
   told_row : {i : ℕ} → last_row_from has 0 rows ≡ Row i → (i < length rows) × (shown (map f rows) name ≡ known (f (get_or rows i [])).display)
   told_row e =
-      let t = answer-row unknown or_look shows has (λ l. shown (map f l) name) shown_empty shown_step (λ l. refl) (λ row l q. refl) rows e in
+      let t = answer_row unknown or_look shows has (λ l. shown (map f l) name) shown_empty shown_step (λ l. refl) (λ row l q. refl) rows e in
       (t.0, t.2)
 
   told_unknown : last_row_from has 0 rows ≡ Unknown → shown (map f rows) name ≡ unknown
-  told_unknown e = answer-none unknown or_look shows has (λ l. shown (map f l) name) shown_empty shown_step (λ l. refl) (λ row l q. refl) rows e
+  told_unknown e = answer_none unknown or_look shows has (λ l. shown (map f l) name) shown_empty shown_step (λ l. refl) (λ row l q. refl) rows e
 
 swapped_rows : (f : List ℕ → Pair) (rows : List (List ℕ)) → map swapped (map f rows) ≡ map (λ row. swapped (f row)) rows
 swapped_rows f [] = refl

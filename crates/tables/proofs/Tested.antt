@@ -66,31 +66,31 @@ module _ (used : Used) (row : List ℕ) {m : Member} (e : m ≡ unpack_member ro
   class_beyond h = rw (le-ltb m.class used.classes h) at by_member
 
   module _ (h : m.class < used.classes) where
-    pub kind-beyond : 1 < m.kind → false ≡ numbers_fine used row
-    kind-beyond k = rw (lt-ltb m.class used.classes h, lt-leb m.kind 1 k) at by_member
+    pub kind_beyond : 1 < m.kind → false ≡ numbers_fine used row
+    kind_beyond k = rw (lt-ltb m.class used.classes h, lt-leb m.kind 1 k) at by_member
 
-    pub numbers-last : m.kind ≤ 1 → {f : ℕ} → f ≡ flag_of row → leb f 2 ≡ numbers_fine used row
-    numbers-last k g = ap (λ n. leb n 2) g ∙ rw (lt-ltb m.class used.classes h, le-leb m.kind 1 k) at by_member
+    pub numbers_last : m.kind ≤ 1 → {f : ℕ} → f ≡ flag_of row → leb f 2 ≡ numbers_fine used row
+    numbers_last k g = ap (λ n. leb n 2) g ∙ rw (lt-ltb m.class used.classes h, le-leb m.kind 1 k) at by_member
 
-pub ruleset number_tests = (class_beyond, kind-beyond, numbers-last, rules)
+pub ruleset number_tests = (class_beyond, kind_beyond, numbers_last, rules)
 
 module _ (pool : List ℕ) (used : Used) (m : Member) where
   module _ {a : Bool} (e : a ≡ text_fine pool used m.raw_name) where
-    pub texts-no : not a ≡ true → false ≡ texts_fine pool used m
-    texts-no n = sym (rw (sym e ∙ not-true a n))
+    pub texts_no : not a ≡ true → false ≡ texts_fine pool used m
+    texts_no n = sym (rw (sym e ∙ not-true a n))
 
     module _ (n : not a ≡ false) {b : Bool} (f : b ≡ text_fine pool used m.descriptor) where
-      pub texts-no-2 : not b ≡ true → false ≡ texts_fine pool used m
-      texts-no-2 k = sym (rw (sym e ∙ not-false a n, sym f ∙ not-true b k))
+      pub texts_no_2 : not b ≡ true → false ≡ texts_fine pool used m
+      texts_no_2 k = sym (rw (sym e ∙ not-false a n, sym f ∙ not-true b k))
 
       module _ (k : not b ≡ false) {c : Bool} (g : c ≡ text_fine pool used m.name) where
-        pub texts-no-3 : not c ≡ true → false ≡ texts_fine pool used m
-        texts-no-3 l = sym (rw (sym e ∙ not-false a n, sym f ∙ not-false b k, sym g ∙ not-true c l))
+        pub texts_no_3 : not c ≡ true → false ≡ texts_fine pool used m
+        texts_no_3 l = sym (rw (sym e ∙ not-false a n, sym f ∙ not-false b k, sym g ∙ not-true c l))
 
-        pub texts-yes : not c ≡ false → {d : Bool} → d ≡ text_fine pool used m.owner → d ≡ texts_fine pool used m
-        texts-yes l h = h ∙ sym (rw (sym e ∙ not-false a n, sym f ∙ not-false b k, sym g ∙ not-false c l))
+        pub texts_yes : not c ≡ false → {d : Bool} → d ≡ text_fine pool used m.owner → d ≡ texts_fine pool used m
+        texts_yes l h = h ∙ sym (rw (sym e ∙ not-false a n, sym f ∙ not-false b k, sym g ∙ not-false c l))
 
-pub ruleset texts_tests = (texts-no, texts-no-2, texts-no-3, texts-yes, rules)
+pub ruleset texts_tests = (texts_no, texts_no_2, texts_no_3, texts_yes, rules)
 
 module _ (pool : List ℕ) (used : Used) (row : List ℕ) {b : Bool} (e : b ≡ numbers_fine used row) where
   pub member_no : not b ≡ true → false ≡ member_fine pool used row
@@ -120,16 +120,16 @@ module _ {p : List ℕ → Bool} {rows : List (List ℕ)} {i : ℕ} (k : Asking 
     here = rw (drop-cons rows i [] h) at k.decides
 
     module _ {b : Bool} (e : b ≡ p (get_or rows i [])) where
-      pub asking-no : not b ≡ true → false ≡ all_of p rows
-      asking-no n = first_fails (p (get_or rows i [])) (all_of p (drop (suc i) rows)) e n ∙ here
+      pub asking_no : not b ≡ true → false ≡ all_of p rows
+      asking_no n = first_fails (p (get_or rows i [])) (all_of p (drop (suc i) rows)) e n ∙ here
 
-      pub asking-more : not b ≡ false → Asking p rows (i + 1)
-      asking-more n = record {
+      pub asking_more : not b ≡ false → Asking p rows (i + 1)
+      asking_more n = record {
         inside = omega arith;
         decides = rw add-one (then_second (p (get_or rows i [])) (all_of p (drop (suc i) rows)) e n refl ∙ here);
       }
 
-pub ruleset asking = (asking_starts, asking_ends, asking-no, asking-more, rules)
+pub ruleset asking = (asking_starts, asking_ends, asking_no, asking_more, rules)
 
 -- Counts.
 module _ (classes members pool : ℕ) (used : Used) {a : ℕ} (e : a ≡ min classes most_classes) where
@@ -137,14 +137,14 @@ module _ (classes members pool : ℕ) (used : Used) {a : ℕ} (e : a ≡ min cla
   classes_above h = sym (rw (lt-leb used.classes (min classes most_classes) (omega arith)))
 
   module _ (h : used.classes ≤ a) {b : ℕ} (f : b ≡ min members most_members) where
-    pub members-above : b < used.members → false ≡ counts_fine classes members pool used
-    members-above k = sym (rw (le-leb used.classes (min classes most_classes) (omega arith), lt-leb used.members (min members most_members) (omega arith)))
+    pub members_above : b < used.members → false ≡ counts_fine classes members pool used
+    members_above k = sym (rw (le-leb used.classes (min classes most_classes) (omega arith), lt-leb used.members (min members most_members) (omega arith)))
 
-    pub counts-last : used.members ≤ b → {c : ℕ} → c ≡ min pool most_pool → leb used.pool c ≡ counts_fine classes members pool used
-    counts-last k g =
+    pub counts_last : used.members ≤ b → {c : ℕ} → c ≡ min pool most_pool → leb used.pool c ≡ counts_fine classes members pool used
+    counts_last k g =
         ap (leb used.pool) g ∙ sym (rw (le-leb used.classes (min classes most_classes) (omega arith), le-leb used.members (min members most_members) (omega arith)))
 
-pub ruleset count_tests = (classes_above, members-above, counts-last, rules)
+pub ruleset count_tests = (classes_above, members_above, counts_last, rules)
 
 -- The whole.
 module _ (classes members : List (List ℕ)) (pool : List ℕ) (used : Used) {b : Bool} (e : b ≡ counts_fine (length classes) (length members) (length pool) used) where
@@ -155,17 +155,17 @@ module _ (classes members : List (List ℕ)) (pool : List ℕ) (used : Used) {b 
     counts : FineCounts (length classes) (length members) (length pool) used
     counts = counts_told (length classes) (length members) (length pool) used (sym e ∙ not-false b n)
 
-    pub classes-lent : used.classes ≤ length classes
-    classes-lent = let k = counts in omega arith
+    pub classes_lent : used.classes ≤ length classes
+    classes_lent = let k = counts in omega arith
 
-    pub members-lent : used.members ≤ length members
-    members-lent = let k = counts in omega arith
+    pub members_lent : used.members ≤ length members
+    members_lent = let k = counts in omega arith
 
-    pub pool-lent : used.pool ≤ length pool
-    pool-lent = let k = counts in omega arith
+    pub pool_lent : used.pool ≤ length pool
+    pool_lent = let k = counts in omega arith
 
-    pub pool-ascii : {a : ℕ} → AsciiTo (take used.pool pool) 0 a → AsciiTo pool 0 a
-    pool-ascii w =
+    pub pool_ascii : {a : ℕ} → AsciiTo (take used.pool pool) 0 a → AsciiTo pool 0 a
+    pool_ascii w =
         let k = counts in
         let n = length-take used.pool pool in
         record {
@@ -175,10 +175,10 @@ module _ (classes members : List (List ℕ)) (pool : List ℕ) (used : Used) {b 
         }
 
     module _ {d : Bool} (f : d ≡ all_of (class_fine pool used) (take used.classes classes)) where
-      pub formed-classes : not d ≡ true → false ≡ well_formed classes members pool used
-      formed-classes k = sym (rw (sym e ∙ not-false b n, sym f ∙ not-true d k))
+      pub formed_classes : not d ≡ true → false ≡ well_formed classes members pool used
+      formed_classes k = sym (rw (sym e ∙ not-false b n, sym f ∙ not-true d k))
 
-      pub formed-members : not d ≡ false → {g : Bool} → g ≡ all_of (member_fine pool used) (take used.members members) → g ≡ well_formed classes members pool used
-      formed-members k h = h ∙ sym (rw (sym e ∙ not-false b n, sym f ∙ not-false d k))
+      pub formed_members : not d ≡ false → {g : Bool} → g ≡ all_of (member_fine pool used) (take used.members members) → g ≡ well_formed classes members pool used
+      formed_members k h = h ∙ sym (rw (sym e ∙ not-false b n, sym f ∙ not-false d k))
 
-pub ruleset forming = (prefix_whole, formed_counts, classes-lent, members-lent, pool-lent, pool-ascii, formed-classes, formed-members, rules)
+pub ruleset forming = (prefix_whole, formed_counts, classes_lent, members_lent, pool_lent, pool_ascii, formed_classes, formed_members, rules)

@@ -42,29 +42,29 @@ module _ (s : List ℕ) (at : ℕ) {t : Sequence} (p : t ≡ sequence_of (drop a
     reach : (0 < m) × (m ≤ length (drop at s))
     reach = good_fits (drop at s) (sym p ∙ q)
 
-    pub good-next : at < length s → Taking s (at + m)
-    good-next h = let g = reach in record { inside = omega (arith, length-drop at s) }
+    pub good_next : at < length s → Taking s (at + m)
+    good_next h = let g = reach in record { inside = omega (arith, length-drop at s) }
 
-    pub good-fits-word : at < length s → length s < 2 ^ 64 → Fits w64 (at + m)
-    good-fits-word h b = let g = reach in omega (arith, length-drop at s)
+    pub good_fits_word : at < length s → length s < 2 ^ 64 → Fits w64 (at + m)
+    good_fits_word h b = let g = reach in omega (arith, length-drop at s)
 
-    pub good-falls : at < length s → length s - (at + m) < length s - at
-    good-falls h = let g = reach in omega (arith, length-drop at s)
+    pub good_falls : at < length s → length s - (at + m) < length s - at
+    good_falls h = let g = reach in omega (arith, length-drop at s)
 
   module _ {m : ℕ} (q : t ≡ Bad m) where
     stop : m ≤ length (drop at s)
     stop = bad_fits (drop at s) (sym p ∙ q)
 
-    pub bad-next : at < length s → Taking s (at + m)
-    bad-next h = let g = stop in record { inside = omega (arith, length-drop at s) }
+    pub bad_next : at < length s → Taking s (at + m)
+    bad_next h = let g = stop in record { inside = omega (arith, length-drop at s) }
 
-    pub bad-fits-word : at < length s → length s < 2 ^ 64 → Fits w64 (at + m)
-    bad-fits-word h b = let g = stop in omega (arith, length-drop at s)
+    pub bad_fits_word : at < length s → length s < 2 ^ 64 → Fits w64 (at + m)
+    bad_fits_word h b = let g = stop in omega (arith, length-drop at s)
 
-    pub bad-falls : at < length s → (m ≡ 0 → ⊥) → length s - (at + m) < length s - at
-    bad-falls h n = let g = stop in omega (arith, length-drop at s)
+    pub bad_falls : at < length s → (m ≡ 0 → ⊥) → length s - (at + m) < length s - at
+    bad_falls h n = let g = stop in omega (arith, length-drop at s)
 
-pub ruleset taking = (taking_starts, line_next, line_falls, line_starts, line_ends, good-next, good-fits-word, good-falls, bad-next, bad-fits-word, bad-falls, rules)
+pub ruleset taking = (taking_starts, line_next, line_falls, line_starts, line_ends, good_next, good_fits_word, good_falls, bad_next, bad_fits_word, bad_falls, rules)
 
 -- a kind, a space, and what is asked
 module _ (s : List ℕ) {p : Place} {i : ℕ} (e : p ≡ first_where (starts 0x20) s) (g : p ≡ At i) where

@@ -65,19 +65,19 @@ module _ {s : List ℕ} {at count next : ℕ} (k : Tailing s at count next) wher
         let z : 4 - count ≡ suc (4 - (count + 1)) = omega arith in
         rw (z, drop-cons s next 0 h) (one_up_to (4 - (count + 1)) (get_or s next 0) (drop (suc next) s))
 
-    pub tailing-ends : {b : Bool} → b ≡ is_tail (get_or s next 0) → not b ≡ true → count ≡ tails_at s at
-    tailing-ends {b} e n = let z : tails_up_to (4 - count) (drop next s) ≡ 0 = step ∙ rw (sym e ∙ not-true b n) refl in omega (arith, k.decides)
+    pub tailing_ends : {b : Bool} → b ≡ is_tail (get_or s next 0) → not b ≡ true → count ≡ tails_at s at
+    tailing_ends {b} e n = let z : tails_up_to (4 - count) (drop next s) ≡ 0 = step ∙ rw (sym e ∙ not-true b n) refl in omega (arith, k.decides)
 
-    pub tailing-more : {b : Bool} → b ≡ is_tail (get_or s next 0) → not b ≡ false → Tailing s at (count + 1) (next + 1)
-    tailing-more {b} e n =
+    pub tailing_more : {b : Bool} → b ≡ is_tail (get_or s next 0) → not b ≡ false → Tailing s at (count + 1) (next + 1)
+    tailing_more {b} e n =
         let y : next + 1 ≡ suc next = omega arith in
         let z : tails_up_to (4 - count) (drop next s) ≡ suc (tails_up_to (4 - (count + 1)) (drop (next + 1) s)) = step ∙ rw (sym e ∙ not-false b n, y) refl in
         record { few = omega arith; place = omega (arith, k.place); inside = omega arith; decides = k.decides ∙ (let w : count + tails_up_to (4 - count) (drop next s) ≡ count + 1 + tails_up_to (4 - (count + 1)) (drop (next + 1) s) = omega (arith, z) in w) }
 
-    pub tailing-fits : length s < 2 ^ 64 → Fits w64 (next + 1)
-    tailing-fits b = omega arith
+    pub tailing_fits : length s < 2 ^ 64 → Fits w64 (next + 1)
+    tailing_fits b = omega arith
 
-pub ruleset tailing = (tailing_starts, tailing_past, tailing_full, tailing-ends, tailing-more, tailing-fits, rules)
+pub ruleset tailing = (tailing_starts, tailing_past, tailing_full, tailing_ends, tailing_more, tailing_fits, rules)
 
 -- How far, by what the check of the rest says.
 module _ (s : List ℕ) (at : ℕ) (h : at ≤ length s) {o : Check} (e : o ≡ check_of (between s at (length s))) where
@@ -88,13 +88,13 @@ module _ (s : List ℕ) (at : ℕ) (h : at ≤ length s) {o : Check} (e : o ≡ 
   valid_all f = let z : at + (length s - at) ≡ length s = omega arith in sym (rw (is ∙ f) z)
 
   module _ {k m : ℕ} (f : o ≡ Broken k m) where
-    pub valid-part : at + k ≡ valid_to s at
-    valid-part = sym (rw (is ∙ f))
+    pub valid_part : at + k ≡ valid_to s at
+    valid_part = sym (rw (is ∙ f))
 
-    pub valid-fits : length s < 2 ^ 64 → Fits w64 (at + k)
-    valid-fits b = let i = (valid_extends s at h).inside in let z = valid-part in omega arith
+    pub valid_fits : length s < 2 ^ 64 → Fits w64 (at + k)
+    valid_fits b = let i = (valid_extends s at h).inside in let z = valid_part in omega arith
 
-pub ruleset validating = (valid_all, valid-part, valid-fits, rules)
+pub ruleset validating = (valid_all, valid_part, valid_fits, rules)
 
 -- What was read is not read again.
 pub begun_known : (s : List ℕ) (at good : ℕ) → Begun s at good → at ≤ length s → Fresh (drop at s) → at ≤ good → good ≡ valid_to s at
@@ -135,8 +135,8 @@ module _ {s reach : List ℕ} {group place good : ℕ} (k : Marking s reach grou
       go g p q (inr m) = k.done.tells g m p q
 
   module _ (c : group < group_count) (h : place ≤ length s) where
-    pub marking-inside : group < length reach
-    marking-inside = let z = k.done.size in omega arith
+    pub marking_inside : group < length reach
+    marking_inside = let z = k.done.size in omega arith
 
     pub group_fits : Fits w64 (group + 1)
     group_fits = omega arith
@@ -146,8 +146,8 @@ module _ {s reach : List ℕ} {group place good : ℕ} (k : Marking s reach grou
 
     module _ {t : ℕ} (e : t ≡ tails_at s place) where
       -- four that only continue: nothing is said
-      pub marking-skips : 4 ≤ t → Marking s reach (group + 1) (place + 128) good
-      marking-skips n =
+      pub marking_skips : 4 ≤ t → Marking s reach (group + 1) (place + 128) good
+      marking_skips n =
           let p = k.here in
           let b = k.begun in
           record {
@@ -167,33 +167,33 @@ module _ {s reach : List ℕ} {group place good : ℕ} (k : Marking s reach grou
           go g u q (inr m) l = k.done.tells g m u q
 
       module _ (n : t < 4) where
-        pub fresh-inside : place + t ≤ length s
-        fresh-inside = let i = tails_inside 4 (drop place s) in omega (arith, e, length-drop place s)
+        pub fresh_inside : place + t ≤ length s
+        fresh_inside = let i = tails_inside 4 (drop place s) in omega (arith, e, length-drop place s)
 
-        pub fresh-fits : Fits w64 (place + t)
-        fresh-fits = let b = k.short in omega arith
+        pub fresh_fits : Fits w64 (place + t)
+        fresh_fits = let b = k.short in omega arith
 
-        pub fresh-there : Fresh (drop (place + t) s)
-        fresh-there =
+        pub fresh_there : Fresh (drop (place + t) s)
+        fresh_there =
             let q : tails_up_to 4 (drop place s) ≡ t = sym e in
             fresh_as (ap (λ i. drop i (drop place s)) q ∙ drop-drop t place s) (tails_fresh 4 (drop place s) (omega arith))
 
-        pub begun-there : Begun s (place + t) good
-        begun-there = let b = k.begun in record { start = b.start; before = omega (arith, b.before); inside = b.inside; stops = b.stops }
+        pub begun_there : Begun s (place + t) good
+        begun_there = let b = k.begun in record { start = b.start; before = omega (arith, b.before); inside = b.inside; stops = b.stops }
 
         module _ {g₁ : ℕ} (f : g₁ ≡ valid_to s (place + t)) where
-          pub reach-fits : Fits w32 g₁
-          reach-fits = let i = (valid_extends s (place + t) fresh-inside).inside in let b = k.short in omega (arith, f)
+          pub reach_fits : Fits w32 g₁
+          reach_fits = let i = (valid_extends s (place + t) fresh_inside).inside in let b = k.short in omega (arith, f)
 
-          pub marking-more : Marking s (set reach group g₁) (group + 1) (place + 128) g₁
-          marking-more =
+          pub marking_more : Marking s (set reach group g₁) (group + 1) (place + 128) g₁
+          marking_more =
               let p = k.here in
               let z = k.done.size in
               record {
                 here = omega arith;
                 few = omega arith;
                 short = k.short;
-                begun = record { start = place + t; before = omega arith; inside = fresh-inside; stops = f };
+                begun = record { start = place + t; before = omega arith; inside = fresh_inside; stops = f };
                 done = record { size = length-set reach group g₁ ∙ z; tells = λ g l u q. go g u q (le_or_lt group g) l };
               }
             where
@@ -203,7 +203,7 @@ module _ {s reach : List ℕ} {group place good : ℕ} (k : Marking s reach grou
                   let p = k.here in
                   let z : g ≡ group = omega arith in
                   let y : group_place g ≡ place = omega arith in
-                  rw z (get_or-set_same reach group g₁ 0 marking-inside) ∙ f ∙ ap (λ i. valid_to s (place + i)) e ∙ ap (λ i. valid_to s (i + tails_at s i)) (sym y)
+                  rw z (get_or-set_same reach group g₁ 0 marking_inside) ∙ f ∙ ap (λ i. valid_to s (place + i)) e ∙ ap (λ i. valid_to s (i + tails_at s i)) (sym y)
               go g u q (inr m) l = get_or-set_other reach group g g₁ 0 (λ z. absurd (omega arith)) ∙ k.done.tells g m u q
 
-pub ruleset marking = (marking_starts, marking_ends, marking_past, marking-inside, group_fits, place_fits, marking-skips, fresh-inside, fresh-fits, fresh-there, begun-there, reach-fits, marking-more, rules)
+pub ruleset marking = (marking_starts, marking_ends, marking_past, marking_inside, group_fits, place_fits, marking_skips, fresh_inside, fresh_fits, fresh_there, begun_there, reach_fits, marking_more, rules)

@@ -38,10 +38,10 @@ module _ (s : List ℕ) (good e : ℕ) where
           go : (good ≡ e → ⊥) → e < length s
           go m = omega arith
 
-      pub ends-by-tail : {b : Bool} → b ≡ is_tail (get_or s e 0) → not b ≡ ends_well s good e
-      ends-by-tail q = ap not q ∙ sym (rw (le-ltb good e h, ne_eqb good e n))
+      pub ends_by_tail : {b : Bool} → b ≡ is_tail (get_or s e 0) → not b ≡ ends_well s good e
+      ends_by_tail q = ap not q ∙ sym (rw (le-ltb good e h, ne_eqb good e n))
 
-pub ruleset ending_well = (ends_beyond, ends_there, ends_inside, ends-by-tail, rules)
+pub ruleset ending_well = (ends_beyond, ends_there, ends_inside, ends_by_tail, rules)
 
 -- The group behind the start of a long part.
 pub record Ahead (start group : ℕ) : Type 0 where
@@ -85,8 +85,8 @@ module _ (s reach : List ℕ) (start e : ℕ) (r : Reached s reach) (p : LongPar
   group_inside h = let z = r.size in omega arith
 
   module _ {t : ℕ} (f : t ≡ tails_at s place) where
-    pub four-tails : 4 ≤ t → false ≡ is_utf8 (between s start e)
-    four-tails h = sym (utf8_no (between s start e) (λ o. four_break (between s start e) (place - start) (rw there h) o))
+    pub four_tails : 4 ≤ t → false ≡ is_utf8 (between s start e)
+    four_tails h = sym (utf8_no (between s start e) (λ o. four_break (between s start e) (place - start) (rw there h) o))
       where
         there : tails_at (between s start e) (place - start) ≡ t
         there =
@@ -102,17 +102,17 @@ module _ (s reach : List ℕ) (start e : ℕ) (r : Reached s reach) (p : LongPar
       abbrev fresh : ℕ
       fresh = place + t
 
-      pub fresh-order : start ≤ fresh
-      fresh-order = let a = (ahead start).after in omega arith
+      pub fresh_order : start ≤ fresh
+      fresh_order = let a = (ahead start).after in omega arith
 
-      pub fresh-inside : fresh ≤ length s
-      fresh-inside = let i = place_inside in omega (arith, tails_inside 4 (drop place s), f, length-drop place s)
+      pub fresh_inside : fresh ≤ length s
+      fresh_inside = let i = place_inside in omega (arith, tails_inside 4 (drop place s), f, length-drop place s)
 
-      fresh-before : fresh ≤ e
-      fresh-before = let l = p.long in let a = (ahead start).near in omega arith
+      fresh_before : fresh ≤ e
+      fresh_before = let l = p.long in let a = (ahead start).near in omega arith
 
-      pub fresh-fits : length s < 2 ^ 64 → Fits w64 fresh
-      fresh-fits b = let i = fresh-inside in omega arith
+      pub fresh_fits : length s < 2 ^ 64 → Fits w64 fresh
+      fresh_fits b = let i = fresh_inside in omega arith
 
       begins : Fresh (drop fresh s)
       begins =
@@ -120,17 +120,17 @@ module _ (s reach : List ℕ) (start e : ℕ) (r : Reached s reach) (p : LongPar
           fresh_as (ap (λ i. drop i (drop place s)) q ∙ drop-drop t place s) (tails_fresh 4 (drop place s) (omega arith))
 
       module _ {b : Bool} (u : b ≡ is_utf8 (between s start fresh)) where
-        pub start-broken : not b ≡ true → false ≡ is_utf8 (between s start e)
-        start-broken m =
+        pub start_broken : not b ≡ true → false ≡ is_utf8 (between s start e)
+        start_broken m =
             let no : is_utf8 (between s start fresh) ≡ false = sym u ∙ not-true b m in
-            sym (utf8_no (between s start e) (λ o. clash (octets_utf8 (between s start fresh) (part_cut s start fresh e fresh-order fresh-before begins o).0) no))
+            sym (utf8_no (between s start e) (λ o. clash (octets_utf8 (between s start fresh) (part_cut s start fresh e fresh_order fresh_before begins o).0) no))
 
         module _ (m : not b ≡ false) (h : group < group_count) where
           told : get_or reach group 0 ≡ valid_to s fresh
           told = r.tells group h place_inside (omega arith) ∙ ap (λ i. valid_to s (place + i)) (sym f)
 
-          pub reach-inside : {g : ℕ} → g ≡ get_or reach group 0 → g ≤ length s
-          reach-inside q = let i = (valid_extends s fresh fresh-inside).inside in omega (arith, q, told)
+          pub reach_inside : {g : ℕ} → g ≡ get_or reach group 0 → g ≤ length s
+          reach_inside q = let i = (valid_extends s fresh fresh_inside).inside in omega (arith, q, told)
 
           rest : is_utf8 (between s fresh e) ≡ is_utf8 (between s start e)
           rest = go (is_utf8 (between s fresh e)) refl
@@ -139,13 +139,13 @@ module _ (s reach : List ℕ) (start e : ℕ) (r : Reached s reach) (p : LongPar
               yes = utf8_octets (between s start fresh) (sym u ∙ not-false b m)
 
               go : (x : Bool) → is_utf8 (between s fresh e) ≡ x → x ≡ is_utf8 (between s start e)
-              go true q = sym (octets_utf8 (between s start e) (part_join s start fresh e fresh-order fresh-before yes (utf8_octets (between s fresh e) q)))
+              go true q = sym (octets_utf8 (between s start e) (part_join s start fresh e fresh_order fresh_before yes (utf8_octets (between s fresh e) q)))
               go false q =
                   sym (utf8_no (between s start e)
-                  (λ o. clash (octets_utf8 (between s fresh e) (part_cut s start fresh e fresh-order fresh-before begins o).1) q))
+                  (λ o. clash (octets_utf8 (between s fresh e) (part_cut s start fresh e fresh_order fresh_before begins o).1) q))
 
           pub by_table : {g : ℕ} → g ≡ get_or reach group 0 → {z : Bool} → z ≡ ends_well s g e → z ≡ is_utf8 (between s start e)
           by_table q y =
-              y ∙ ap (λ i. ends_well s i e) (q ∙ told) ∙ sym (ends_told s (valid_extends s fresh fresh-inside) e fresh-before part_inside) ∙ rest
+              y ∙ ap (λ i. ends_well s i e) (q ∙ told) ∙ sym (ends_told s (valid_extends s fresh fresh_inside) e fresh_before part_inside) ∙ rest
 
-pub ruleset long_parts = (place_inside, part_order, part_inside, group_fits, place_fits, group_inside, four-tails, fresh-order, fresh-inside, fresh-fits, start-broken, reach-inside, by_table, rules)
+pub ruleset long_parts = (place_inside, part_order, part_inside, group_fits, place_fits, group_inside, four_tails, fresh_order, fresh_inside, fresh_fits, start_broken, reach_inside, by_table, rules)

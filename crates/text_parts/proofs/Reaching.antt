@@ -127,15 +127,15 @@ module _ (s : List ℕ) where
   ends_told {m} {b} x e h k = go (le_or_lt e b) (le_or_lt b e)
     where
       -- where the text goes on behind a part that is UTF-8, a sequence begins
-      tail-free : e < b → Utf8Octets (between s m e) → is_tail (get_or s e 0) ≡ false
-      tail-free l o =
+      tail_free : e < b → Utf8Octets (between s m e) → is_tail (get_or s e 0) ≡ false
+      tail_free l o =
           let i = x.inside in
           let n : suc (b - suc e) ≡ b - e = omega arith in
           let there : between s e b ≡ get_or s e 0 ∷ take (b - suc e) (drop (suc e) s) = rw (← n, drop-cons s e 0 (omega arith)) refl in
           fresh_head (fresh_as there (octets_fresh (part_rest m e b h (omega arith) o x.good)))
 
       short : e < b → (t : Bool) → is_tail (get_or s e 0) ≡ t → is_utf8 (between s m e) ≡ not t
-      short l true q = utf8_no (between s m e) (λ o. clash q (tail-free l o))
+      short l true q = utf8_no (between s m e) (λ o. clash q (tail_free l o))
       short l false q =
           let i = x.inside in
           octets_utf8 (between s m e) (part_cut m e b h (omega arith) (here_fresh s e (omega arith) q) x.good).0

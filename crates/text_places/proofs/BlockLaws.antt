@@ -16,9 +16,9 @@ use Rattle.ground.proofs.Cases.{le_or_lt}
 use Rattle.ground.proofs.Stretch.{along_none, block_inside, along_told, along_in_block}
 use Rattle.text_places.specs.Places.{starts, starts_pair}
 use Rattle.text_places.specs.Inner.Blocks.{is_byte, mask_of, Without}
-use Rattle.text_places.proofs.MaskLaws.{Passed, passed_none, passed_more, passed_all, whole-zeros, masking}
-use Rattle.text_places.proofs.PlaceLaws.{Seeking, seeking_starts, seeking-more, seeking, pairing, byte_other, pair_first_other, no_pair}
-use Rattle.text_places.proofs.LineLaws.{ToLf, lf_starts, lf-more, to_lf_lem}
+use Rattle.text_places.proofs.MaskLaws.{Passed, passed_none, passed_more, passed_all, whole_zeros, masking}
+use Rattle.text_places.proofs.PlaceLaws.{Seeking, seeking_starts, seeking_more, seeking, pairing, byte_other, pair_first_other, no_pair}
+use Rattle.text_places.proofs.LineLaws.{ToLf, lf_starts, lf_more, to_lf_lem}
 
 -- A block that does not hold a byte.
 pub passed_bytes : {b : ℕ} {s : List ℕ} {at i : ℕ} {holds : Bool} → Passed (is_byte b) s at holds i → 16 ≤ i → holds ≡ false →
@@ -37,7 +37,7 @@ module _ {x b : ℕ} where
 
 pub byte_zeros : (b : ℕ) (s : List ℕ) (at : ℕ) {l h : ℕ} → l ≡ mask_of (is_byte b) s at 8 → h ≡ mask_of (is_byte b) s (at + 8) 8 →
     (k : ℕ) → k < count_trailing_zeros 16 (l + 256 * h) → get_or s (at + k) 0 ≡ b → ⊥
-byte_zeros b s at e f k u = eqb-false (get_or s (at + k) 0) b (whole-zeros (is_byte b) s at e f k u)
+byte_zeros b s at e f k u = eqb-false (get_or s (at + k) 0) b (whole_zeros (is_byte b) s at e f k u)
 
 -- the last block, where fewer bytes than a block are left
 module _ {b : ℕ} {s : List ℕ} {«from» to : ℕ} (w : Without b s «from» to) (h : length s - to < 16) (l : 16 ≤ length s - «from») where
@@ -66,7 +66,7 @@ pub seek_past : (p : List ℕ → Bool) (s : List ℕ) (n at : ℕ) → Seeking 
 seek_past p s zero at k h f = rw add-zero k
 seek_past p s (suc n) at k h f =
     let q : at + 1 + n ≡ at + suc n = omega arith in
-    rw (← q) (seek_past p s n (at + 1) (seeking-more k (omega arith) (f at (omega arith))) (omega arith) (λ i l. f i (omega arith)))
+    rw (← q) (seek_past p s n (at + 1) (seeking_more k (omega arith) (f at (omega arith))) (omega arith) (λ i l. f i (omega arith)))
 
 -- no pair starts where its first byte does not stand
 pair_not : (a b : ℕ) (s : List ℕ) (i : ℕ) → i < length s → (get_or s i 0 ≡ a → ⊥) → starts_pair a b (drop i s) ≡ false
@@ -93,7 +93,7 @@ pub lf_past : (s : List ℕ) («from» n at : ℕ) → ToLf s «from» at → at
 lf_past s f zero at k h e = rw add-zero k
 lf_past s f (suc n) at k h e =
     let q : at + 1 + n ≡ at + suc n = omega arith in
-    rw (← q) (lf_past s f n (at + 1) (lf-more k (omega arith) (e at (omega arith) (omega arith))) (omega arith) (λ i l u. e i (omega arith) (omega arith)))
+    rw (← q) (lf_past s f n (at + 1) (lf_more k (omega arith) (e at (omega arith) (omega arith))) (omega arith) (λ i l u. e i (omega arith) (omega arith)))
 
 pub lf_blocks : {s : List ℕ} {«from» to : ℕ} → Without 0x0A s «from» to → ToLf s «from» to
 lf_blocks {s = s} {«from» = f} {to = to} w =

@@ -54,13 +54,13 @@ module _ {s : List ℕ} {«from» at : ℕ} (k : ToLf s «from» at) where
   lf_none h = sym (add-zero at) ∙ (rw (drop_of_length-le s h) at k.decides)
 
   module _ (h : at < length s) where
-    pub lf-found : get_or s at 0 ≡ 0x0A → at ≡ «from» + to_lf (drop «from» s)
+    pub lf_found : get_or s at 0 ≡ 0x0A → at ≡ «from» + to_lf (drop «from» s)
     unfolding to_lf
-    lf-found e = sym (add-zero at) ∙ (rw (drop-cons s at 0 h, eq-eqb (get_or s at 0) 0x0A e) at k.decides)
+    lf_found e = sym (add-zero at) ∙ (rw (drop-cons s at 0 h, eq-eqb (get_or s at 0) 0x0A e) at k.decides)
 
-    pub lf-more : (get_or s at 0 ≡ 0x0A → ⊥) → ToLf s «from» (at + 1)
+    pub lf_more : (get_or s at 0 ≡ 0x0A → ⊥) → ToLf s «from» (at + 1)
     unfolding to_lf
-    lf-more e = record {
+    lf_more e = record {
       past = let p = k.past in omega arith;
       inside = omega arith;
       decides = rw add-one (rw (suc-add, ← add-suc) (rw (drop-cons s at 0 h, ne_eqb (get_or s at 0) 0x0A e) at k.decides));
@@ -69,12 +69,12 @@ module _ {s : List ℕ} {«from» at : ℕ} (k : ToLf s «from» at) where
 -- where it stands first or second
 module _ (s : List ℕ) («from» : ℕ) (h : 1 < length s - «from») where
   pub lf_first : get_or s «from» 0 ≡ 0x0A → «from» ≡ «from» + to_lf (drop «from» s)
-  lf_first e = lf-found (lf_starts s «from» (omega arith)) (omega arith) e
+  lf_first e = lf_found (lf_starts s «from» (omega arith)) (omega arith) e
 
   pub lf_second : (get_or s «from» 0 ≡ 0x0A → ⊥) → get_or s («from» + 1) 0 ≡ 0x0A → «from» + 1 ≡ «from» + to_lf (drop «from» s)
-  lf_second n e = lf-found (lf-more (lf_starts s «from» (omega arith)) (omega arith) n) (omega arith) e
+  lf_second n e = lf_found (lf_more (lf_starts s «from» (omega arith)) (omega arith) n) (omega arith) e
 
-pub ruleset to_lf_lem = (lf_starts, lf_none, lf-found, lf-more, lf_first, lf_second, rules)
+pub ruleset to_lf_lem = (lf_starts, lf_none, lf_found, lf_more, lf_first, lf_second, rules)
 
 -- The CR at a line's end, from its last byte backwards.
 cr_last : (l : List ℕ) (b : ℕ) → cr_end (l ++ (b ∷ [])) ≡ pick (eqb b 0x0D) (cr_end l) (suc (length l))
@@ -101,27 +101,27 @@ module _ {l : List ℕ} {«end» : ℕ} (k : CrEnd l «end») where
   cr_all h = let z : «end» ≡ 0 = omega arith in z ∙ (rw z at k.decides)
 
   module _ (h : 0 < «end») where
-    pub cr-inside : «end» - 1 < length l
-    cr-inside = let i = k.inside in omega arith
+    pub cr_inside : «end» - 1 < length l
+    cr_inside = let i = k.inside in omega arith
 
     by_last : cr_end l ≡ pick (eqb (get_or l («end» - 1) 0) 0x0D) (cr_end (take («end» - 1) l)) «end»
     by_last =
         let up : «end» ≡ suc («end» - 1) = omega arith in
         let size : suc (length (take («end» - 1) l)) ≡ «end» = rw length-take (let i = k.inside in omega arith) in
-        let cut : take «end» l ≡ take («end» - 1) l ++ (get_or l («end» - 1) 0 ∷ []) = ap (λ n. take n l) up ∙ take-suc l («end» - 1) 0 cr-inside in
+        let cut : take «end» l ≡ take («end» - 1) l ++ (get_or l («end» - 1) 0 ∷ []) = ap (λ n. take n l) up ∙ take-suc l («end» - 1) 0 cr_inside in
         sym k.decides ∙ ap cr_end cut ∙ cr_last (take («end» - 1) l) (get_or l («end» - 1) 0)
         ∙ ap (λ n. pick (eqb (get_or l («end» - 1) 0) 0x0D) (cr_end (take («end» - 1) l)) n) size
 
-    pub cr-other : (get_or l («end» - 1) 0 ≡ 0x0D → ⊥) → «end» ≡ cr_end l
-    cr-other e = sym (rw (ne_eqb (get_or l («end» - 1) 0) 0x0D e) at by_last)
+    pub cr_other : (get_or l («end» - 1) 0 ≡ 0x0D → ⊥) → «end» ≡ cr_end l
+    cr_other e = sym (rw (ne_eqb (get_or l («end» - 1) 0) 0x0D e) at by_last)
 
-    pub cr-more : get_or l («end» - 1) 0 ≡ 0x0D → CrEnd l («end» - 1)
-    cr-more e = record {
+    pub cr_more : get_or l («end» - 1) 0 ≡ 0x0D → CrEnd l («end» - 1)
+    cr_more e = record {
       inside = let i = k.inside in omega arith;
       decides = sym (rw (eq-eqb (get_or l («end» - 1) 0) 0x0D e) at by_last);
     }
 
-pub ruleset cr_ending = (cr_starts, cr_all, cr-other, cr-more, cr-inside, rules)
+pub ruleset cr_ending = (cr_starts, cr_all, cr_other, cr_more, cr_inside, rules)
 
 -- One line, from a place on.
 line_at : (at : ℕ) (l : List ℕ) → 0 < length l →
@@ -146,11 +146,11 @@ module _ (s : List ℕ) (at : ℕ) {lf : ℕ} (e : lf ≡ at + to_lf (drop at s)
     answer : next_line s at ≡ Line at (at + n) (lf + pick (ltb (to_lf (drop at s)) (length (drop at s))) 1 0)
     answer = line_at at (drop at s) (rw length-drop (omega arith)) ∙ rw (f, size, e)
 
-    pub line-ends-in-lf : lf < length s → Line at (at + n) (lf + 1) ≡ next_line s at
-    line-ends-in-lf i = sym (answer ∙ rw (lt-ltb (to_lf (drop at s)) (length (drop at s)) (rw length-drop (omega arith))))
+    pub line_ends_in_lf : lf < length s → Line at (at + n) (lf + 1) ≡ next_line s at
+    line_ends_in_lf i = sym (answer ∙ rw (lt-ltb (to_lf (drop at s)) (length (drop at s)) (rw length-drop (omega arith))))
 
-    pub line-ends-text : length s ≤ lf → Line at (at + n) lf ≡ next_line s at
-    line-ends-text i = sym (answer ∙ rw (le-ltb (to_lf (drop at s)) (length (drop at s)) (rw length-drop (omega arith)), add-zero))
+    pub line_ends_text : length s ≤ lf → Line at (at + n) lf ≡ next_line s at
+    line_ends_text i = sym (answer ∙ rw (le-ltb (to_lf (drop at s)) (length (drop at s)) (rw length-drop (omega arith)), add-zero))
 
     pub line_fits : length s < 2 ^ 64 → Fits w64 (at + n)
     line_fits b =
@@ -158,15 +158,15 @@ module _ (s : List ℕ) (at : ℕ) {lf : ℕ} (e : lf ≡ at + to_lf (drop at s)
         omega (arith, to_lf_le (drop at s), length-drop at s)
 
   module _ (h : at < length s) where
-    pub start-in-lf : lf < length s → NextStart s at (lf + 1)
-    start-in-lf i = record { «end» = at + cr_end (between s at lf); line = sym (line-ends-in-lf h refl i) }
+    pub start_in_lf : lf < length s → NextStart s at (lf + 1)
+    start_in_lf i = record { «end» = at + cr_end (between s at lf); line = sym (line_ends_in_lf h refl i) }
 
-    pub start-text : length s ≤ lf → NextStart s at lf
-    start-text i = record { «end» = at + cr_end (between s at lf); line = sym (line-ends-text h refl i) }
+    pub start_text : length s ≤ lf → NextStart s at lf
+    start_text i = record { «end» = at + cr_end (between s at lf); line = sym (line_ends_text h refl i) }
 
-pub ruleset next_starts = (lf_inside, start-in-lf, start-text, rules)
+pub ruleset next_starts = (lf_inside, start_in_lf, start_text, rules)
 
-pub ruleset next_line_lem = (line_none, lf_after, lf_inside, line-ends-in-lf, line-ends-text, line_fits, rules)
+pub ruleset next_line_lem = (line_none, lf_after, lf_inside, line_ends_in_lf, line_ends_text, line_fits, rules)
 
 -- The lines of a text are the line at its head and the lines of what that leaves.
 leaves : List ℕ → ℕ

@@ -94,9 +94,9 @@ module _ (p : ℕ → Bool) (s : List ℕ) where
       past (suc k) false q l u m = let w : at + suc k ≡ at + 1 + k = omega arith in rw w (m k (omega arith) (omega arith))
 
   module _ (at : ℕ) {l h : ℕ} where
-    pub two-joined : l ≡ bit (p (get_or s at 0)) → h ≡ bit (p (get_or s (at + 1) 0)) → l + 2 * h ≡ mask_of p s at 2
+    pub two_joined : l ≡ bit (p (get_or s at 0)) → h ≡ bit (p (get_or s (at + 1) 0)) → l + 2 * h ≡ mask_of p s at 2
     unfolding mask_of
-    two-joined e f = rw (e, f) (omega arith)
+    two_joined e f = rw (e, f) (omega arith)
 
     -- of halves of so many bytes each
     module _ (n : ℕ) (e : l ≡ mask_of p s at n) (f : h ≡ mask_of p s (at + n) n) where
@@ -107,37 +107,37 @@ module _ (p : ℕ → Bool) (s : List ℕ) where
       halves_small = rw halves (mask_small at (n + n))
 
     module _ (e : l ≡ mask_of p s at 2) (f : h ≡ mask_of p s (at + 2) 2) where
-      pub four-joined : l + 4 * h ≡ mask_of p s at 4
-      four-joined = halves 2 e f
+      pub four_joined : l + 4 * h ≡ mask_of p s at 4
+      four_joined = halves 2 e f
 
-      pub four-high : Fits w16 (4 * h)
-      four-high = let z = halves_small 2 e f in omega arith
+      pub four_high : Fits w16 (4 * h)
+      four_high = let z = halves_small 2 e f in omega arith
 
-      pub four-fits : Fits w16 (l + 4 * h)
-      four-fits = let z = halves_small 2 e f in omega arith
+      pub four_fits : Fits w16 (l + 4 * h)
+      four_fits = let z = halves_small 2 e f in omega arith
 
     module _ (e : l ≡ mask_of p s at 4) (f : h ≡ mask_of p s (at + 4) 4) where
-      pub eight-joined : l + 16 * h ≡ mask_of p s at 8
-      eight-joined = halves 4 e f
+      pub eight_joined : l + 16 * h ≡ mask_of p s at 8
+      eight_joined = halves 4 e f
 
-      pub eight-high : Fits w16 (16 * h)
-      eight-high = let z = halves_small 4 e f in omega arith
+      pub eight_high : Fits w16 (16 * h)
+      eight_high = let z = halves_small 4 e f in omega arith
 
       pub eight_fits : Fits w16 (l + 16 * h)
       eight_fits = let z = halves_small 4 e f in omega arith
 
     module _ (e : l ≡ mask_of p s at 8) (f : h ≡ mask_of p s (at + 8) 8) where
-      pub whole-high : Fits w16 (256 * h)
-      whole-high = let z = halves_small 8 e f in omega arith
+      pub whole_high : Fits w16 (256 * h)
+      whole_high = let z = halves_small 8 e f in omega arith
 
-      pub whole-fits : Fits w16 (l + 256 * h)
-      whole-fits = let z = halves_small 8 e f in omega arith
+      pub whole_fits : Fits w16 (l + 256 * h)
+      whole_fits = let z = halves_small 8 e f in omega arith
 
-      pub whole-zeros : (k : ℕ) → k < count_trailing_zeros 16 (l + 256 * h) → p (get_or s (at + k) 0) ≡ false
-      whole-zeros k u = mask_zeros 16 16 at k (rw (halves 8 e f) at u) (omega (arith, trailing_le 16 (l + 256 * h)))
+      pub whole_zeros : (k : ℕ) → k < count_trailing_zeros 16 (l + 256 * h) → p (get_or s (at + k) 0) ≡ false
+      whole_zeros k u = mask_zeros 16 16 at k (rw (halves 8 e f) at u) (omega (arith, trailing_le 16 (l + 256 * h)))
 
 pub zeros_fit : (mask : ℕ) → Fits w64 (count_trailing_zeros 16 mask)
 zeros_fit mask = record { fits = omega (arith, trailing_le 16 mask) }
 
 pub ruleset masking =
-    (two-joined, two_high, two_fits, four-joined, four-high, four-fits, eight-joined, eight-high, eight_fits, whole-high, whole-fits, zeros_fit, trailing_le, rules)
+    (two_joined, two_high, two_fits, four_joined, four_high, four_fits, eight_joined, eight_high, eight_fits, whole_high, whole_fits, zeros_fit, trailing_le, rules)

@@ -38,13 +38,13 @@ module _ {p : List ℕ → Bool} {s : List ℕ} {at : ℕ} (k : Seeking p s at) 
     here : drop at s ≡ get_or s at 0 ∷ drop (suc at) s
     here = drop-cons s at 0 h
 
-    pub seeking-found : p (drop at s) ≡ true → At at ≡ first_where p s
+    pub seeking_found : p (drop at s) ≡ true → At at ≡ first_where p s
     unfolding first_from
-    seeking-found e = rw (here, rw here at e) at k.decides
+    seeking_found e = rw (here, rw here at e) at k.decides
 
-    pub seeking-more : p (drop at s) ≡ false → Seeking p s (at + 1)
+    pub seeking_more : p (drop at s) ≡ false → Seeking p s (at + 1)
     unfolding first_from
-    seeking-more e = record { inside = omega arith; decides = rw add-one (rw (here, rw here at e) at k.decides) }
+    seeking_more e = record { inside = omega arith; decides = rw add-one (rw (here, rw here at e) at k.decides) }
 
 -- Backwards: there is none from here on.
 pub record Backing (p : List ℕ → Bool) (s : List ℕ) («end» : ℕ) : Type 0 where
@@ -78,11 +78,11 @@ module _ {p : List ℕ → Bool} {s : List ℕ} {«end» : ℕ} (k : Backing p s
         let up : «end» ≡ suc («end» - 1) = omega arith in
         step_back («end» - 1) (let q = k.inside in omega arith) (rw up at k.none)
 
-    pub backing-found : p (drop («end» - 1) s) ≡ true → At («end» - 1) ≡ last_where p s
-    backing-found e = sym (last_stays p s («end» - 1) («end» - 1) (let q = k.inside in omega arith) (rw (before, e)))
+    pub backing_found : p (drop («end» - 1) s) ≡ true → At («end» - 1) ≡ last_where p s
+    backing_found e = sym (last_stays p s («end» - 1) («end» - 1) (let q = k.inside in omega arith) (rw (before, e)))
 
-    pub backing-more : p (drop («end» - 1) s) ≡ false → Backing p s («end» - 1)
-    backing-more e = record { inside = let q = k.inside in omega arith; none = rw (before, e) }
+    pub backing_more : p (drop («end» - 1) s) ≡ false → Backing p s («end» - 1)
+    backing_more e = record { inside = let q = k.inside in omega arith; none = rw (before, e) }
 
 -- A place that is found lies in the text.
 first_from_inside : (p : List ℕ → Bool) (at : ℕ) (l : List ℕ) {i : ℕ} → first_from p at l ≡ At i → i < at + length l
@@ -124,12 +124,12 @@ module _ (b : ℕ) (s : List ℕ) (at : ℕ) (h : at < length s) where
 pub backing_inside : {s : List ℕ} {«end» : ℕ} {p : List ℕ → Bool} → Backing p s «end» → 0 < «end» → «end» - 1 < length s
 backing_inside k h = let i = k.inside in omega arith
 
-pub ruleset seeking = (seeking_starts, seeking_ends, seeking-found, seeking-more, byte_here, byte_other, rules)
+pub ruleset seeking = (seeking_starts, seeking_ends, seeking_found, seeking_more, byte_here, byte_other, rules)
 
 -- Two bytes a turn.
 module _ {b : ℕ} {s : List ℕ} {«end» : ℕ} (k : Backing (starts b) s «end») (h : 0 < «end») (n : get_or s («end» - 1) 0 ≡ b → ⊥) where
   one_less : Backing (starts b) s («end» - 1)
-  one_less = backing-more k h (byte_other b s («end» - 1) (omega (arith, k.inside)) n)
+  one_less = backing_more k h (byte_other b s («end» - 1) (omega (arith, k.inside)) n)
 
   pub second_ends : «end» - 1 ≡ 0 → Nowhere ≡ last_where (starts b) s
   second_ends z = backing_ends one_less (omega arith)
@@ -138,13 +138,13 @@ module _ {b : ℕ} {s : List ℕ} {«end» : ℕ} (k : Backing (starts b) s «en
     some_left : 0 < «end» - 1
     some_left = omega arith
 
-    pub second-found : get_or s («end» - 1 - 1) 0 ≡ b → At («end» - 1 - 1) ≡ last_where (starts b) s
-    second-found e = backing-found one_less some_left (byte_here b s («end» - 1 - 1) (omega (arith, k.inside)) e)
+    pub second_found : get_or s («end» - 1 - 1) 0 ≡ b → At («end» - 1 - 1) ≡ last_where (starts b) s
+    second_found e = backing_found one_less some_left (byte_here b s («end» - 1 - 1) (omega (arith, k.inside)) e)
 
     pub second_more : (get_or s («end» - 1 - 1) 0 ≡ b → ⊥) → Backing (starts b) s («end» - 1 - 1)
-    second_more e = backing-more one_less some_left (byte_other b s («end» - 1 - 1) (omega (arith, k.inside)) e)
+    second_more e = backing_more one_less some_left (byte_other b s («end» - 1 - 1) (omega (arith, k.inside)) e)
 
-pub ruleset backing = (backing_starts, backing_ends, backing-found, backing-more, byte_here, byte_other, backing_inside, second_ends, second-found, second_more, rules)
+pub ruleset backing = (backing_starts, backing_ends, backing_found, backing_more, byte_here, byte_other, backing_inside, second_ends, second_found, second_more, rules)
 
 -- Two bytes.
 module _ (a b : ℕ) (s : List ℕ) (at : ℕ) (h : at + 1 < length s) where
@@ -171,13 +171,13 @@ module _ {a b : ℕ} {s : List ℕ} {at : ℕ} (k : Seeking (starts_pair a b) s 
     where
       go : (length s ≤ at) ⊎ (at < length s) → Nowhere ≡ first_where (starts_pair a b) s
       go (inl e) = seeking_ends k e
-      go (inr l) = seeking_ends (seeking-more k l (no_pair a b (drop at s) (rw length-drop (omega arith)))) h
+      go (inr l) = seeking_ends (seeking_more k l (no_pair a b (drop at s) (rw length-drop (omega arith)))) h
 
   pub pair_more : at + 1 < length s → starts_pair a b (drop at s) ≡ false → Seeking (starts_pair a b) s (at + 1)
-  pair_more h e = seeking-more k (omega arith) e
+  pair_more h e = seeking_more k (omega arith) e
 
   pub pair_found : at + 1 < length s → starts_pair a b (drop at s) ≡ true → At at ≡ first_where (starts_pair a b) s
-  pair_found h e = seeking-found k (omega arith) e
+  pair_found h e = seeking_found k (omega arith) e
 
 pub ruleset pairing = (seeking_starts, pair_ends, pair_more, pair_found, pair_here, pair_first_other, pair_second_other, rules)
 
@@ -237,24 +237,24 @@ module _ {s t : List ℕ} {i : ℕ} (k : Matching s t i) where
       rw (drop_of_length-le s h, drop_of_length-le t g) at k.decides
 
   module _ (h : i < length s) where
-    both-here : same (drop i s) (drop i t) ≡ both (eqb (get_or s i 0) (get_or t i 0)) (same (drop (suc i) s) (drop (suc i) t))
+    both_here : same (drop i s) (drop i t) ≡ both (eqb (get_or s i 0) (get_or t i 0)) (same (drop (suc i) s) (drop (suc i) t))
     unfolding same
-    both-here = rw (drop-cons s i 0 h, drop-cons t i 0 (let e = k.even in omega arith))
+    both_here = rw (drop-cons s i 0 h, drop-cons t i 0 (let e = k.even in omega arith))
 
-    pub matching-differs : (get_or s i 0 ≡ get_or t i 0 → ⊥) → false ≡ same s t
-    matching-differs n = unlike_at s t i n
+    pub matching_differs : (get_or s i 0 ≡ get_or t i 0 → ⊥) → false ≡ same s t
+    matching_differs n = unlike_at s t i n
 
-    pub matching-more : get_or s i 0 ≡ get_or t i 0 → Matching s t (i + 1)
-    matching-more e = record {
+    pub matching_more : get_or s i 0 ≡ get_or t i 0 → Matching s t (i + 1)
+    matching_more e = record {
       even = k.even;
       inside = omega arith;
-      decides = rw add-one (rw (both-here, eq-eqb (get_or s i 0) (get_or t i 0) e) at k.decides);
+      decides = rw add-one (rw (both_here, eq-eqb (get_or s i 0) (get_or t i 0) e) at k.decides);
     }
 
-    pub matching-inside : i < length t
-    matching-inside = let e = k.even in omega arith
+    pub matching_inside : i < length t
+    matching_inside = let e = k.even in omega arith
 
-pub ruleset matching = (matching_starts, matching_uneven, matching_ends, matching-differs, matching-more, matching-inside, rules)
+pub ruleset matching = (matching_starts, matching_uneven, matching_ends, matching_differs, matching_more, matching_inside, rules)
 
 -- The number of a place: one more than the place.
 pub place_fits : {o : Place} {i : ℕ} → o ≡ At i → place_number o < 2 ^ 64 → Fits w64 (i + 1)

@@ -154,22 +154,22 @@ cut_octets p q f o = cut o p q f refl
 
 module _ {s : List ℕ} (o : Utf8Octets s) where
   module _ (i : ℕ) (f : Fresh (drop i s)) where
-    both-octets : Utf8Octets (take i s) × Utf8Octets (drop i s)
-    both-octets = cut o (take i s) (drop i s) f (sym (take-append-drop i s))
+    both_octets : Utf8Octets (take i s) × Utf8Octets (drop i s)
+    both_octets = cut o (take i s) (drop i s) f (sym (take-append-drop i s))
 
     -- a well_formed_lem text up to such a place, and from there on
-    pub take-octets : Utf8Octets (take i s)
-    take-octets = both-octets.0
+    pub take_octets : Utf8Octets (take i s)
+    take_octets = both_octets.0
 
-    pub drop-octets : Utf8Octets (drop i s)
-    drop-octets = both-octets.1
+    pub drop_octets : Utf8Octets (drop i s)
+    drop_octets = both_octets.1
 
   -- between two such places
   pub part_octets : (i j : ℕ) → i ≤ j → Fresh (drop i s) → Fresh (drop j s) → Utf8Octets (between s i j)
   part_octets i j h f g =
       let there : i + (j - i) ≡ j = omega arith in
       let k : Fresh (drop (j - i) (drop i s)) = fresh_as (sym (drop-drop (j - i) i s ∙ ap (λ n. drop n s) there)) g in
-      (cut (drop-octets i f) (take (j - i) (drop i s)) (drop (j - i) (drop i s)) k (sym (take-append-drop (j - i) (drop i s)))).0
+      (cut (drop_octets i f) (take (j - i) (drop i s)) (drop (j - i) (drop i s)) k (sym (take-append-drop (j - i) (drop i s)))).0
 
 -- the rest of a well_formed_lem text after a sequence that is read at its head
 check_any : (at k : ℕ) (ps : List Sequence) → check_from at ps ≡ Valid → check_from k ps ≡ Valid
@@ -217,13 +217,13 @@ fresh_good l {d} {m} e = fresh_as (take-append-drop m l) (shape_fresh (shape (go
 
 module _ {s : List ℕ} (o : Utf8Octets s) (i : ℕ) where
   module _ (h : i < length s) (l : get_or s i 0 < 0x80) where
-    pub after-octets : Utf8Octets (drop (i + 1) s)
-    after-octets =
+    pub after_octets : Utf8Octets (drop (i + 1) s)
+    after_octets =
         octets_as (ap (λ n. drop n s) (sym (add-one i)))
-        (tail_octets (get_or s i 0) (drop (suc i) s) l (octets_as (drop-cons s i 0 h) (drop-octets o i (fresh_ascii s i l))))
+        (tail_octets (get_or s i 0) (drop (suc i) s) l (octets_as (drop-cons s i 0 h) (drop_octets o i (fresh_ascii s i l))))
 
-    pub fresh-after : Fresh (drop (i + 1) s)
-    fresh-after = octets_fresh after-octets
+    pub fresh_after : Fresh (drop (i + 1) s)
+    fresh_after = octets_fresh after_octets
 
 -- Octets turned one by one, where only ASCII octets change, and into such.
 module _ (f : ℕ → ℕ) (low : (x : ℕ) → x < 0x80 → f x < 0x80) (high : (x : ℕ) → 0x80 ≤ x → f x ≡ x) where

@@ -31,15 +31,15 @@ module _ {s : List ℕ} {at : ℕ} (c : Checked s at) where
   checked_all h = rw (pieces_past s at h) at c.decides
 
   module _ {t : Sequence} (e : t ≡ sequence_of (drop at s)) where
-    pub checked-good : {d m : ℕ} → t ≡ Good d m → Checked s (at + m)
+    pub checked_good : {d m : ℕ} → t ≡ Good d m → Checked s (at + m)
     unfolding check_from
-    checked-good g = record {
+    checked_good g = record {
       inside = (good_inside s at (sym e ∙ g)).1;
       decides = rw (pieces_on s at (sym e ∙ g)) at c.decides;
     }
 
   pub checked_ascii : at < length s → get_or s at 0 < 0x80 → Checked s (at + 1)
-  checked_ascii h a = checked-good refl (sym (sequence_ascii s at h a))
+  checked_ascii h a = checked_good refl (sym (sequence_ascii s at h a))
 
 -- a run of ASCII, byte by byte
 checked_steps : (n : ℕ) {s : List ℕ} {at to : ℕ} → to - at ≤ n → Checked s at → AsciiTo s at to → Checked s to

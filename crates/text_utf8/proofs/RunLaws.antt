@@ -41,11 +41,11 @@ module _ {s : List ℕ} {at to : ℕ} (a : AsciiTo s at to) where
   ascii_byte h b = along_byte a h b
 
   module _ {size : ℕ} (h : size ≤ length s - to) where
-    pub ascii-room : to + size ≤ length s
-    ascii-room = omega (arith, a.inside)
+    pub ascii_room : to + size ≤ length s
+    ascii_room = omega (arith, a.inside)
 
-    pub ascii-block : {r : ℕ} → ((k : ℕ) → k < size → get_or s (to + k) 0 ≤ r) → r ≤ 0x7F → AsciiTo s at (to + size)
-    ascii-block f b = along_more a size ascii-room (λ k l. le_trans (f k l) b)
+    pub ascii_block : {r : ℕ} → ((k : ℕ) → k < size → get_or s (to + k) 0 ≤ r) → r ≤ 0x7F → AsciiTo s at (to + size)
+    ascii_block f b = along_more a size ascii_room (λ k l. le_trans (f k l) b)
 
 pub ascii_on : {s : List ℕ} {at mid to : ℕ} → AsciiTo s at mid → AsciiTo s mid to → AsciiTo s at to
 ascii_on {s} {at} {mid} {to} a b = record { goes = omega (arith, a.goes, b.goes); inside = b.inside; each = λ i l u. go i l u (le_or_lt mid i) }
@@ -59,4 +59,4 @@ ascii_inside a = a.inside
 
 pub ruleset ascii_starts = (ascii_none, ascii_on, ascii_inside, rules)
 
-pub ruleset ascii_runs = (ascii_none, ascii_byte, ascii-room, ascii-block, rules)
+pub ruleset ascii_runs = (ascii_none, ascii_byte, ascii_room, ascii_block, rules)

@@ -58,9 +58,9 @@ module _ {s : List ℕ} {at octets least greatest bits low high code taken : ℕ
       (rw none at r.decides)
 
   module _ (h : taken < octets) where
-    pub tails-cut : length s - at ≤ taken → Bad 0 ≡ tails (octets - 1) least greatest bits 1 (drop (at + 1) s)
+    pub tails_cut : length s - at ≤ taken → Bad 0 ≡ tails (octets - 1) least greatest bits 1 (drop (at + 1) s)
     unfolding tails
-    tails-cut e =
+    tails_cut e =
         let past : length s ≤ at + taken = let i = r.inside in omega arith in
         let out : drop (at + taken) s ≡ [] = drop_of_length-le s past in
         rw (step_left octets taken h, out) at r.decides
@@ -71,20 +71,20 @@ module _ {s : List ℕ} {at octets least greatest bits low high code taken : ℕ
         let p : 64 ^ (taken - 1) ≤ 64 ^ 2 = pow-le-pow_right (lit< tt) k in
         omega (arith, r.small)
 
-    pub code-shifts : Fits w32 (code * 64)
-    code-shifts = let c = code_small in omega arith
+    pub code_shifts : Fits w32 (code * 64)
+    code_shifts = let c = code_small in omega arith
 
     module _ (i : taken < length s - at) where
       next : drop (at + taken) s ≡ get_or s (at + taken) 0 ∷ drop (suc (at + taken)) s
       next = drop-cons s (at + taken) 0 (omega arith)
 
-      pub tails-low : get_or s (at + taken) 0 < low → Bad taken ≡ tails (octets - 1) least greatest bits 1 (drop (at + 1) s)
+      pub tails_low : get_or s (at + taken) 0 < low → Bad taken ≡ tails (octets - 1) least greatest bits 1 (drop (at + 1) s)
       unfolding tails
-      tails-low e = rw (step_left octets taken h, next, within_low low high (get_or s (at + taken) 0) e) at r.decides
+      tails_low e = rw (step_left octets taken h, next, within_low low high (get_or s (at + taken) 0) e) at r.decides
 
-      pub tails-high : high < get_or s (at + taken) 0 → Bad taken ≡ tails (octets - 1) least greatest bits 1 (drop (at + 1) s)
+      pub tails_high : high < get_or s (at + taken) 0 → Bad taken ≡ tails (octets - 1) least greatest bits 1 (drop (at + 1) s)
       unfolding tails
-      tails-high e = rw (step_left octets taken h, next, within_high low high (get_or s (at + taken) 0) e) at r.decides
+      tails_high e = rw (step_left octets taken h, next, within_high low high (get_or s (at + taken) 0) e) at r.decides
 
       module _ (l : low ≤ get_or s (at + taken) 0) (u : get_or s (at + taken) 0 ≤ high) where
         grown : code * 64 + (get_or s (at + taken) 0 - 0x80) < 32 * 64 ^ (taken + 1 - 1)
@@ -92,9 +92,9 @@ module _ {s : List ℕ} {at octets least greatest bits low high code taken : ℕ
             let e : taken + 1 - 1 ≡ suc (taken - 1) = let o = r.some in omega arith in
             rw (e, pow-suc) (omega (arith, r.small, r.floor, r.ceiling))
 
-        pub tails-more : Tailing s at octets least greatest bits 0x80 0xBF (code * 64 + (get_or s (at + taken) 0 - 0x80)) (taken + 1)
+        pub tails_more : Tailing s at octets least greatest bits 0x80 0xBF (code * 64 + (get_or s (at + taken) 0 - 0x80)) (taken + 1)
         unfolding tails
-        tails-more = record {
+        tails_more = record {
           some = omega arith;
           most = omega arith;
           four = r.four;
@@ -105,17 +105,17 @@ module _ {s : List ℕ} {at octets least greatest bits low high code taken : ℕ
           decides = rw (← add_assoc at taken 1, add-one (at + taken)) (rw (step_left octets taken h, next, within_yes low high (get_or s (at + taken) 0) l u) at r.decides);
         }
 
-        pub code-grows : Fits w32 (code * 64 + (get_or s (at + taken) 0 - 0x80))
-        code-grows = let c = code_small in omega (arith, r.ceiling)
+        pub code_grows : Fits w32 (code * 64 + (get_or s (at + taken) 0 - 0x80))
+        code_grows = let c = code_small in omega (arith, r.ceiling)
 
-        pub octet-bits : Fits w32 (get_or s (at + taken) 0 - 0x80)
-        octet-bits = omega (arith, r.ceiling)
+        pub octet_bits : Fits w32 (get_or s (at + taken) 0 - 0x80)
+        octet_bits = omega (arith, r.ceiling)
 
-        pub octet-high : 0x80 ≤ get_or s (at + taken) 0
-        octet-high = omega (arith, r.floor)
+        pub octet_high : 0x80 ≤ get_or s (at + taken) 0
+        octet_high = omega (arith, r.floor)
 
 pub ruleset tailing =
-    (tailing_starts, tails_done, tails-cut, tails-low, tails-high, tails-more, code-shifts, code-grows, octet-bits, octet-high, rules)
+    (tailing_starts, tails_done, tails_cut, tails_low, tails_high, tails_more, code_shifts, code_grows, octet_bits, octet_high, rules)
 
 -- Reading the whole sequence, by its first octet.
 past_first : (s : List ℕ) (at : ℕ) → at < length s → sequence_of (drop at s) ≡ after_lead (lead_of (get_or s at 0)) (get_or s at 0) (drop (at + 1) s)

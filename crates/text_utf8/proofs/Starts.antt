@@ -197,8 +197,8 @@ module _ (x : ℕ) (s : List ℕ) (m : ℕ) where
         let some = e.some in
         never_starts (x ∷ take k s) (λ b. one_begins h (take k s ++ b) ∙ e.never k b (omega arith))
 
-    stop-longest : LongestStart (x ∷ s) m
-    stop-longest =
+    stop_longest : LongestStart (x ∷ s) m
+    stop_longest =
         let some = e.some in
         let inside = e.inside in
         let whole : take (length (x ∷ s)) (x ∷ s) ≡ x ∷ s = take_all (length (x ∷ s)) (x ∷ s) (omega arith) in
@@ -217,7 +217,7 @@ module _ (x : ℕ) (s : List ℕ) (m : ℕ) where
       by_end : (h : eqb (lead_of x).octets 0 ≡ false) →
           Ends rest (lead_of x).low (lead_of x).high (x - (lead_of x).mark) 1 s m → LongestStart (x ∷ s) m
       by_end h (inl (z, k)) = cut_longest h z k
-      by_end h (inr k) = stop-longest h k
+      by_end h (inr k) = stop_longest h k
 
       go : (b : Bool) → eqb (lead_of x).octets 0 ≡ b → LongestStart (x ∷ s) m
       go true h = none_longest h (bad_same (sym e ∙ none_begins h s))

@@ -23,7 +23,7 @@ use Rattle.text_utf8.specs.Inner.Runs.{Three, good_length}
 use Rattle.text_utf8.proofs.Sequences.{end_empty}
 use Rattle.text_utf8.proofs.Pieces.{pieces_none, pieces_bad, good_inside, good_past_fits, good_past_falls}
 use Rattle.text_utf8.proofs.Grammatical.{char_reads}
-use Rattle.text_utf8.proofs.Checking.{Checked, checked_first, checked_runs, runs_fall, checked_all, checked-good}
+use Rattle.text_utf8.proofs.Checking.{Checked, checked_first, checked_runs, runs_fall, checked_all, checked_good}
 use Rattle.text_utf8.proofs.RunLaws.{ascii_inside}
 
 module _ (b : ℕ) where
@@ -48,8 +48,8 @@ module _ (s : List ℕ) (at : ℕ) (h : 3 ≤ length s - at) where
       ∙ ap (λ l. get_or s (at + 1) 0 ∷ l) (rw three at (drop-cons s (at + 2) 0 (omega arith))))
 
   module _ (l : 0xE1 ≤ get_or s at 0) (u : get_or s at 0 ≤ 0xEC) {p q : Bool} (e : p ≡ within 0x80 0xBF (get_or s (at + 1) 0)) (f : q ≡ within 0x80 0xBF (get_or s (at + 2) 0)) where
-    pub three-stands : p ≡ true → q ≡ true → Three s at
-    three-stands g h =
+    pub three_stands : p ≡ true → q ≡ true → Three s at
+    three_stands g h =
         let first = octet (get_or s at 0) (within_yes 0xE1 0xEC (get_or s at 0) l u) in
         let second = octet (get_or s (at + 1) 0) (sym e ∙ g) in
         let third = octet (get_or s (at + 2) 0) (sym f ∙ h) in
@@ -59,7 +59,7 @@ module _ (s : List ℕ) (at : ℕ) (h : 3 ≤ length s - at) where
 pub three_none : (s : List ℕ) (at : ℕ) → false ≡ true → Three s at
 three_none s at e = clash e refl
 
-pub ruleset threes = (three_inside, three-stands, three_none, rules)
+pub ruleset threes = (three_inside, three_stands, three_none, rules)
 
 -- The length of the character at a place, by three octets or by its sequence.
 module _ (s : List ℕ) (at : ℕ) where
@@ -70,26 +70,26 @@ module _ (s : List ℕ) (at : ℕ) where
     pub length_end : t ≡ End → 0 ≡ good_length (sequence_of (drop at s))
     length_end f = ap good_length (sym f ∙ e)
 
-    pub length-good : {d m : ℕ} → t ≡ Good d m → m ≡ good_length (sequence_of (drop at s))
-    length-good f = ap good_length (sym f ∙ e)
+    pub length_good : {d m : ℕ} → t ≡ Good d m → m ≡ good_length (sequence_of (drop at s))
+    length_good f = ap good_length (sym f ∙ e)
 
     pub length_bad : {m : ℕ} → t ≡ Bad m → 0 ≡ good_length (sequence_of (drop at s))
     length_bad f = ap good_length (sym f ∙ e)
 
-    pub bad-end : t ≡ End → Valid ≡ check_from at (pieces (drop at s))
+    pub bad_end : t ≡ End → Valid ≡ check_from at (pieces (drop at s))
     unfolding check_from
-    bad-end f = rw (pieces_none (drop at s) (end_empty (drop at s) (sym e ∙ f)))
+    bad_end f = rw (pieces_none (drop at s) (end_empty (drop at s) (sym e ∙ f)))
 
-    pub bad-good : good_length (sequence_of (drop at s)) ≡ 0 → {d m : ℕ} → t ≡ Good d m → Valid ≡ check_from at (pieces (drop at s))
-    bad-good z f = absurd (let l = length-good f in let i = good_inside s at (sym e ∙ f) in omega arith)
+    pub bad_good : good_length (sequence_of (drop at s)) ≡ 0 → {d m : ℕ} → t ≡ Good d m → Valid ≡ check_from at (pieces (drop at s))
+    bad_good z f = absurd (let l = length_good f in let i = good_inside s at (sym e ∙ f) in omega arith)
 
-    pub bad-bad : {m : ℕ} → t ≡ Bad m → Broken at m ≡ check_from at (pieces (drop at s))
+    pub bad_bad : {m : ℕ} → t ≡ Bad m → Broken at m ≡ check_from at (pieces (drop at s))
     unfolding check_from
-    bad-bad f = rw (pieces_bad (drop at s) (sym e ∙ f))
+    bad_bad f = rw (pieces_bad (drop at s) (sym e ∙ f))
 
-pub ruleset lengths = (length_three, length_end, length-good, length_bad, rules)
+pub ruleset lengths = (length_three, length_end, length_good, length_bad, rules)
 
-pub ruleset bad_places = (bad-end, bad-good, bad-bad, rules)
+pub ruleset bad_places = (bad_end, bad_good, bad_bad, rules)
 
 -- Where there is a character, there is a sequence of its length.
 good_stands : (l : List ℕ) → (good_length (sequence_of l) ≡ 0 → ⊥) → (d : ℕ) × (sequence_of l ≡ Good d (good_length (sequence_of l)))
@@ -111,13 +111,13 @@ module _ {s : List ℕ} {at : ℕ} (c : Checked s at) {r : ℕ} (e : r ≡ good_
     stands : (d : ℕ) × (sequence_of (drop at s) ≡ Good d r)
     stands = rw (← e) at (good_stands (drop at s) (λ z. n (e ∙ z)))
 
-    pub checked-length : Checked s (at + r)
-    checked-length = checked-good c refl stands.1
+    pub checked_length : Checked s (at + r)
+    checked_length = checked_good c refl stands.1
 
     pub length_fits : length s < 2 ^ 64 → Fits w64 (at + r)
     length_fits b = good_past_fits s at b stands.1
 
-    pub length-falls : length s - (at + r) < length s - at
-    length-falls = good_past_falls s at stands.1
+    pub length_falls : length s - (at + r) < length s - at
+    length_falls = good_past_falls s at stands.1
 
-pub ruleset checking = (checked_first, checked_runs, runs_fall, ascii_inside, checked_all, checked_zero, checked_bad_at, checked-length, length_fits, length-falls, rules)
+pub ruleset checking = (checked_first, checked_runs, runs_fall, ascii_inside, checked_all, checked_zero, checked_bad_at, checked_length, length_fits, length_falls, rules)

@@ -21,7 +21,7 @@ use Rattle.text_utf8.specs.Grammar.{Utf8Octets}
 use Rattle.text_utf8.specs.Utf8.{sequence_of, pieces}
 use Rattle.text_utf8.proofs.Sequences.{end_empty, good_fits}
 use Rattle.text_utf8.proofs.Pieces.{pieces_none, pieces_good, pieces_bad}
-use Rattle.text_utf8.proofs.Boundaries.{octets_as, Texts, no_text, text, Fresh, at_end, at_low, fresh_good, good_rest, take-octets, tail_octets, cut_octets}
+use Rattle.text_utf8.proofs.Boundaries.{octets_as, Texts, no_text, text, Fresh, at_end, at_low, fresh_good, good_rest, take_octets, tail_octets, cut_octets}
 use Rattle.text_white.specs.Trim.{run_of, all_white, trim_start, trim_end, trim_both, white_sequence, starts_white, first_white, last_white}
 use Rattle.text_white.specs.White.{is_white}
 
@@ -77,7 +77,7 @@ pub trim_end_fresh : (s : List ℕ) → Fresh (drop (trim_end s) s)
 trim_end_fresh s = white_fresh (drop (trim_end s) s) (trimmed_white s)
 
 pub trim_end_octets : {s : List ℕ} → Utf8Octets s → Utf8Octets (take (trim_end s) s)
-trim_end_octets {s} o = take-octets o (trim_end s) (trim_end_fresh s)
+trim_end_octets {s} o = take_octets o (trim_end s) (trim_end_fresh s)
 
 -- Both ends.
 pub trim_octets : {s : List ℕ} → Utf8Octets s → Utf8Octets (part_of s (trim_both s))
@@ -177,7 +177,7 @@ cr_fresh (b ∷ l) = go (both (eqb (cr_end l) 0) (eqb b 0x0D)) refl (cr_fresh l)
 
 without_cr_lem : {ls : List (List ℕ)} → Texts ls → Texts (map without_cr ls)
 without_cr_lem no_text = no_text
-without_cr_lem (text {l} o t) = text (take-octets o (cr_end l) (cr_fresh l)) (without_cr_lem t)
+without_cr_lem (text {l} o t) = text (take_octets o (cr_end l) (cr_fresh l)) (without_cr_lem t)
 
 pub lines_texts : {s : List ℕ} → Utf8Octets s → Texts (lines s)
 lines_texts o = without_cr_lem (split_texts splits_lines o)

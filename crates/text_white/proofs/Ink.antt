@@ -13,7 +13,7 @@ use Rattle.text_utf8.proofs.Sequences.{sequence_ascii, sequence_end}
 use Rattle.text_white.specs.White.{white_ranges, in_ranges, is_white}
 use Rattle.text_white.specs.Trim.{run_of, starts_white}
 use Rattle.text_white.specs.Inner.Inked.{ink}
-use Rattle.text_white.proofs.TrimLaws.{Running, run-stops, run_more, white_none, white_some, last_white_lem}
+use Rattle.text_white.proofs.TrimLaws.{Running, run_stops, run_more, white_none, white_some, last_white_lem}
 
 pub ink_low : (b : ℕ) → b < 0x21 → false ≡ ink b
 ink_low b h = sym (within_low 0x21 0x7F b h)
@@ -53,22 +53,22 @@ module _ (s : List ℕ) (at : ℕ) where
   white_past h = rw (← sequence_end s at h)
 
   module _ (h : at < length s) where
-    pub ink-reads : ink (get_or s at 0) ≡ true → sequence_of (drop at s) ≡ Good (get_or s at 0) 1
-    ink-reads i = let w = (within_both 0x21 0x7F (get_or s at 0) i).1 in sym (sequence_ascii s at h (omega arith))
+    pub ink_reads : ink (get_or s at 0) ≡ true → sequence_of (drop at s) ≡ Good (get_or s at 0) 1
+    ink_reads i = let w = (within_both 0x21 0x7F (get_or s at 0) i).1 in sym (sequence_ascii s at h (omega arith))
 
-    pub ink-passed : {r : Bool} → r ≡ ink (get_or s at 0) → r ≡ true → starts_white (drop at s) ≡ false
-    ink-passed i t = let y = sym i ∙ t in rw (ink-reads y, ink_dark (get_or s at 0) y)
+    pub ink_passed : {r : Bool} → r ≡ ink (get_or s at 0) → r ≡ true → starts_white (drop at s) ≡ false
+    ink_passed i t = let y = sym i ∙ t in rw (ink_reads y, ink_dark (get_or s at 0) y)
 
-    pub run-ink : {r : Bool} → Running is_white s at → r ≡ ink (get_or s at 0) → r ≡ true → at ≡ run_of is_white (pieces s)
-    run-ink k i t = let y = sym i ∙ t in run-stops k (sym (ink-reads y)) refl (ink_dark (get_or s at 0) y)
+    pub run_ink : {r : Bool} → Running is_white s at → r ≡ ink (get_or s at 0) → r ≡ true → at ≡ run_of is_white (pieces s)
+    run_ink k i t = let y = sym i ∙ t in run_stops k (sym (ink_reads y)) refl (ink_dark (get_or s at 0) y)
 
     -- a space alone tells that it is white
-    pub space-reads : get_or s at 0 ≡ 0x20 → Good (get_or s at 0) 1 ≡ sequence_of (drop at s)
-    space-reads e = sequence_ascii s at h (omega arith)
+    pub space_reads : get_or s at 0 ≡ 0x20 → Good (get_or s at 0) 1 ≡ sequence_of (drop at s)
+    space_reads e = sequence_ascii s at h (omega arith)
 
-    pub run-space : Running is_white s at → get_or s at 0 ≡ 0x20 → Running is_white s (at + 1)
-    run-space k e = run_more k (space-reads e) refl (space_white (get_or s at 0) e)
+    pub run_space : Running is_white s at → get_or s at 0 ≡ 0x20 → Running is_white s (at + 1)
+    run_space k e = run_more k (space_reads e) refl (space_white (get_or s at 0) e)
 
-pub ruleset white_or_ink = (white_past, ink-passed, white_none, white_some, rules)
+pub ruleset white_or_ink = (white_past, ink_passed, white_none, white_some, rules)
 
-pub ruleset last_past_ink = (ink-passed, last_white_lem)
+pub ruleset last_past_ink = (ink_passed, last_white_lem)

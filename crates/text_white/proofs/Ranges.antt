@@ -65,20 +65,20 @@ module _ {table : List ℕ} {code i : ℕ} (r : Ranging table code i) where
     unfolding rising_from
     again = rw (le-leb (get_or table i 0) (get_or table i 0) (omega arith)) rest
 
-    pub ranging-below : code < get_or table i 0 → false ≡ in_ranges table code
-    ranging-below b = sym (stops (get_or table i 0) (get_or table i 0 ∷ (get_or table (i + 1) 0 ∷ drop (i + 2) table)) code again b) ∙ (rw two at r.decides)
+    pub ranging_below : code < get_or table i 0 → false ≡ in_ranges table code
+    ranging_below b = sym (stops (get_or table i 0) (get_or table i 0 ∷ (get_or table (i + 1) 0 ∷ drop (i + 2) table)) code again b) ∙ (rw two at r.decides)
 
-    pub ranging-inside : get_or table i 0 ≤ code → code ≤ get_or table (i + 1) 0 → true ≡ in_ranges table code
+    pub ranging_inside : get_or table i 0 ≤ code → code ≤ get_or table (i + 1) 0 → true ≡ in_ranges table code
     unfolding in_ranges
-    ranging-inside l u = rw (two, within_yes (get_or table i 0) (get_or table (i + 1) 0) code l u) at r.decides
+    ranging_inside l u = rw (two, within_yes (get_or table i 0) (get_or table (i + 1) 0) code l u) at r.decides
 
-    pub ranging-more : get_or table i 0 ≤ code → get_or table (i + 1) 0 < code → Ranging table code (i + 2)
+    pub ranging_more : get_or table i 0 ≤ code → get_or table (i + 1) 0 < code → Ranging table code (i + 2)
     unfolding in_ranges rising_from
-    ranging-more l u = record {
+    ranging_more l u = record {
       inside = omega arith;
       low = get_or table (i + 1) 0;
       ordered = both_right (leb (get_or table i 0) (get_or table (i + 1) 0)) (rising_from (get_or table (i + 1) 0) (drop (i + 2) table)) rest;
       decides = rw (two, within_high (get_or table i 0) (get_or table (i + 1) 0) code u) at r.decides;
     }
 
-pub ruleset ranging = (ranging_starts, ranging_ends, ranging-below, ranging-inside, ranging-more, rules)
+pub ruleset ranging = (ranging_starts, ranging_ends, ranging_below, ranging_inside, ranging_more, rules)

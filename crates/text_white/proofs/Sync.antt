@@ -20,8 +20,8 @@ use Rattle.text_white.specs.White.{is_white}
 use Rattle.text_white.specs.Trim.{all_white, trim_start, trim_end, trim_both}
 use Rattle.text_white.specs.Inner.Before.{white_length, Before}
 use Rattle.text_white.specs.Inner.Inked.{ink}
-use Rattle.text_white.proofs.Ink.{ink-reads, ink_dark, run-ink, space_white, space-reads}
-use Rattle.text_white.proofs.TrimLaws.{run_starts, both_part, both-fits, both-trimmed}
+use Rattle.text_white.proofs.Ink.{ink_reads, ink_dark, run_ink, space_white, space_reads}
+use Rattle.text_white.proofs.TrimLaws.{run_starts, both_part, both_fits, both_trimmed}
 use Rattle.text_utf8.proofs.Leads.{lead_low_none}
 use Rattle.text_utf8.proofs.Sequences.{good_fits, end_empty, tails_fit, first_good, second_good, went_on}
 use Rattle.text_utf8.proofs.Pieces.{pieces_none, pieces_good, pieces_bad}
@@ -200,7 +200,7 @@ ink_before s e h p i = record { fits = omega arith; found = λ z. absurd (omega 
         omega (arith, low)
     go k l u (d, g, w) (inr m) =
         let one : k ≡ 1 = omega arith in
-        let here = ink-reads s (e - 1) (omega arith) i in
+        let here = ink_reads s (e - 1) (omega arith) i in
         let same : Good d 1 ≡ Good x 1 = sym (rw one at g) ∙ here in
         let code : d ≡ x = cc in
         clash w (rw code (ink_dark x i))
@@ -252,13 +252,13 @@ module _ {s : List ℕ} {«end» : ℕ} (k : Ending s «end») where
   ending_empty h = least s «end» k.inside k.white (λ i l. absurd (omega arith))
 
   module _ {r : ℕ} (b : Before s «end» r) where
-    pub ending-stops : r ≡ 0 → «end» ≡ trim_end s
-    ending-stops z =
+    pub ending_stops : r ≡ 0 → «end» ≡ trim_end s
+    ending_stops z =
         least s «end» k.inside k.white (λ i. no_earlier s «end» k.inside k.white (b.missed z) «end» i (omega arith))
 
-    pub ending-more : (r ≡ 0 → ⊥) → Ending s («end» - r)
+    pub ending_more : (r ≡ 0 → ⊥) → Ending s («end» - r)
     unfolding all_white
-    ending-more n =
+    ending_more n =
         let w = white_length_reads (drop («end» - r) s) r (b.found (omega arith)) (omega arith) in
         let back : «end» - r + r ≡ «end» = omega (arith, b.fits) in
         record {
@@ -266,15 +266,15 @@ module _ {s : List ℕ} {«end» : ℕ} (k : Ending s «end») where
           white = rw (pieces_good (drop («end» - r) s) w.1, w.2, drop-drop r («end» - r) s, back) k.white;
         }
 
-    pub ending-falls : (r ≡ 0 → ⊥) → 0 < «end» → «end» - r < «end»
-    ending-falls n h = omega arith
+    pub ending_falls : (r ≡ 0 → ⊥) → 0 < «end» → «end» - r < «end»
+    ending_falls n h = omega arith
 
-    pub ending-room : r ≤ «end»
-    ending-room = b.fits
+    pub ending_room : r ≤ «end»
+    ending_room = b.fits
 
 -- a byte that alone tells it
 pub ending_ink : {s : List ℕ} {«end» : ℕ} {r : Bool} → Ending s «end» → 0 < «end» → r ≡ ink (get_or s («end» - 1) 0) → r ≡ true → «end» ≡ trim_end s
-ending_ink {s = s} {«end» = e} k h i t = ending-stops k (ink_before s e k.inside h (sym i ∙ t)) refl
+ending_ink {s = s} {«end» = e} k h i t = ending_stops k (ink_before s e k.inside h (sym i ∙ t)) refl
 
 pub ending_space : {s : List ℕ} {«end» : ℕ} → Ending s «end» → 0 < «end» → get_or s («end» - 1) 0 ≡ 0x20 → Ending s («end» - 1)
 unfolding all_white
@@ -283,20 +283,20 @@ ending_space {s = s} {«end» = e} k h f =
     record {
       inside = omega (arith, k.inside);
       white =
-          rw (pieces_good (drop (e - 1) s) (sym (space-reads s (e - 1) (omega (arith, k.inside)) f)), space_white (get_or s (e - 1) 0) f, drop-drop 1 (e - 1) s, back)
+          rw (pieces_good (drop (e - 1) s) (sym (space_reads s (e - 1) (omega (arith, k.inside)) f)), space_white (get_or s (e - 1) 0) f, drop-drop 1 (e - 1) s, back)
           k.white;
     }
 
 pub ending_last : {s : List ℕ} {«end» : ℕ} → Ending s «end» → 0 < «end» → «end» - 1 < length s
 ending_last k h = omega (arith, k.inside)
 
-pub ruleset ending = (ending_ink, ending_space, ending_last, ending_starts, ending_empty, ending-stops, ending-more, ending-falls, ending-room, rules)
+pub ruleset ending = (ending_ink, ending_space, ending_last, ending_starts, ending_empty, ending_stops, ending_more, ending_falls, ending_room, rules)
 
 -- A text that starts and ends with ink is trimmed already.
 pub inked_ends : (s : List ℕ) → 0 < length s → {a b : Bool} → a ≡ ink (get_or s 0 0) → a ≡ true → b ≡ ink (get_or s (length s - 1) 0) → b ≡ true →
     record { start = 0; «end» = length s } ≡ trim_both s
 inked_ends s h e p f q =
-    go (trim_start s) (run-ink s 0 h (run_starts is_white s) e p)
+    go (trim_start s) (run_ink s 0 h (run_starts is_white s) e p)
   where
     go : (n : ℕ) → 0 ≡ n → ◌≡◌ {A = Span} (record { start = 0; «end» = length s }) (record { start = n; «end» = n + trim_end (drop n s) })
     go zero z = let y = ending_ink (ending_starts s) h f q in ap (λ x. record { start = 0; «end» = x }) (let w : length s ≡ 0 + trim_end (drop 0 s) = omega arith in w)
@@ -316,4 +316,4 @@ inked_end s {n} e h {b} f q = go (trim_start s) e
         let v : length s ≡ m + trim_end (drop m s) = omega arith in
         ap₂ (λ x y. record { start = x; «end» = y }) z v
 
-pub ruleset trimmed = (inked_ends, inked_end, both_part, both-fits, both-trimmed, rules)
+pub ruleset trimmed = (inked_ends, inked_end, both_part, both_fits, both_trimmed, rules)

@@ -107,13 +107,13 @@ module _ {p : ℕ → Bool} {s : List ℕ} {at : ℕ} (k : Running p s at) where
     unfolding run_of
     run_end g = sym (add-zero at) ∙ (rw (pieces_none (drop at s) (end_empty (drop at s) (sym e ∙ g))) at k.decides)
 
-    pub run-bad : {m : ℕ} → t ≡ Bad m → at ≡ run_of p (pieces s)
+    pub run_bad : {m : ℕ} → t ≡ Bad m → at ≡ run_of p (pieces s)
     unfolding run_of
-    run-bad g = sym (add-zero at) ∙ (rw (pieces_bad (drop at s) (sym e ∙ g)) at k.decides)
+    run_bad g = sym (add-zero at) ∙ (rw (pieces_bad (drop at s) (sym e ∙ g)) at k.decides)
 
-    pub run-stops : {d m : ℕ} → t ≡ Good d m → p d ≡ false → at ≡ run_of p (pieces s)
+    pub run_stops : {d m : ℕ} → t ≡ Good d m → p d ≡ false → at ≡ run_of p (pieces s)
     unfolding run_of
-    run-stops g y = sym (add-zero at) ∙ (rw (pieces_on s at (sym e ∙ g), y) at k.decides)
+    run_stops g y = sym (add-zero at) ∙ (rw (pieces_on s at (sym e ∙ g), y) at k.decides)
 
     pub run_more : {d m : ℕ} → t ≡ Good d m → p d ≡ true → Running p s (at + m)
     unfolding run_of
@@ -125,8 +125,8 @@ module _ {p : ℕ → Bool} {s : List ℕ} {at : ℕ} (k : Running p s at) where
     pub run_fits : {d m : ℕ} → length s < 2 ^ 64 → t ≡ Good d m → Fits w64 (at + m)
     run_fits b g = good_past_fits s at b (sym e ∙ g)
 
-    pub run-falls : {d m : ℕ} → t ≡ Good d m → length s - (at + m) < length s - at
-    run-falls g = good_past_falls s at (sym e ∙ g)
+    pub run_falls : {d m : ℕ} → t ≡ Good d m → length s - (at + m) < length s - at
+    run_falls g = good_past_falls s at (sym e ∙ g)
 
 pub told : (d : ℕ) {b y : Bool} → b ≡ is_white d → b ≡ y → is_white d ≡ y
 told d w y = sym w ∙ y
@@ -137,7 +137,7 @@ mark_here d e = eq-eqb 0xFEFF d (sym e)
 pub mark_other : (d : ℕ) → (d ≡ 0xFEFF → ⊥) → eqb 0xFEFF d ≡ false
 mark_other d n = ne_eqb 0xFEFF d (λ e. n (sym e))
 
-pub ruleset running = (run_starts, run_ends, run_end, run-bad, run-stops, run_more, run_fits, run-falls, told, mark_here, mark_other, rules)
+pub ruleset running = (run_starts, run_ends, run_end, run_bad, run_stops, run_more, run_fits, run_falls, told, mark_here, mark_other, rules)
 
 -- The first and the last white space character.
 pub told_white : (l : List ℕ) {b y : Bool} → b ≡ starts_white l → b ≡ y → starts_white l ≡ y
@@ -203,15 +203,15 @@ module _ (s : List ℕ) {a : ℕ} (e : a ≡ trim_start s) where
     ends : n ≡ trim_end (drop (trim_start s) s)
     ends = f ∙ rw (take_rest s a, e)
 
-    pub both-fits : length s < 2 ^ 64 → Fits w64 (a + n)
-    both-fits b =
+    pub both_fits : length s < 2 ^ 64 → Fits w64 (a + n)
+    both_fits b =
         let i = trim_start_inside s in
         let j = trim_end_inside (drop (trim_start s) s) in
         let d = length-drop (trim_start s) s in
         let g = ends in omega arith
 
-    pub both-trimmed : record { start = a; «end» = a + n } ≡ trim_both s
-    both-trimmed = rw (ends, e)
+    pub both_trimmed : record { start = a; «end» = a + n } ≡ trim_both s
+    both_trimmed = rw (ends, e)
 
 pub trim_inside : (s : List ℕ) → (trim_both s).«end» ≤ length s
 trim_inside s =

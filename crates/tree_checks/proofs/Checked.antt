@@ -109,11 +109,11 @@ module _ {p : ℕ → Bool} {n : ℕ} {whole : RowCheck} {i : ℕ} (k : Asked p 
     unfolding first_faulty
     here = let z : n - i ≡ suc (n - suc i) = omega arith in rw e (rw z at k.decides)
 
-    pub asked-fails : not b ≡ true → Faulty i ≡ whole
-    asked-fails g = rw (not-true b g) at here
+    pub asked_fails : not b ≡ true → Faulty i ≡ whole
+    asked_fails g = rw (not-true b g) at here
 
-    pub asked-more : not b ≡ false → Asked p n whole (i + 1)
-    asked-more g = record { decides = rw add-one (rw (not-false b g) at here) }
+    pub asked_more : not b ≡ false → Asked p n whole (i + 1)
+    asked_more g = record { decides = rw add-one (rw (not-false b g) at here) }
 
 -- the test of a row at its place
 module _ (c : TreeCounts) (f : List ℕ) (i : ℕ) where
@@ -131,18 +131,18 @@ module _ (c : TreeCounts) (f : List ℕ) (i : ℕ) where
     row_named : r ≡ name_at c f i
     row_named = g ∙ ap (λ x. name_row f (x + 8 * i)) e
 
-    pub name-asked : {b : Bool} → b ≡ leb (r.place + r.length) c.bytes → b ≡ name_inside c f i
-    name-asked h = h ∙ ap (λ x. leb (x.place + x.length) c.bytes) row_named
+    pub name_asked : {b : Bool} → b ≡ leb (r.place + r.length) c.bytes → b ≡ name_inside c f i
+    name_asked h = h ∙ ap (λ x. leb (x.place + x.length) c.bytes) row_named
 
     module _ {l : List ℕ} (w : l ≡ bytes_in c f) where
-      pub text-asked : {b : Bool} → b ≡ is_utf8 (text_in l r) → b ≡ name_utf8 c f i
-      text-asked h = h ∙ ap (λ x. is_utf8 (text_in x r)) w ∙ ap (λ x. is_utf8 (text_in (bytes_in c f) x)) row_named
+      pub text_asked : {b : Bool} → b ≡ is_utf8 (text_in l r) → b ≡ name_utf8 c f i
+      text_asked h = h ∙ ap (λ x. is_utf8 (text_in x r)) w ∙ ap (λ x. is_utf8 (text_in (bytes_in c f) x)) row_named
 
       -- a name lies in the name bytes
-      pub text-lies : NamesLie c f → i < c.names → r.place + r.length ≤ length l
-      text-lies k h = rw (w, bytes_count c f k.size, row_named) (k.lie i h)
+      pub text_lies : NamesLie c f → i < c.names → r.place + r.length ≤ length l
+      text_lies k h = rw (w, bytes_count c f k.size, row_named) (k.lie i h)
 
-pub ruleset asking = (asked_first, asked_second, asked_ends, asked-fails, asked-more, token_asked, name-asked, text-asked, text-lies, rules)
+pub ruleset asking = (asked_first, asked_second, asked_ends, asked_fails, asked_more, token_asked, name_asked, text_asked, text_lies, rules)
 
 -- A name as a part of the name bytes.
 pub name_part : (l : List ℕ) (t : Text) {b : Bool} → b ≡ is_utf8 (between l t.place (t.place + t.length)) → b ≡ is_utf8 (text_in l t)
@@ -185,12 +185,12 @@ module _ {f : List ℕ} {n sum i : ℕ} (k : Summing f n sum i) where
       rw (e, ← same)
 
   module _ (h : i < n) {w : ℕ} (e : w ≡ token_count_at f i) where
-    pub summing-more : Fits w32 w → Summing f n (sum + w) (i + 1)
+    pub summing_more : Fits w32 w → Summing f n (sum + w) (i + 1)
     unfolding sum_from
-    summing-more l =
+    summing_more l =
         let z : n - i ≡ suc (n - suc i) = omega arith in
         let next : sum + (token_count_at f i + sum_from (token_count_at f) (suc i) (n - suc i)) ≡ sum_from (token_count_at f) 0 n =
         rw z at k.adds in
         record { adds = rw (add-one i) (omega arith); bounded = omega (arith, k.bounded) }
 
-pub ruleset summing = (summing_starts, summing_ends, summing-more, rules)
+pub ruleset summing = (summing_starts, summing_ends, summing_more, rules)

@@ -45,42 +45,42 @@ module _ (f : List ℕ) (c : TreeCounts) (e : c ≡ counts_in f) where
   by_counts = ap (λ x. checks_pass x f) e
 
   module _ {b₁ : Bool} (e₁ : b₁ ≡ length_agrees c f) where
-    pub length-fails : not b₁ ≡ true → false ≡ well_formed_file f
-    length-fails n = sym (rw (sym e₁ ∙ not-true b₁ n)) ∙ by_counts
+    pub length_fails : not b₁ ≡ true → false ≡ well_formed_file f
+    length_fails n = sym (rw (sym e₁ ∙ not-true b₁ n)) ∙ by_counts
 
     module _ (n₁ : not b₁ ≡ false) where
       t₁ : length_agrees c f ≡ true
       t₁ = sym e₁ ∙ not-false b₁ n₁
 
-      pub length-passes : length f ≡ file_length c
-      length-passes = eqb-true (length f) (file_length c) t₁
+      pub length_passes : length f ≡ file_length c
+      length_passes = eqb-true (length f) (file_length c) t₁
 
       module _ {b₂ : Bool} (e₂ : b₂ ≡ root_fine c f) where
-        pub root-fails : not b₂ ≡ true → false ≡ well_formed_file f
-        root-fails n = sym (rw (t₁, sym e₂ ∙ not-true b₂ n)) ∙ by_counts
+        pub root_fails : not b₂ ≡ true → false ≡ well_formed_file f
+        root_fails n = sym (rw (t₁, sym e₂ ∙ not-true b₂ n)) ∙ by_counts
 
         module _ (n₂ : not b₂ ≡ false) {b₃ : Bool} {r₃ : RowCheck} (e₃ : r₃ ≡ faulty_parent c f)
             (f₃ : b₃ ≡ all_fine r₃) where
           t₂ : root_fine c f ≡ true
           t₂ = sym e₂ ∙ not-false b₂ n₂
 
-          pub parents-fail : not b₃ ≡ true → false ≡ well_formed_file f
-          parents-fail n = sym (rw (t₁, t₂, failed e₃ f₃ n)) ∙ by_counts
+          pub parents_fail : not b₃ ≡ true → false ≡ well_formed_file f
+          parents_fail n = sym (rw (t₁, t₂, failed e₃ f₃ n)) ∙ by_counts
 
           module _ (n₃ : not b₃ ≡ false) {b₄ : Bool} (e₄ : b₄ ≡ counts_sum c f) where
             t₃ : all_fine (faulty_parent c f) ≡ true
             t₃ = passed e₃ f₃ n₃
 
-            pub sum-fails : not b₄ ≡ true → false ≡ well_formed_file f
-            sum-fails n = sym (rw (t₁, t₂, t₃, sym e₄ ∙ not-true b₄ n)) ∙ by_counts
+            pub sum_fails : not b₄ ≡ true → false ≡ well_formed_file f
+            sum_fails n = sym (rw (t₁, t₂, t₃, sym e₄ ∙ not-true b₄ n)) ∙ by_counts
 
             module _ (n₄ : not b₄ ≡ false) {b₅ : Bool} {r₅ : RowCheck} (e₅ : r₅ ≡ faulty_token c f)
                 (f₅ : b₅ ≡ all_fine r₅) where
               t₄ : counts_sum c f ≡ true
               t₄ = sym e₄ ∙ not-false b₄ n₄
 
-              pub tokens-fail : not b₅ ≡ true → false ≡ well_formed_file f
-              tokens-fail n = sym (rw (t₁, t₂, t₃, t₄, failed e₅ f₅ n)) ∙ by_counts
+              pub tokens_fail : not b₅ ≡ true → false ≡ well_formed_file f
+              tokens_fail n = sym (rw (t₁, t₂, t₃, t₄, failed e₅ f₅ n)) ∙ by_counts
 
               pub names_told : not b₅ ≡ false → {b₆ : Bool} →
                   b₆ ≡ both (all_fine (faulty_name c f)) (all_fine (faulty_text c f)) → b₆ ≡ well_formed_file f
@@ -92,13 +92,13 @@ module _ (f : List ℕ) (c : TreeCounts) {b : Bool} {r : RowCheck} (e : r ≡ fa
   names_fail n = sym (rw (failed e g n))
 
   module _ (n : not b ≡ false) where
-    pub texts-told : {b₂ : Bool} {r₂ : RowCheck} → r₂ ≡ faulty_text c f → b₂ ≡ all_fine r₂ →
+    pub texts_told : {b₂ : Bool} {r₂ : RowCheck} → r₂ ≡ faulty_text c f → b₂ ≡ all_fine r₂ →
         b₂ ≡ both (all_fine (faulty_name c f)) (all_fine (faulty_text c f))
-    texts-told e₂ g₂ = (g₂ ∙ ap all_fine e₂) ∙ sym (rw (passed e g n))
+    texts_told e₂ g₂ = (g₂ ∙ ap all_fine e₂) ∙ sym (rw (passed e g n))
 
     -- names that passed, for the check of their texts
-    pub names-pass : length f ≡ file_length c → NamesLie c f
-    names-pass s =
+    pub names_pass : length f ≡ file_length c → NamesLie c f
+    names_pass s =
         let t : faulty_name c f ≡ Fine = fine_told (faulty_name c f) (passed e g n) in
         record {
           size = s;
@@ -106,6 +106,6 @@ module _ (f : List ℕ) (c : TreeCounts) {b : Bool} {r : RowCheck} (e : r ≡ fa
               (fine_each (name_inside c f) 0 c.names t i (omega arith) (omega arith));
         }
 
-pub ruleset naming = (names_fail, texts-told, names-pass, rules)
+pub ruleset naming = (names_fail, texts_told, names_pass, rules)
 
-pub ruleset passing = (too_short, length-fails, length-passes, root-fails, parents-fail, sum-fails, tokens-fail, names_told, rules)
+pub ruleset passing = (too_short, length_fails, length_passes, root_fails, parents_fail, sum_fails, tokens_fail, names_told, rules)

@@ -48,31 +48,31 @@ module _ (f : List ℕ) {b : Bool} (e : b ≡ well_formed_file f) where
     formed : FormedBy (counts_in f) f
     formed = formed_by (counts_in f) f fine
 
-    pub formed-there : {c : TreeCounts} → c ≡ counts_in f → FormedBy c f
-    formed-there g = subst (λ x. FormedBy x f) (sym g) formed
+    pub formed_there : {c : TreeCounts} → c ≡ counts_in f → FormedBy c f
+    formed_there g = subst (λ x. FormedBy x f) (sym g) formed
 
     module _ {c : TreeCounts} (g : c ≡ counts_in f) (first count : ℕ) where
       past : c.tokens < first + count → no_numbers ≡ asked_numbers f first count
       past h = sym (rw (fine, ap (λ x. leb (first + count) x.tokens) (sym g) ∙ lt-leb (first + count) c.tokens h))
 
-      pub asked-after : c.tokens < first → 0 ∷ 0 ∷ 0 ∷ 0 ∷ 0 ∷ [] ≡ asked_numbers f first count
-      asked-after h = past (omega arith)
+      pub asked_after : c.tokens < first → 0 ∷ 0 ∷ 0 ∷ 0 ∷ 0 ∷ [] ≡ asked_numbers f first count
+      asked_after h = past (omega arith)
 
       module _ (i : first ≤ c.tokens) where
-        pub asked-past : c.tokens - first < count → 0 ∷ 0 ∷ 0 ∷ 0 ∷ 0 ∷ [] ≡ asked_numbers f first count
-        asked-past h = past (omega arith)
+        pub asked_past : c.tokens - first < count → 0 ∷ 0 ∷ 0 ∷ 0 ∷ 0 ∷ [] ≡ asked_numbers f first count
+        asked_past h = past (omega arith)
 
         module _ (h : count ≤ c.tokens - first) where
           pub tokens_there : first + count ≤ c.tokens
           tokens_there = omega arith
 
-          pub asked-signature : {s : NodeSignature} →
+          pub asked_signature : {s : NodeSignature} →
               s ≡ signature_from first (node_signature (name_in (tree_by c f)) (list_from (token_at c f) first count)) →
               {numbers : List ℕ} → numbers ≡ signature_numbers s → numbers ≡ asked_numbers f first count
-          asked-signature {s} k l =
+          asked_signature {s} k l =
               l ∙ ap signature_numbers k
               ∙ ap (λ x. signature_numbers
               (signature_from first (node_signature (name_in (tree_by x f)) (list_from (token_at x f) first count)))) g
               ∙ sym (rw (fine, ap (λ x. leb (first + count) x.tokens) (sym g) ∙ le-leb (first + count) c.tokens (omega arith)))
 
-pub ruleset saying = (bit_told, asked_malformed, head_inside, asked-after, asked-past, formed-there, tokens_there, asked-signature, rules)
+pub ruleset saying = (bit_told, asked_malformed, head_inside, asked_after, asked_past, formed_there, tokens_there, asked_signature, rules)

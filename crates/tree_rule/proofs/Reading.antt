@@ -64,9 +64,9 @@ module _ (c : TreeCounts) (f : List ℕ) where
 
   module _ (k : FormedBy c f) where
     -- they are tokens of the file
-    pub node-tokens : (i : ℕ) → i < c.nodes → sum_from (token_count_at f) 0 i + token_count_at f i ≤ c.tokens
+    pub node_tokens : (i : ℕ) → i < c.nodes → sum_from (token_count_at f) 0 i + token_count_at f i ≤ c.tokens
     unfolding sum_from
-    node-tokens i h =
+    node_tokens i h =
         let more : sum_from (token_count_at f) 0 (i + 1) ≡ sum_from (token_count_at f) 0 i + (token_count_at f (0 + i) + 0) =
         sum_append (token_count_at f) 0 i 1 in
         let a : 0 + i ≡ i = omega arith in
@@ -76,8 +76,8 @@ module _ (c : TreeCounts) (f : List ℕ) where
         omega (arith, k.sums)
 
     -- the text of a token's raw name is that of the tree
-    pub raw-text : (i : ℕ) {raw display : ℕ} → i < c.tokens → token_at c f i ≡ Descriptor raw display →
+    pub raw_text : (i : ℕ) {raw display : ℕ} → i < c.tokens → token_at c f i ≡ Descriptor raw display →
         name_in (tree_by c f) raw ≡ text_at c f raw
-    raw-text i {raw} {display} h e =
+    raw_text i {raw} {display} h e =
         let below : NamesBelow c.names (Descriptor raw display) = rw e at (k.tokens i h) in
         name_at_lem raw below.0

@@ -155,8 +155,8 @@ module _ (t : Tree) (w : Writable t) (s : SoundTree t) where
     abbrev token : Token
     token = get_or (all_tokens t.nodes) i (Other 0 0)
 
-    token-row : (q : List ℕ) × (drop (tokens_start d + 12 * i) g ≡ token_row_bytes token ++ q)
-    token-row =
+    token_row_lem : (q : List ℕ) × (drop (tokens_start d + 12 * i) g ≡ token_row_bytes token ++ q)
+    token_row_lem =
         let z : 0 + i ≡ i = omega arith in
         rw z at (rows_at token_row_bytes 12 (tokens_start d) g token_length (Other 0 0) (all_tokens t.nodes) 0 i
         (join (map name_row_bytes t.names) ++ t.bytes) (at_tokens t) h)
@@ -164,12 +164,12 @@ module _ (t : Tree) (w : Writable t) (s : SoundTree t) where
     fits : TokenFits token
     fits = every_at (Other 0 0) (all_tokens t.nodes) w.tokens i h
 
-    kind-again : word_at g (tokens_start d + 12 * i) ≤ 3
-    kind-again = kind_written g (tokens_start d + 12 * i) token token-row.0 fits token-row.1
+    kind_again : word_at g (tokens_start d + 12 * i) ≤ 3
+    kind_again = kind_written g (tokens_start d + 12 * i) token token_row_lem.0 fits token_row_lem.1
 
-    token-again : NamesBelow (length t.names) (token_at d g i)
-    token-again =
-        subst (NamesBelow (length t.names)) (sym (token_read g (tokens_start d + 12 * i) token token-row.0 fits token-row.1))
+    token_again : NamesBelow (length t.names) (token_at d g i)
+    token_again =
+        subst (NamesBelow (length t.names)) (sym (token_read g (tokens_start d + 12 * i) token token_row_lem.0 fits token_row_lem.1))
         (every_at (Other 0 0) (all_tokens t.nodes) s.tokens i h)
 
   formed_again : FormedBy d g
@@ -182,8 +182,8 @@ module _ (t : Tree) (w : Writable t) (s : SoundTree t) where
         sums = sym (list_length (token_at d g) 0 (sum_from (token_count_at g) 0 d.nodes))
             ∙ ap length (sym (nodes_tokens d g 0 0 d.nodes))
             ∙ ap (λ x. length (all_tokens x.nodes)) again;
-        kinds = kind-again;
-        tokens = token-again;
+        kinds = kind_again;
+        tokens = token_again;
         inside = λ i h. subst (λ n. n.place + n.length ≤ length t.bytes) (sym (name_again i h))
             (every_at (text 0 0) t.names s.inside i h);
         utf8 = λ i h. ap (λ x. is_utf8 (text_in (bytes_in d g) x)) (name_again i h)

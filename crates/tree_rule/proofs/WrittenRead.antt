@@ -124,8 +124,8 @@ module _ (c : TreeCounts) (f : List ℕ) where
 
   -- The stretches of a well_formed_lem file.
   module _ (small : (i : ℕ) → get_or f i 0 < 256) (k : FormedBy c f) where
-    node-stretch : drop 16 f ≡ join (map node_row_bytes (nodes_from c f 0 0 c.nodes)) ++ drop (tokens_start c) f
-    node-stretch =
+    node_stretch : drop 16 f ≡ join (map node_row_bytes (nodes_from c f 0 0 c.nodes)) ++ drop (tokens_start c) f
+    node_stretch =
         let z : 16 + 8 * 0 ≡ 16 = omega arith in
         let y : 16 + 8 * (0 + c.nodes) ≡ tokens_start c = omega arith in
         let cut : drop (16 + 8 * 0) f ≡ join (list_from nodeWords 0 c.nodes) ++ drop (16 + 8 * (0 + c.nodes)) f =
@@ -134,8 +134,8 @@ module _ (c : TreeCounts) (f : List ℕ) where
         ap (λ n. drop n f) (sym z) ∙ cut ∙ ap (λ n. join (list_from nodeWords 0 c.nodes) ++ drop n f) y
         ∙ ap (λ l. join l ++ drop (tokens_start c) f) (sym (nodes_written 0 0 c.nodes))
 
-    token-stretch : drop (tokens_start c) f ≡ join (map token_row_bytes (list_from (token_at c f) 0 c.tokens)) ++ drop (names_start c) f
-    token-stretch =
+    token_stretch : drop (tokens_start c) f ≡ join (map token_row_bytes (list_from (token_at c f) 0 c.tokens)) ++ drop (names_start c) f
+    token_stretch =
         let z : tokens_start c + 12 * 0 ≡ tokens_start c = omega arith in
         let y : tokens_start c + 12 * (0 + c.tokens) ≡ names_start c = omega arith in
         let h : ℕ → List ℕ = λ i. token_row_bytes (token_at c f i) in
@@ -148,8 +148,8 @@ module _ (c : TreeCounts) (f : List ℕ) where
         ap (λ n. drop n f) (sym z) ∙ cut ∙ ap (λ n. join (list_from h 0 c.tokens) ++ drop n f) y
         ∙ ap (λ l. join l ++ drop (names_start c) f) (sym (map_list token_row_bytes (token_at c f) 0 c.tokens))
 
-    name-stretch : drop (names_start c) f ≡ join (map name_row_bytes (list_from (name_at c f) 0 c.names)) ++ drop (bytes_start c) f
-    name-stretch =
+    name_stretch : drop (names_start c) f ≡ join (map name_row_bytes (list_from (name_at c f) 0 c.names)) ++ drop (bytes_start c) f
+    name_stretch =
         let z : names_start c + 8 * 0 ≡ names_start c = omega arith in
         let y : names_start c + 8 * (0 + c.names) ≡ bytes_start c = omega arith in
         let h : ℕ → List ℕ = λ i. name_row_bytes (name_at c f i) in
@@ -160,8 +160,8 @@ module _ (c : TreeCounts) (f : List ℕ) where
         ap (λ n. drop n f) (sym z) ∙ cut ∙ ap (λ n. join (list_from h 0 c.names) ++ drop n f) y
         ∙ ap (λ l. join l ++ drop (bytes_start c) f) (sym (map_list name_row_bytes (name_at c f) 0 c.names))
 
-    pub counts-kept : counts_of (tree_by c f) ≡ c
-    counts-kept =
+    pub counts_kept : counts_of (tree_by c f) ≡ c
+    counts_kept =
         rw (
           nodes_length 0 0 c.nodes,
           nodes_tokens 0 0 c.nodes,
@@ -177,7 +177,7 @@ module _ (c : TreeCounts) (f : List ℕ) where
     -- what stands behind the counts
     pub body_kept : drop 16 f ≡ join (map node_row_bytes (tree_by c f).nodes) ++
         (join (map token_row_bytes (all_tokens (tree_by c f).nodes)) ++ (join (map name_row_bytes (tree_by c f).names) ++ bytes_in c f))
-    body_kept = rw (all_tokens_lem, bytes_rest c f k.size, ← name-stretch, ← token-stretch) node-stretch
+    body_kept = rw (all_tokens_lem, bytes_rest c f k.size, ← name_stretch, ← token_stretch) node_stretch
 
 head_kept : (f : List ℕ) → ((i : ℕ) → get_or f i 0 < 256) → 16 ≤ length f → f ≡ count_bytes (counts_in f) ++ drop 16 f
 head_kept f small h =
@@ -190,5 +190,5 @@ written_read f small k =
     let c : TreeCounts = counts_in f in
     ap (λ n. count_bytes n ++ (join (map node_row_bytes (tree_by c f).nodes) ++
     (join (map token_row_bytes (all_tokens (tree_by c f).nodes)) ++ (join (map name_row_bytes (tree_by c f).names) ++ bytes_in c f))))
-    (counts-kept c f small k)
+    (counts_kept c f small k)
     ∙ ap (λ l. count_bytes c ++ l) (sym (body_kept c f small k)) ∙ sym (head_kept f small (omega (arith, k.size)))

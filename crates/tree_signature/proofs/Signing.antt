@@ -89,27 +89,27 @@ module _ (c : TreeCounts) (f : List ℕ) (first count : ℕ) where
         (let z : a + 12 * first + 12 * (k + i) ≡ tokens_start c + 12 * (first + k + i) = omega arith in z))
 
     module _ {o : Place} (g : o ≡ first_token (of_kind 1) 0 (list_from (row_of f (a + 12 * first)) 0 (count - 0))) where
-      member-found : o ≡ member_place ts
-      member-found =
+      member_found : o ≡ member_place ts
+      member_found =
           let z : count - 0 ≡ count = omega arith in
           let y : first + 0 ≡ first = omega arith in
           g ∙ first_same (of_kind 1) is_member_name member_kind 0 (list_from (row_of f (a + 12 * first)) 0 (count - 0))
           ∙ ap (first_token is_member_name 0) (rows_are 0 (count - 0) ∙ rw (z, y))
 
       pub no_member : o ≡ Nowhere → Absent ≡ signed
-      no_member h = sym (ap (λ x. signature_from first (signature_for name ts x)) (sym member-found ∙ h))
+      no_member h = sym (ap (λ x. signature_from first (signature_for name ts x)) (sym member_found ∙ h))
 
       module _ {m : ℕ} (h : o ≡ At m) where
         member_inside : m < count
         member_inside =
-            let i = first_inside is_member_name 0 ts (sym member-found ∙ h) in
+            let i = first_inside is_member_name 0 ts (sym member_found ∙ h) in
             let n = list_length (token_at c f) first count in
             omega arith
 
         -- sums of numbers of tokens
         module _ (k : FormedBy c f) (l : first + count ≤ c.tokens) where
-          pub before-member : first + m ≤ c.tokens
-          before-member = let j = member_inside in omega arith
+          pub before_member : first + m ≤ c.tokens
+          before_member = let j = member_inside in omega arith
 
           module _ (s : length f < 2 ^ 64) where
             pub next_fits : Fits w64 (m + 1)
@@ -118,44 +118,44 @@ module _ (c : TreeCounts) (f : List ℕ) (first count : ℕ) where
             pub member_fits : Fits w64 (first + m)
             member_fits = let j = member_inside in record { fits = omega (arith, k.size) }
 
-        signed-member : signed ≡ signature_from first (signature_with m (descriptor_place m ts) (owner_by (owner_place name m ts)))
-        signed-member = ap (λ x. signature_from first (signature_for name ts x)) (sym member-found ∙ h)
+        signed_member : signed ≡ signature_from first (signature_with m (descriptor_place m ts) (owner_by (owner_place name m ts)))
+        signed_member = ap (λ x. signature_from first (signature_for name ts x)) (sym member_found ∙ h)
 
         module _ {q : Place} (k : q ≡ first_token (of_kind 2) (m + 1) (list_from (row_of f (a + 12 * first)) (m + 1) (count - (m + 1)))) where
-          descriptor-found : q ≡ descriptor_place m ts
-          descriptor-found =
+          descriptor_found : q ≡ descriptor_place m ts
+          descriptor_found =
               k ∙ first_same (of_kind 2) is_descriptor descriptor_kind (m + 1)
               (list_from (row_of f (a + 12 * first)) (m + 1) (count - (m + 1)))
               ∙ ap (first_token is_descriptor (m + 1)) (rows_are (m + 1) (count - (m + 1))
               ∙ sym (list_drop (token_at c f) first count (m + 1)))
 
-          pub no-descriptor : q ≡ Nowhere → Absent ≡ signed
-          no-descriptor l =
-              sym (signed-member
-              ∙ ap (λ x. signature_from first (signature_with m x (owner_by (owner_place name m ts)))) (sym descriptor-found ∙ l))
+          pub no_descriptor : q ≡ Nowhere → Absent ≡ signed
+          no_descriptor l =
+              sym (signed_member
+              ∙ ap (λ x. signature_from first (signature_with m x (owner_by (owner_place name m ts)))) (sym descriptor_found ∙ l))
 
           module _ {d : ℕ} (l : q ≡ At d) where
             descriptor_inside : d < count
             descriptor_inside =
-                let i = first_inside is_descriptor (m + 1) (drop (m + 1) ts) (sym descriptor-found ∙ l) in
+                let i = first_inside is_descriptor (m + 1) (drop (m + 1) ts) (sym descriptor_found ∙ l) in
                 let n : length (drop (m + 1) ts) ≡ count - (m + 1) =
                 ap length (list_drop (token_at c f) first count (m + 1)) ∙ list_length (token_at c f) (first + (m + 1)) (count - (m + 1)) in
                 let j = member_inside in
                 omega arith
 
-            pub descriptor-fits : FormedBy c f → first + count ≤ c.tokens → length f < 2 ^ 64 → Fits w64 (first + d)
-            descriptor-fits z b s = let j = descriptor_inside in record { fits = omega (arith, z.size) }
+            pub descriptor_fits : FormedBy c f → first + count ≤ c.tokens → length f < 2 ^ 64 → Fits w64 (first + d)
+            descriptor_fits z b s = let j = descriptor_inside in record { fits = omega (arith, z.size) }
 
-            pub signature-told : {w : Owner} →
+            pub signature_told : {w : Owner} →
                 w ≡ owner_from first (owner_by (last_token (is_owner name) 0 (list_from (token_of c f first) 0 m))) →
                 Present (first + m) (first + d) w ≡ signed
-            signature-told u =
+            signature_told u =
                 let before : list_from (token_of c f first) 0 m ≡ take m ts =
                 list_same (token_of c f first) (token_at c f) 0 first m (λ i b. let z : first + (0 + i) ≡ first + i = omega arith in
                 ap (token_at c f) z)
                 ∙ sym (list_take (token_at c f) first count m (let j = member_inside in omega arith)) in
-                sym (signed-member
-                ∙ ap (λ x. signature_from first (signature_with m x (owner_by (owner_place name m ts)))) (sym descriptor-found ∙ l)
+                sym (signed_member
+                ∙ ap (λ x. signature_from first (signature_with m x (owner_by (owner_place name m ts)))) (sym descriptor_found ∙ l)
                 ∙ ap (Present (first + m) (first + d)) (sym (u
                 ∙ ap (λ x. owner_from first (owner_by (last_token (is_owner name) 0 x))) before)))
 
@@ -165,4 +165,4 @@ pub rows_inside : (c : TreeCounts) (f : List ℕ) (first count : ℕ) {a : ℕ} 
     a + 12 * first + 12 * count ≤ length f
 rows_inside c f first count e k h = omega (arith, k.size)
 
-pub ruleset signing = (no_member, before-member, next_fits, member_fits, no-descriptor, descriptor-fits, signature-told, rows_inside, rules)
+pub ruleset signing = (no_member, before_member, next_fits, member_fits, no_descriptor, descriptor_fits, signature_told, rows_inside, rules)

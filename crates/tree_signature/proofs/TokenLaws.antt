@@ -16,7 +16,7 @@ use Rattle.tree_rule.specs.Files.{tokens_start, token_row, token_at, text_at, tr
 use Rattle.tree_rule.specs.Signatures.{opens, is_owner, names_method}
 use Rattle.tree_rule.specs.Theorems.{FormedBy, NamesBelow}
 use Rattle.tree_rule.proofs.Formed.{token_read, row_inside, names_inside}
-use Rattle.tree_rule.proofs.Reading.{raw-text}
+use Rattle.tree_rule.proofs.Reading.{raw_text}
 use Rattle.tree_signature.specs.Inner.Tokens.{starts_as, described_as}
 
 -- A text.
@@ -45,16 +45,16 @@ module _ (opening : Bool) (c : TreeCounts) (f : List ℕ) (i : ℕ) {a : ℕ} (e
     pub of_other : t ≡ Other x y → false ≡ described_as opening name (token_at c f i)
     of_other h = ap (described_as opening name) (sym (token_read c f i e g ∙ h))
 
-    pub of-member : t ≡ MemberName x y → false ≡ described_as opening name (token_at c f i)
-    of-member h = ap (described_as opening name) (sym (token_read c f i e g ∙ h))
+    pub of_member : t ≡ MemberName x y → false ≡ described_as opening name (token_at c f i)
+    of_member h = ap (described_as opening name) (sym (token_read c f i e g ∙ h))
 
-    pub of-line : t ≡ SourceLine x y → false ≡ described_as opening name (token_at c f i)
-    of-line h = ap (described_as opening name) (sym (token_read c f i e g ∙ h))
+    pub of_line : t ≡ SourceLine x y → false ≡ described_as opening name (token_at c f i)
+    of_line h = ap (described_as opening name) (sym (token_read c f i e g ∙ h))
 
     module _ (h : t ≡ Descriptor x y) (k : FormedBy c f) (l : i < c.tokens) where
-      pub of-descriptor : {s : List ℕ} → s ≡ text_at c f x → {b : Bool} → b ≡ starts_as opening s →
+      pub of_descriptor : {s : List ℕ} → s ≡ text_at c f x → {b : Bool} → b ≡ starts_as opening s →
           b ≡ described_as opening name (token_at c f i)
-      of-descriptor w o = o ∙ ap (starts_as opening) (w ∙ sym (raw-text c f k i l (token_read c f i e g ∙ h)))
+      of_descriptor w o = o ∙ ap (starts_as opening) (w ∙ sym (raw_text c f k i l (token_read c f i e g ∙ h)))
           ∙ ap (described_as opening name) (sym (token_read c f i e g ∙ h))
 
 pub raw_there : (c : TreeCounts) (f : List ℕ) (i : ℕ) {a : ℕ} → a ≡ tokens_start c → {t : Token} →
@@ -65,7 +65,7 @@ raw_there c f i e g {x} {y} h k l =
     let below : NamesBelow c.names (Descriptor x y) = rw same at (k.tokens i l) in
     below.0
 
-pub ruleset token_tests = (of_other, of-member, of-line, of-descriptor, raw_there, row_inside, names_inside, rules)
+pub ruleset token_tests = (of_other, of_member, of_line, of_descriptor, raw_there, row_inside, names_inside, rules)
 
 -- what the rule asks of a descriptor
 yes_same : (b : Bool) → pick b true false ≡ b

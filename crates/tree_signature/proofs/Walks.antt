@@ -59,13 +59,13 @@ module _ {f : List ℕ} {base kind n : ℕ} {whole : Place} {k : ℕ} (u : Walki
         let at : ℕ = base + 12 * k in
         rw (e, ← kind_by (word_at f at) (word_at f (at + 4)) (word_at f (at + 8)) kind l m) (rw z at u.decides)
 
-    pub walking-found : w ≡ kind → At k ≡ whole
-    walking-found g = rw (eq-eqb w kind g) at here
+    pub walking_found : w ≡ kind → At k ≡ whole
+    walking_found g = rw (eq-eqb w kind g) at here
 
-    pub walking-more : (w ≡ kind → ⊥) → Walking f base kind n whole (k + 1)
-    walking-more g = record { decides = rw add-one (rw (ne_eqb w kind g) at here) }
+    pub walking_more : (w ≡ kind → ⊥) → Walking f base kind n whole (k + 1)
+    walking_more g = record { decides = rw add-one (rw (ne_eqb w kind g) at here) }
 
-pub ruleset walking = (walking_starts, walking_ends, walking-found, walking-more, rules)
+pub ruleset walking = (walking_starts, walking_ends, walking_found, walking_more, rules)
 
 -- Backwards: there is none from here on.
 last_cons : (p : Token → Bool) (at : ℕ) (t : Token) (ts : List Token) →
@@ -124,16 +124,16 @@ module _ {c : TreeCounts} {f : List ℕ} {first n «end» : ℕ} (u : Backing c 
       e : b ≡ owns c f (token_at c f (first + («end» - 1)))
       e = owner_told (name_in (tree_by c f)) (token_at c f (first + («end» - 1))) d
 
-      pub backing-found : b ≡ true → TokenAt (first + («end» - 1)) ≡ whole
-      backing-found g =
+      pub backing_found : b ≡ true → TokenAt (first + («end» - 1)) ≡ whole
+      backing_found g =
           let found : last_token (owns c f) («end» - 1) (list_from (token_of c f first) («end» - 1) (n - («end» - 1))) ≡ At
           («end» - 1) =
           before ∙ ap (λ x. pick x (At («end» - 1)) Nowhere) (sym e ∙ g) in
           sym (ap (λ x. owner_from first (owner_by x))
           (last_stays (owns c f) (token_of c f first) n («end» - 1) («end» - 1) (omega (arith, u.inside)) found))
 
-      pub backing-more : b ≡ false → Backing c f first n («end» - 1)
-      backing-more g = record {
+      pub backing_more : b ≡ false → Backing c f first n («end» - 1)
+      backing_more g = record {
         inside = omega (arith, u.inside);
         none = before ∙ ap (λ x. pick x (At («end» - 1)) Nowhere) (sym e ∙ g);
       }
@@ -141,4 +141,4 @@ module _ {c : TreeCounts} {f : List ℕ} {first n «end» : ℕ} (u : Backing c 
     pub backing_inside : first + n ≤ c.tokens → first + («end» - 1) < c.tokens
     backing_inside l = omega (arith, u.inside)
 
-pub ruleset backing = (backing_starts, backing_ends, backing-found, backing-more, backing_inside, rules)
+pub ruleset backing = (backing_starts, backing_ends, backing_found, backing_more, backing_inside, rules)

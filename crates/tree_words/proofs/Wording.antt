@@ -45,8 +45,8 @@ module _ (f : List ℕ) (at : ℕ) {k a b : ℕ} (e : k ≡ word_at f at) (g : a
   member_told i = rw (eq-eqb k 1 i) at by_row
 
   module _ (i : k ≡ 1 → ⊥) where
-    pub descriptor-told : k ≡ 2 → Descriptor a b ≡ token_row f at
-    descriptor-told j = rw (ne_eqb k 1 i, eq-eqb k 2 j) at by_row
+    pub descriptor_told : k ≡ 2 → Descriptor a b ≡ token_row f at
+    descriptor_told j = rw (ne_eqb k 1 i, eq-eqb k 2 j) at by_row
 
     module _ (j : k ≡ 2 → ⊥) where
       pub line_told_lem : k ≡ 3 → SourceLine a b ≡ token_row f at
@@ -55,7 +55,7 @@ module _ (f : List ℕ) (at : ℕ) {k a b : ℕ} (e : k ≡ word_at f at) (g : a
       pub other_told : (k ≡ 3 → ⊥) → Other a b ≡ token_row f at
       other_told l = rw (ne_eqb k 1 i, ne_eqb k 2 j, ne_eqb k 3 l) at by_row
 
-pub ruleset rows = (name_row_told, member_told, descriptor-told, line_told_lem, other_told, rules)
+pub ruleset rows = (name_row_told, member_told, descriptor_told, line_told_lem, other_told, rules)
 
 -- Names.
 module _ (c : TreeCounts) (f : List ℕ) (i : ℕ) where

@@ -1,5 +1,5 @@
 -- `apply::fill::pass` meets its contract, by the laws of Filling.
-use Rattle.apply.proofs.Filling.{pass-ready, passes}
+use Rattle.apply.proofs.Filling.{pass_ready, passes}
 use Rattle.apply.proofs.fill.pass.Statement.{statement}
 use Rattle.apply.proofs.fill.pass.Tie as tie
 use Rattle.apply_output.proofs.write_output.Reads as write-output-reads
@@ -26,7 +26,7 @@ returns c = search passes
 
 write-output-requires : tie.Need-write-output-requires
 write-output-requires c κs =
-    pass-ready _ _ _ _ _ _ _ c.before.before.before.before.before.before.before.before.before.before.before.before.before.before.before.before.before.before.requires.0 c.before.before.before.before.before.before.before.before.before.before.note-names.ensures _ _ c.before.before.before.before.before.before.plan-nodes.ensures c.before.before.count.given.1 c.before.before.before.before.before.before.before.before.before.before.before.before.before.before.before.before.before.before.requires.1
+    pass_ready _ _ _ _ _ _ _ c.before.before.before.before.before.before.before.before.before.before.before.before.before.before.before.before.before.before.requires.0 c.before.before.before.before.before.before.before.before.before.before.note-names.ensures _ _ c.before.before.before.before.before.before.plan-nodes.ensures c.before.before.count.given.1 c.before.before.before.before.before.before.before.before.before.before.before.before.before.before.before.before.before.before.requires.1
 
 same-length-2 : tie.Need-same-length-2
 same-length-2 c = search passes

@@ -1,5 +1,5 @@
 -- `apply_pieces::long::note_by_groups` meets its contract, by the laws of Naming and an invariant that the names so far have their notes.
-use Rattle.apply_pieces.proofs.Naming.{noting_by_groups, by-groups-more, GroupNoting}
+use Rattle.apply_pieces.proofs.Naming.{noting_by_groups, by_groups_more, GroupNoting}
 use Prim.Native.Nat.{◌-◌}
 use Rattle.apply_pieces.proofs.long.note_by_groups.Statement.{statement}
 use Rattle.apply_pieces.proofs.long.note_by_groups.Tie as tie
@@ -39,7 +39,7 @@ loop-less c = search noting_by_groups
 
 loop-again : tie.Need-loop-preserved invariant-loop decreases-loop
 loop-again c =
-    by-groups-more
+    by_groups_more
     c.before.before.before.before.before.before.before.loop.invariant
     c.before.before.before.before.before.before.loop-test.true
     c.before.before.before.before.before.before.before.before.before.names-start.ensures

@@ -1,5 +1,5 @@
 -- `apply_pieces::within::next_within` meets its contract, by the laws of Lookups.
-use Rattle.apply_pieces.proofs.Lookups.{looking_within, within-past-fits}
+use Rattle.apply_pieces.proofs.Lookups.{looking_within, within_past_fits}
 use Rattle.apply_pieces.proofs.within.next_within.Statement.{statement}
 use Rattle.apply_pieces.proofs.within.next_within.Tie as tie
 
@@ -52,7 +52,7 @@ add-end : tie.Need-overflow-add-end
 add-end c = search looking_within
 
 add-end-2 : tie.Need-overflow-add-end-2
-add-end-2 c = search within-past-fits
+add-end-2 c = search within_past_fits
 
 returns-3 : tie.Need-returns-3
 returns-3 c = search looking_within

@@ -1,5 +1,5 @@
 -- `apply_plans::nodes::plan_nodes` meets its contract, by the laws of Passing.
-use Rattle.apply_plans.proofs.Passing.{first_fits, node-ready, node-meant, plans-over, plans-more, passing}
+use Rattle.apply_plans.proofs.Passing.{first_fits, node_ready, node_meant, plans_over, plans_more, passing}
 use Prim.Native.Nat.{◌-◌}
 use borrow.Author.Rules.{rules}
 use Rattle.apply_plans.specs.Inner.Passed.{NodesTo}
@@ -37,7 +37,7 @@ node-note-requires c κs = search passing
 
 plan-node-requires : tie.Need-plan-node-requires invariant-loop decreases-loop
 plan-node-requires c κs =
-    (search (c.before.before.before.before.before.before.before.before.before.before.before.before.before.before.before.requires.0, c.before.before.before.before.before.loop.invariant, c.before.before.before.before.loop-test.true, c.before.before.before.token-count-at.ensures, c.before.node-note.ensures, node-ready), search (c.before.before.before.before.before.before.before.before.before.before.before.before.before.before.before.requires.0, c.before.before.before.before.before.loop.invariant, c.before.before.before.before.loop-test.true, c.before.before.before.token-count-at.ensures, c.before.node-note.ensures, c.before.before.before.before.before.before.before.before.last-raw.ensures, c.before.before.before.before.before.before.before.home-row.ensures, node-meant), c.before.before.before.before.before.before.before.before.before.before.before.before.before.before.before.requires.2)
+    (search (c.before.before.before.before.before.before.before.before.before.before.before.before.before.before.before.requires.0, c.before.before.before.before.before.loop.invariant, c.before.before.before.before.loop-test.true, c.before.before.before.token-count-at.ensures, c.before.node-note.ensures, node_ready), search (c.before.before.before.before.before.before.before.before.before.before.before.before.before.before.before.requires.0, c.before.before.before.before.before.loop.invariant, c.before.before.before.before.loop-test.true, c.before.before.before.token-count-at.ensures, c.before.node-note.ensures, c.before.before.before.before.before.before.before.before.last-raw.ensures, c.before.before.before.before.before.before.before.home-row.ensures, node_meant), c.before.before.before.before.before.before.before.before.before.before.before.before.before.before.before.requires.2)
 
 enum-known-more : tie.Need-enum-known-more invariant-loop decreases-loop
 enum-known-more c = search passing
@@ -49,7 +49,7 @@ same_length : tie.Need-same-length invariant-loop decreases-loop
 same_length c = search passing
 
 returns : tie.Need-returns invariant-loop decreases-loop
-returns c = search (c.before.before.before.before.before.before.before.before.before.before.before.before.before.before.before.before.before.before.before.before.requires.0, c.before.before.before.before.before.before.before.before.before.before.loop.invariant, c.before.before.before.before.before.before.before.before.before.loop-test.true, c.before.before.before.before.before.before.before.before.token-count-at.ensures, c.before.before.before.before.before.before.node-note.ensures, c.before.before.before.before.before.before.before.before.before.before.before.before.before.last-raw.ensures, c.before.before.before.before.before.before.before.before.before.before.before.before.home-row.ensures, c.before.before.before.before.plan-node.ensures, c.enum_told.given.1, plans-over)
+returns c = search (c.before.before.before.before.before.before.before.before.before.before.before.before.before.before.before.before.before.before.before.before.requires.0, c.before.before.before.before.before.before.before.before.before.before.loop.invariant, c.before.before.before.before.before.before.before.before.before.loop-test.true, c.before.before.before.before.before.before.before.before.token-count-at.ensures, c.before.before.before.before.before.before.node-note.ensures, c.before.before.before.before.before.before.before.before.before.before.before.before.before.last-raw.ensures, c.before.before.before.before.before.before.before.before.before.before.before.before.home-row.ensures, c.before.before.before.before.plan-node.ensures, c.enum_told.given.1, plans_over)
 
 add-first : tie.Need-overflow-add-first invariant-loop decreases-loop
 add-first c = search (c.before.before.before.before.before.before.before.before.before.before.before.before.before.before.before.before.before.before.before.before.before.requires.0, c.before.before.before.before.before.before.before.before.before.before.before.loop.invariant, c.before.before.before.before.before.before.before.before.before.before.loop-test.true, c.before.before.before.before.before.before.before.before.before.token-count-at.ensures, first_fits, rules)
@@ -61,7 +61,7 @@ loop-less : tie.Need-loop-smaller invariant-loop decreases-loop
 loop-less c = search passing
 
 loop-again : tie.Need-loop-preserved invariant-loop decreases-loop
-loop-again c = search (c.before.before.before.before.before.before.before.before.before.before.before.before.before.before.before.before.before.before.before.before.before.requires.0, c.before.before.before.before.before.before.before.before.before.before.before.loop.invariant, c.before.before.before.before.before.before.before.before.before.before.loop-test.true, c.before.before.before.before.before.before.before.before.before.token-count-at.ensures, c.before.before.before.before.before.before.before.node-note.ensures, c.before.before.before.before.before.before.before.before.before.before.before.before.before.before.last-raw.ensures, c.before.before.before.before.before.before.before.before.before.before.before.before.before.home-row.ensures, c.before.before.before.before.before.plan-node.ensures, c.before.more.given.1, plans-more)
+loop-again c = search (c.before.before.before.before.before.before.before.before.before.before.before.before.before.before.before.before.before.before.before.before.before.requires.0, c.before.before.before.before.before.before.before.before.before.before.before.loop.invariant, c.before.before.before.before.before.before.before.before.before.before.loop-test.true, c.before.before.before.before.before.before.before.before.before.token-count-at.ensures, c.before.before.before.before.before.before.before.node-note.ensures, c.before.before.before.before.before.before.before.before.before.before.before.before.before.before.last-raw.ensures, c.before.before.before.before.before.before.before.before.before.before.before.before.before.home-row.ensures, c.before.before.before.before.before.plan-node.ensures, c.before.more.given.1, plans_more)
 
 same-length-2 : tie.Need-same-length-2 invariant-loop decreases-loop
 same-length-2 c = search passing

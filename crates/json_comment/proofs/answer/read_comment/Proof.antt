@@ -1,6 +1,6 @@
 -- `json_comment::answer::read_comment` meets its contract, by the laws of Answers and an invariant that says: the rest decides as the whole does.
 use Rattle.json_values.proofs.Values.{member_inside}
-use Rattle.json_comment.proofs.Answers.{value-starts, reading-wrong, reading-ends, reading, Reading}
+use Rattle.json_comment.proofs.Answers.{value_starts, reading_wrong, reading_ends, reading, Reading}
 use Prim.Native.Nat.{◌-◌}
 use lib.ListN.{length}
 use Rattle.json_comment.proofs.answer.read_comment.Statement.{statement}
@@ -67,7 +67,7 @@ slice-aggregate-stands-now : tie.Need-slice-aggregate-stands-now invariant-loop 
 slice-aggregate-stands-now c = search reading
 
 stands-now-requires : tie.Need-stands-now-requires invariant-loop decreases-loop
-stands-now-requires c κs = value-starts c.before.before.before.before.before.before.loop.invariant c.before.before.before.before.before.loop-test.true c.before.before.before.before.comment-member.ensures c.before.before.value.given.1
+stands-now-requires c κs = value_starts c.before.before.before.before.before.before.loop.invariant c.before.before.before.before.before.loop-test.true c.before.before.before.before.comment-member.ensures c.before.before.value.given.1
 
 add-stands-now-2 : tie.Need-overflow-add-stands-now-2 invariant-loop decreases-loop
 add-stands-now-2 c = search reading
@@ -76,7 +76,7 @@ slice-aggregate-stands-now-2 : tie.Need-slice-aggregate-stands-now-2 invariant-l
 slice-aggregate-stands-now-2 c = search reading
 
 stands-now-requires-2 : tie.Need-stands-now-requires-2 invariant-loop decreases-loop
-stands-now-requires-2 c κs = value-starts c.before.before.before.before.before.before.before.before.loop.invariant c.before.before.before.before.before.before.before.loop-test.true c.before.before.before.before.before.before.comment-member.ensures c.before.before.before.before.value.given.1
+stands-now-requires-2 c κs = value_starts c.before.before.before.before.before.before.before.before.loop.invariant c.before.before.before.before.before.before.before.loop-test.true c.before.before.before.before.before.before.comment-member.ensures c.before.before.before.before.value.given.1
 
 structural-at-requires-2 : tie.Need-structural-at-requires-2 invariant-loop decreases-loop
 structural-at-requires-2 c κs = member_inside _ _ _ c.before.before.before.before.before.before.before.comment-member.ensures c.before.before.before.before.before.value.given.1
@@ -97,13 +97,13 @@ enum-told-4 : tie.Need-enum-told-4 invariant-loop decreases-loop
 enum-told-4 c = search reading
 
 returns-5 : tie.Need-returns-5 invariant-loop decreases-loop
-returns-5 c = reading-wrong c.before.before.before.before.before.before.before.before.before.before.before.before.before.before.before.loop.invariant c.before.before.before.before.before.before.before.before.before.before.before.before.before.before.loop-test.true c.before.before.before.before.before.before.before.before.before.before.before.before.before.comment-member.ensures c.before.before.before.before.before.before.before.before.before.before.before.value.given.1 c.before.before.before.before.before.before.before.before.stands-now.ensures c.before.before.before.before.before.before.stands-now2.ensures _ c.before.before.before.before.before.structural-at2.ensures c.before.before.before.enum-told3.given.1 _ c.before.before.structural-at3.ensures c.before.before.before.before.before.before.before.before.before.before.before.before.before.before.before.before.before.before.before.before.before.before.before.skip-space.ensures c.enum-told4.given.1
+returns-5 c = reading_wrong c.before.before.before.before.before.before.before.before.before.before.before.before.before.before.before.loop.invariant c.before.before.before.before.before.before.before.before.before.before.before.before.before.before.loop-test.true c.before.before.before.before.before.before.before.before.before.before.before.before.before.comment-member.ensures c.before.before.before.before.before.before.before.before.before.before.before.value.given.1 c.before.before.before.before.before.before.before.before.stands-now.ensures c.before.before.before.before.before.before.stands-now2.ensures _ c.before.before.before.before.before.structural-at2.ensures c.before.before.before.enum-told3.given.1 _ c.before.before.structural-at3.ensures c.before.before.before.before.before.before.before.before.before.before.before.before.before.before.before.before.before.before.before.before.before.before.before.skip-space.ensures c.enum-told4.given.1
 
 ended-requires-2 : tie.Need-ended-requires-2 invariant-loop decreases-loop
 ended-requires-2 c κs = search reading
 
 returns-6 : tie.Need-returns-6 invariant-loop decreases-loop
-returns-6 c = reading-ends c.before.before.before.before.before.before.before.before.before.before.before.before.before.before.before.before.before.loop.invariant c.before.before.before.before.before.before.before.before.before.before.before.before.before.before.before.before.loop-test.true c.before.before.before.before.before.before.before.before.before.before.before.before.before.before.before.comment-member.ensures c.before.before.before.before.before.before.before.before.before.before.before.before.before.value.given.1 c.before.before.before.before.before.before.before.before.before.before.stands-now.ensures c.before.before.before.before.before.before.before.before.stands-now2.ensures _ c.before.before.before.before.before.before.before.structural-at2.ensures c.before.before.before.before.before.enum-told3.given.1 _ c.before.before.before.before.structural-at3.ensures c.before.before.before.before.before.before.before.before.before.before.before.before.before.before.before.before.before.before.before.before.before.before.before.before.before.skip-space.ensures c.before.before.end2.given.1 c.ended2.ensures
+returns-6 c = reading_ends c.before.before.before.before.before.before.before.before.before.before.before.before.before.before.before.before.before.loop.invariant c.before.before.before.before.before.before.before.before.before.before.before.before.before.before.before.before.loop-test.true c.before.before.before.before.before.before.before.before.before.before.before.before.before.before.before.comment-member.ensures c.before.before.before.before.before.before.before.before.before.before.before.before.before.value.given.1 c.before.before.before.before.before.before.before.before.before.before.stands-now.ensures c.before.before.before.before.before.before.before.before.stands-now2.ensures _ c.before.before.before.before.before.before.before.structural-at2.ensures c.before.before.before.before.before.enum-told3.given.1 _ c.before.before.before.before.structural-at3.ensures c.before.before.before.before.before.before.before.before.before.before.before.before.before.before.before.before.before.before.before.before.before.before.before.before.before.skip-space.ensures c.before.before.end2.given.1 c.ended2.ensures
 
 loop-less : tie.Need-loop-smaller invariant-loop decreases-loop
 loop-less c = search reading

@@ -1,5 +1,5 @@
 -- `json_decode::octets::has_octets` meets its contract, by the laws of OctetLaws and an invariant that says: the rest decides as the whole does.
-use Rattle.json_decode.proofs.OctetLaws.{heading-more, heading, Heading}
+use Rattle.json_decode.proofs.OctetLaws.{heading_more, heading, Heading}
 use Prim.Native.Nat.{◌-◌}
 use Rattle.json_decode.proofs.octets.has_octets.Statement.{statement}
 use Rattle.json_decode.proofs.octets.has_octets.Tie as tie
@@ -41,7 +41,7 @@ loop-less : tie.Need-loop-smaller invariant-loop decreases-loop
 loop-less c = search heading
 
 loop-again : tie.Need-loop-preserved invariant-loop decreases-loop
-loop-again c = heading-more c.before.before.before.before.before.before.utf8-length.ensures c.before.before.before.before.before.loop.invariant c.before.before.before.before.loop-test.true c.before.before.before.if1.false c.before.octet.ensures c.if2.false
+loop-again c = heading_more c.before.before.before.before.before.before.utf8-length.ensures c.before.before.before.before.before.loop.invariant c.before.before.before.before.loop-test.true c.before.before.before.if1.false c.before.octet.ensures c.if2.false
 
 returns-3 : tie.Need-returns-3 invariant-loop decreases-loop
 returns-3 c = search heading

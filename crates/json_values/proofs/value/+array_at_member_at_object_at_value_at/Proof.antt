@@ -7,7 +7,7 @@ use borrow.Fn.PlainCycle.{Measures, is, falls, and}
 use Rattle.json_values.proofs.value.array_at.Reads as Array-at
 use Rattle.json_values.proofs.value.array_at.Kinds as array-at-kinds
 use Rattle.json_values.proofs.value.+array_at_member_at_object_at_value_at.Lts-array_at as array-at-lts
-use Rattle.json_values.proofs.value.member_at.Reads as member-at
+use Rattle.json_values.proofs.value.member_at.Reads as member_at_lem
 use Rattle.json_values.proofs.value.member_at.Kinds as member-at-kinds
 use Rattle.json_values.proofs.value.+array_at_member_at_object_at_value_at.Lts-member_at as member-at-lts
 use Rattle.json_values.proofs.value.object_at.Reads as object-at
@@ -46,11 +46,11 @@ array-at-below t =
     and 1 array-at-kinds.ps (falls 1 array-at-kinds.ps ◌<◌ μ-array-at t) Array-at.Pre
 
 abbrev member-at-at : ℕ → In 1 member-at-kinds.ps
-member-at-at t = and 1 member-at-kinds.ps (is 1 member-at-kinds.ps μ-member-at t) member-at.Pre
+member-at-at t = and 1 member-at-kinds.ps (is 1 member-at-kinds.ps μ-member-at t) member_at_lem.Pre
 
 abbrev member-at-below : ℕ → In 1 member-at-kinds.ps
 member-at-below t =
-    and 1 member-at-kinds.ps (falls 1 member-at-kinds.ps ◌<◌ μ-member-at t) member-at.Pre
+    and 1 member-at-kinds.ps (falls 1 member-at-kinds.ps ◌<◌ μ-member-at t) member_at_lem.Pre
 
 abbrev object-at-at : ℕ → In 1 object-at-kinds.ps
 object-at-at t = and 1 object-at-kinds.ps (is 1 object-at-kinds.ps μ-object-at t) object-at.Pre
@@ -136,112 +136,112 @@ module _ (t : ℕ) where
   array-at-returns-4 : array-at-lts.Need-returns-4 (skip-space-reads.Asked, skip-space-reads.Learnt, structural-at-reads.Asked, structural-at-reads.Learnt, value-at-below t, value-at.Post) (array-at-at t) Array-at.Post array-at-Inv-loop array-at-μ-loop
   array-at-returns-4 c = search arraying
 
-  member-at-returns : member-at-lts.Need-returns (string-end-reads.Asked, string-end-reads.Learnt, structural-at-reads.Asked, structural-at-reads.Learnt, value-at-below t, value-at.Post) (member-at-at t) member-at.Post
+  member-at-returns : member-at-lts.Need-returns (string-end-reads.Asked, string-end-reads.Learnt, structural-at-reads.Asked, structural-at-reads.Learnt, value-at-below t, value-at.Post) (member-at-at t) member_at_lem.Post
   member-at-returns c = search membering
 
-  member-at-shared-slice-read-if2 : member-at-lts.Need-shared-slice-read-if2 (string-end-reads.Asked, string-end-reads.Learnt, structural-at-reads.Asked, structural-at-reads.Learnt, value-at-below t, value-at.Post) (member-at-at t) member-at.Post
+  member-at-shared-slice-read-if2 : member-at-lts.Need-shared-slice-read-if2 (string-end-reads.Asked, string-end-reads.Learnt, structural-at-reads.Asked, structural-at-reads.Learnt, value-at-below t, value-at.Post) (member-at-at t) member_at_lem.Post
   member-at-shared-slice-read-if2 c = search membering
 
-  member-at-returns-2 : member-at-lts.Need-returns-2 (string-end-reads.Asked, string-end-reads.Learnt, structural-at-reads.Asked, structural-at-reads.Learnt, value-at-below t, value-at.Post) (member-at-at t) member-at.Post
+  member-at-returns-2 : member-at-lts.Need-returns-2 (string-end-reads.Asked, string-end-reads.Learnt, structural-at-reads.Asked, structural-at-reads.Learnt, value-at-below t, value-at.Post) (member-at-at t) member_at_lem.Post
   member-at-returns-2 c = search membering
 
-  member-at-add-string-end : member-at-lts.Need-overflow-add-string-end (string-end-reads.Asked, string-end-reads.Learnt, structural-at-reads.Asked, structural-at-reads.Learnt, value-at-below t, value-at.Post) (member-at-at t) member-at.Post
+  member-at-add-string-end : member-at-lts.Need-overflow-add-string-end (string-end-reads.Asked, string-end-reads.Learnt, structural-at-reads.Asked, structural-at-reads.Learnt, value-at-below t, value-at.Post) (member-at-at t) member_at_lem.Post
   member-at-add-string-end c = search membering
 
-  member-at-string-end-requires : member-at-lts.Need-string-end-requires (string-end-reads.Asked, string-end-reads.Learnt, structural-at-reads.Asked, structural-at-reads.Learnt, value-at-below t, value-at.Post) (member-at-at t) member-at.Post
+  member-at-string-end-requires : member-at-lts.Need-string-end-requires (string-end-reads.Asked, string-end-reads.Learnt, structural-at-reads.Asked, structural-at-reads.Learnt, value-at-below t, value-at.Post) (member-at-at t) member_at_lem.Post
   member-at-string-end-requires c κs = search membering
 
-  member-at-enum-known-named : member-at-lts.Need-enum-known-named (string-end-reads.Asked, string-end-reads.Learnt, structural-at-reads.Asked, structural-at-reads.Learnt, value-at-below t, value-at.Post) (member-at-at t) member-at.Post
+  member-at-enum-known-named : member-at-lts.Need-enum-known-named (string-end-reads.Asked, string-end-reads.Learnt, structural-at-reads.Asked, structural-at-reads.Learnt, value-at-below t, value-at.Post) (member-at-at t) member_at_lem.Post
   member-at-enum-known-named c = search membering
 
-  member-at-enum-told : member-at-lts.Need-enum-told (string-end-reads.Asked, string-end-reads.Learnt, structural-at-reads.Asked, structural-at-reads.Learnt, value-at-below t, value-at.Post) (member-at-at t) member-at.Post
+  member-at-enum-told : member-at-lts.Need-enum-told (string-end-reads.Asked, string-end-reads.Learnt, structural-at-reads.Asked, structural-at-reads.Learnt, value-at-below t, value-at.Post) (member-at-at t) member_at_lem.Post
   member-at-enum-told c = search membering
 
-  member-at-returns-3 : member-at-lts.Need-returns-3 (string-end-reads.Asked, string-end-reads.Learnt, structural-at-reads.Asked, structural-at-reads.Learnt, value-at-below t, value-at.Post) (member-at-at t) member-at.Post
+  member-at-returns-3 : member-at-lts.Need-returns-3 (string-end-reads.Asked, string-end-reads.Learnt, structural-at-reads.Asked, structural-at-reads.Learnt, value-at-below t, value-at.Post) (member-at-at t) member_at_lem.Post
   member-at-returns-3 c = search membering
 
-  member-at-structural-at-requires : member-at-lts.Need-structural-at-requires (string-end-reads.Asked, string-end-reads.Learnt, structural-at-reads.Asked, structural-at-reads.Learnt, value-at-below t, value-at.Post) (member-at-at t) member-at.Post
+  member-at-structural-at-requires : member-at-lts.Need-structural-at-requires (string-end-reads.Asked, string-end-reads.Learnt, structural-at-reads.Asked, structural-at-reads.Learnt, value-at-below t, value-at.Post) (member-at-at t) member_at_lem.Post
   member-at-structural-at-requires c κs = search membering
 
-  member-at-enum-known-value : member-at-lts.Need-enum-known-value (string-end-reads.Asked, string-end-reads.Learnt, structural-at-reads.Asked, structural-at-reads.Learnt, value-at-below t, value-at.Post) (member-at-at t) member-at.Post
+  member-at-enum-known-value : member-at-lts.Need-enum-known-value (string-end-reads.Asked, string-end-reads.Learnt, structural-at-reads.Asked, structural-at-reads.Learnt, value-at-below t, value-at.Post) (member-at-at t) member_at_lem.Post
   member-at-enum-known-value c = search membering
 
-  member-at-enum-told-2 : member-at-lts.Need-enum-told-2 (string-end-reads.Asked, string-end-reads.Learnt, structural-at-reads.Asked, structural-at-reads.Learnt, value-at-below t, value-at.Post) (member-at-at t) member-at.Post
+  member-at-enum-told-2 : member-at-lts.Need-enum-told-2 (string-end-reads.Asked, string-end-reads.Learnt, structural-at-reads.Asked, structural-at-reads.Learnt, value-at-below t, value-at.Post) (member-at-at t) member_at_lem.Post
   member-at-enum-told-2 c = search membering
 
-  member-at-returns-4 : member-at-lts.Need-returns-4 (string-end-reads.Asked, string-end-reads.Learnt, structural-at-reads.Asked, structural-at-reads.Learnt, value-at-below t, value-at.Post) (member-at-at t) member-at.Post
+  member-at-returns-4 : member-at-lts.Need-returns-4 (string-end-reads.Asked, string-end-reads.Learnt, structural-at-reads.Asked, structural-at-reads.Learnt, value-at-below t, value-at.Post) (member-at-at t) member_at_lem.Post
   member-at-returns-4 c = search membering
 
-  member-at-value-at-requires : member-at-lts.Need-value-at-requires (string-end-reads.Asked, string-end-reads.Learnt, structural-at-reads.Asked, structural-at-reads.Learnt, value-at-below t, value-at.Post) (member-at-at t) member-at.Post
+  member-at-value-at-requires : member-at-lts.Need-value-at-requires (string-end-reads.Asked, string-end-reads.Learnt, structural-at-reads.Asked, structural-at-reads.Learnt, value-at-below t, value-at.Post) (member-at-at t) member_at_lem.Post
   member-at-value-at-requires c κs = search membering
 
-  member-at-enum-known-next : member-at-lts.Need-enum-known-next (string-end-reads.Asked, string-end-reads.Learnt, structural-at-reads.Asked, structural-at-reads.Learnt, value-at-below t, value-at.Post) (member-at-at t) member-at.Post
+  member-at-enum-known-next : member-at-lts.Need-enum-known-next (string-end-reads.Asked, string-end-reads.Learnt, structural-at-reads.Asked, structural-at-reads.Learnt, value-at-below t, value-at.Post) (member-at-at t) member_at_lem.Post
   member-at-enum-known-next c = search membering
 
-  member-at-enum-told-3 : member-at-lts.Need-enum-told-3 (string-end-reads.Asked, string-end-reads.Learnt, structural-at-reads.Asked, structural-at-reads.Learnt, value-at-below t, value-at.Post) (member-at-at t) member-at.Post
+  member-at-enum-told-3 : member-at-lts.Need-enum-told-3 (string-end-reads.Asked, string-end-reads.Learnt, structural-at-reads.Asked, structural-at-reads.Learnt, value-at-below t, value-at.Post) (member-at-at t) member_at_lem.Post
   member-at-enum-told-3 c = search membering
 
-  member-at-returns-5 : member-at-lts.Need-returns-5 (string-end-reads.Asked, string-end-reads.Learnt, structural-at-reads.Asked, structural-at-reads.Learnt, value-at-below t, value-at.Post) (member-at-at t) member-at.Post
+  member-at-returns-5 : member-at-lts.Need-returns-5 (string-end-reads.Asked, string-end-reads.Learnt, structural-at-reads.Asked, structural-at-reads.Learnt, value-at-below t, value-at.Post) (member-at-at t) member_at_lem.Post
   member-at-returns-5 c = search membering
 
-  member-at-returns-6 : member-at-lts.Need-returns-6 (string-end-reads.Asked, string-end-reads.Learnt, structural-at-reads.Asked, structural-at-reads.Learnt, value-at-below t, value-at.Post) (member-at-at t) member-at.Post
+  member-at-returns-6 : member-at-lts.Need-returns-6 (string-end-reads.Asked, string-end-reads.Learnt, structural-at-reads.Asked, structural-at-reads.Learnt, value-at-below t, value-at.Post) (member-at-at t) member_at_lem.Post
   member-at-returns-6 c = search membering
 
-  object-at-add-skip-space : object-at-lts.Need-overflow-add-skip-space (skip-space-reads.Asked, skip-space-reads.Learnt, structural-at-reads.Asked, structural-at-reads.Learnt, member-at-below t, member-at.Post) (object-at-at t) object-at.Post object-at-Inv-loop object-at-μ-loop
+  object-at-add-skip-space : object-at-lts.Need-overflow-add-skip-space (skip-space-reads.Asked, skip-space-reads.Learnt, structural-at-reads.Asked, structural-at-reads.Learnt, member-at-below t, member_at_lem.Post) (object-at-at t) object-at.Post object-at-Inv-loop object-at-μ-loop
   object-at-add-skip-space c = search objecting
 
-  object-at-skip-space-requires : object-at-lts.Need-skip-space-requires (skip-space-reads.Asked, skip-space-reads.Learnt, structural-at-reads.Asked, structural-at-reads.Learnt, member-at-below t, member-at.Post) (object-at-at t) object-at.Post object-at-Inv-loop object-at-μ-loop
+  object-at-skip-space-requires : object-at-lts.Need-skip-space-requires (skip-space-reads.Asked, skip-space-reads.Learnt, structural-at-reads.Asked, structural-at-reads.Learnt, member-at-below t, member_at_lem.Post) (object-at-at t) object-at.Post object-at-Inv-loop object-at-μ-loop
   object-at-skip-space-requires c κs = search objecting
 
-  object-at-structural-at-requires : object-at-lts.Need-structural-at-requires (skip-space-reads.Asked, skip-space-reads.Learnt, structural-at-reads.Asked, structural-at-reads.Learnt, member-at-below t, member-at.Post) (object-at-at t) object-at.Post object-at-Inv-loop object-at-μ-loop
+  object-at-structural-at-requires : object-at-lts.Need-structural-at-requires (skip-space-reads.Asked, skip-space-reads.Learnt, structural-at-reads.Asked, structural-at-reads.Learnt, member-at-below t, member_at_lem.Post) (object-at-at t) object-at.Post object-at-Inv-loop object-at-μ-loop
   object-at-structural-at-requires c κs = search objecting
 
-  object-at-enum-known-end : object-at-lts.Need-enum-known-end (skip-space-reads.Asked, skip-space-reads.Learnt, structural-at-reads.Asked, structural-at-reads.Learnt, member-at-below t, member-at.Post) (object-at-at t) object-at.Post object-at-Inv-loop object-at-μ-loop
+  object-at-enum-known-end : object-at-lts.Need-enum-known-end (skip-space-reads.Asked, skip-space-reads.Learnt, structural-at-reads.Asked, structural-at-reads.Learnt, member-at-below t, member_at_lem.Post) (object-at-at t) object-at.Post object-at-Inv-loop object-at-μ-loop
   object-at-enum-known-end c = search objecting
 
-  object-at-returns : object-at-lts.Need-returns (skip-space-reads.Asked, skip-space-reads.Learnt, structural-at-reads.Asked, structural-at-reads.Learnt, member-at-below t, member-at.Post) (object-at-at t) object-at.Post object-at-Inv-loop object-at-μ-loop
+  object-at-returns : object-at-lts.Need-returns (skip-space-reads.Asked, skip-space-reads.Learnt, structural-at-reads.Asked, structural-at-reads.Learnt, member-at-below t, member_at_lem.Post) (object-at-at t) object-at.Post object-at-Inv-loop object-at-μ-loop
   object-at-returns c = search objecting
 
-  object-at-enum-told : object-at-lts.Need-enum-told (skip-space-reads.Asked, skip-space-reads.Learnt, structural-at-reads.Asked, structural-at-reads.Learnt, member-at-below t, member-at.Post) (object-at-at t) object-at.Post object-at-Inv-loop object-at-μ-loop
+  object-at-enum-told : object-at-lts.Need-enum-told (skip-space-reads.Asked, skip-space-reads.Learnt, structural-at-reads.Asked, structural-at-reads.Learnt, member-at-below t, member_at_lem.Post) (object-at-at t) object-at.Post object-at-Inv-loop object-at-μ-loop
   object-at-enum-told c = search objecting
 
-  object-at-loop-holds : object-at-lts.Need-loop-init (skip-space-reads.Asked, skip-space-reads.Learnt, structural-at-reads.Asked, structural-at-reads.Learnt, member-at-below t, member-at.Post) (object-at-at t) object-at.Post object-at-Inv-loop object-at-μ-loop
+  object-at-loop-holds : object-at-lts.Need-loop-init (skip-space-reads.Asked, skip-space-reads.Learnt, structural-at-reads.Asked, structural-at-reads.Learnt, member-at-below t, member_at_lem.Post) (object-at-at t) object-at.Post object-at-Inv-loop object-at-μ-loop
   object-at-loop-holds c = search objecting
 
-  object-at-member-at-requires : object-at-lts.Need-member-at-requires (skip-space-reads.Asked, skip-space-reads.Learnt, structural-at-reads.Asked, structural-at-reads.Learnt, member-at-below t, member-at.Post) (object-at-at t) object-at.Post object-at-Inv-loop object-at-μ-loop
+  object-at-member-at-requires : object-at-lts.Need-member-at-requires (skip-space-reads.Asked, skip-space-reads.Learnt, structural-at-reads.Asked, structural-at-reads.Learnt, member-at-below t, member_at_lem.Post) (object-at-at t) object-at.Post object-at-Inv-loop object-at-μ-loop
   object-at-member-at-requires c κs = search objecting
 
-  object-at-enum-known-next : object-at-lts.Need-enum-known-next (skip-space-reads.Asked, skip-space-reads.Learnt, structural-at-reads.Asked, structural-at-reads.Learnt, member-at-below t, member-at.Post) (object-at-at t) object-at.Post object-at-Inv-loop object-at-μ-loop
+  object-at-enum-known-next : object-at-lts.Need-enum-known-next (skip-space-reads.Asked, skip-space-reads.Learnt, structural-at-reads.Asked, structural-at-reads.Learnt, member-at-below t, member_at_lem.Post) (object-at-at t) object-at.Post object-at-Inv-loop object-at-μ-loop
   object-at-enum-known-next c = search objecting
 
-  object-at-enum-told-2 : object-at-lts.Need-enum-told-2 (skip-space-reads.Asked, skip-space-reads.Learnt, structural-at-reads.Asked, structural-at-reads.Learnt, member-at-below t, member-at.Post) (object-at-at t) object-at.Post object-at-Inv-loop object-at-μ-loop
+  object-at-enum-told-2 : object-at-lts.Need-enum-told-2 (skip-space-reads.Asked, skip-space-reads.Learnt, structural-at-reads.Asked, structural-at-reads.Learnt, member-at-below t, member_at_lem.Post) (object-at-at t) object-at.Post object-at-Inv-loop object-at-μ-loop
   object-at-enum-told-2 c = search objecting
 
-  object-at-returns-2 : object-at-lts.Need-returns-2 (skip-space-reads.Asked, skip-space-reads.Learnt, structural-at-reads.Asked, structural-at-reads.Learnt, member-at-below t, member-at.Post) (object-at-at t) object-at.Post object-at-Inv-loop object-at-μ-loop
+  object-at-returns-2 : object-at-lts.Need-returns-2 (skip-space-reads.Asked, skip-space-reads.Learnt, structural-at-reads.Asked, structural-at-reads.Learnt, member-at-below t, member_at_lem.Post) (object-at-at t) object-at.Post object-at-Inv-loop object-at-μ-loop
   object-at-returns-2 c = search objecting
 
-  object-at-structural-at-requires-2 : object-at-lts.Need-structural-at-requires-2 (skip-space-reads.Asked, skip-space-reads.Learnt, structural-at-reads.Asked, structural-at-reads.Learnt, member-at-below t, member-at.Post) (object-at-at t) object-at.Post object-at-Inv-loop object-at-μ-loop
+  object-at-structural-at-requires-2 : object-at-lts.Need-structural-at-requires-2 (skip-space-reads.Asked, skip-space-reads.Learnt, structural-at-reads.Asked, structural-at-reads.Learnt, member-at-below t, member_at_lem.Post) (object-at-at t) object-at.Post object-at-Inv-loop object-at-μ-loop
   object-at-structural-at-requires-2 c κs = search objecting
 
-  object-at-enum-known-again : object-at-lts.Need-enum-known-preserved (skip-space-reads.Asked, skip-space-reads.Learnt, structural-at-reads.Asked, structural-at-reads.Learnt, member-at-below t, member-at.Post) (object-at-at t) object-at.Post object-at-Inv-loop object-at-μ-loop
+  object-at-enum-known-again : object-at-lts.Need-enum-known-preserved (skip-space-reads.Asked, skip-space-reads.Learnt, structural-at-reads.Asked, structural-at-reads.Learnt, member-at-below t, member_at_lem.Post) (object-at-at t) object-at.Post object-at-Inv-loop object-at-μ-loop
   object-at-enum-known-again c = search objecting
 
-  object-at-enum-told-3 : object-at-lts.Need-enum-told-3 (skip-space-reads.Asked, skip-space-reads.Learnt, structural-at-reads.Asked, structural-at-reads.Learnt, member-at-below t, member-at.Post) (object-at-at t) object-at.Post object-at-Inv-loop object-at-μ-loop
+  object-at-enum-told-3 : object-at-lts.Need-enum-told-3 (skip-space-reads.Asked, skip-space-reads.Learnt, structural-at-reads.Asked, structural-at-reads.Learnt, member-at-below t, member_at_lem.Post) (object-at-at t) object-at.Post object-at-Inv-loop object-at-μ-loop
   object-at-enum-told-3 c = search objecting
 
-  object-at-structural-at-requires-3 : object-at-lts.Need-structural-at-requires-3 (skip-space-reads.Asked, skip-space-reads.Learnt, structural-at-reads.Asked, structural-at-reads.Learnt, member-at-below t, member-at.Post) (object-at-at t) object-at.Post object-at-Inv-loop object-at-μ-loop
+  object-at-structural-at-requires-3 : object-at-lts.Need-structural-at-requires-3 (skip-space-reads.Asked, skip-space-reads.Learnt, structural-at-reads.Asked, structural-at-reads.Learnt, member-at-below t, member_at_lem.Post) (object-at-at t) object-at.Post object-at-Inv-loop object-at-μ-loop
   object-at-structural-at-requires-3 c κs = search objecting
 
-  object-at-returns-3 : object-at-lts.Need-returns-3 (skip-space-reads.Asked, skip-space-reads.Learnt, structural-at-reads.Asked, structural-at-reads.Learnt, member-at-below t, member-at.Post) (object-at-at t) object-at.Post object-at-Inv-loop object-at-μ-loop
+  object-at-returns-3 : object-at-lts.Need-returns-3 (skip-space-reads.Asked, skip-space-reads.Learnt, structural-at-reads.Asked, structural-at-reads.Learnt, member-at-below t, member_at_lem.Post) (object-at-at t) object-at.Post object-at-Inv-loop object-at-μ-loop
   object-at-returns-3 c = search objecting
 
-  object-at-loop-less : object-at-lts.Need-loop-smaller (skip-space-reads.Asked, skip-space-reads.Learnt, structural-at-reads.Asked, structural-at-reads.Learnt, member-at-below t, member-at.Post) (object-at-at t) object-at.Post object-at-Inv-loop object-at-μ-loop
+  object-at-loop-less : object-at-lts.Need-loop-smaller (skip-space-reads.Asked, skip-space-reads.Learnt, structural-at-reads.Asked, structural-at-reads.Learnt, member-at-below t, member_at_lem.Post) (object-at-at t) object-at.Post object-at-Inv-loop object-at-μ-loop
   object-at-loop-less c = search objecting
 
-  object-at-loop-again : object-at-lts.Need-loop-preserved (skip-space-reads.Asked, skip-space-reads.Learnt, structural-at-reads.Asked, structural-at-reads.Learnt, member-at-below t, member-at.Post) (object-at-at t) object-at.Post object-at-Inv-loop object-at-μ-loop
+  object-at-loop-again : object-at-lts.Need-loop-preserved (skip-space-reads.Asked, skip-space-reads.Learnt, structural-at-reads.Asked, structural-at-reads.Learnt, member-at-below t, member_at_lem.Post) (object-at-at t) object-at.Post object-at-Inv-loop object-at-μ-loop
   object-at-loop-again c = search objecting
 
-  object-at-returns-4 : object-at-lts.Need-returns-4 (skip-space-reads.Asked, skip-space-reads.Learnt, structural-at-reads.Asked, structural-at-reads.Learnt, member-at-below t, member-at.Post) (object-at-at t) object-at.Post object-at-Inv-loop object-at-μ-loop
+  object-at-returns-4 : object-at-lts.Need-returns-4 (skip-space-reads.Asked, skip-space-reads.Learnt, structural-at-reads.Asked, structural-at-reads.Learnt, member-at-below t, member_at_lem.Post) (object-at-at t) object-at.Post object-at-Inv-loop object-at-μ-loop
   object-at-returns-4 c = search objecting
 
   value-at-flat-at-requires : value-at-lts.Need-flat-at-requires (flat-at-reads.Asked, flat-at-reads.Learnt, object-at-below t, object-at.Post, array-at-below t, Array-at.Post) (value-at-at t) value-at.Post
@@ -325,7 +325,7 @@ pub +array-at-member-at-object-at-value-at-spec : {M : Type 1} → statement M
       value-at.Post,
     )
     (member-at-at t)
-    member-at.Post
+    member_at_lem.Post
     (member-at-returns t)
     (member-at-shared-slice-read-if2 t)
     (member-at-returns-2 t)
@@ -349,7 +349,7 @@ pub +array-at-member-at-object-at-value-at-spec : {M : Type 1} → statement M
       structural-at-reads.Asked,
       structural-at-reads.Learnt,
       member-at-below t,
-      member-at.Post,
+      member_at_lem.Post,
     )
     (object-at-at t)
     object-at.Post

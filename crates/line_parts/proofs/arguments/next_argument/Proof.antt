@@ -1,6 +1,6 @@
 -- `line_parts::arguments::next_argument` meets its contract, by the laws of Listed and an invariant that says: the rest decides as the whole does.
 use borrow.Author.Rules.{rules}
-use Rattle.line_parts.proofs.Listed.{part-end-fits, listing, Passing}
+use Rattle.line_parts.proofs.Listed.{part_end_fits, listing, Passing}
 use Prim.Native.Nat.{◌-◌}
 use lib.ListN.{length}
 use Rattle.line_parts.proofs.arguments.next_argument.Statement.{statement}
@@ -91,7 +91,7 @@ add-t8 : tie.Need-overflow-add-t8 invariant-loop decreases-loop
 add-t8 c = search listing
 
 add-t25 : tie.Need-overflow-add-t25 invariant-loop decreases-loop
-add-t25 c = part-end-fits c.before.before.before.before.before.before.before.before.before.before.before.before.loop.invariant c.before.before.before.before.before.before.before.before.before.before.before.loop-test.true c.before.before.before.before.before.before.before.before.before.first_byte.ensures c.before.before.before.before.before.before.before.comma.given.1 c.before.before.before.before.trim-both2.ensures (search rules)
+add-t25 c = part_end_fits c.before.before.before.before.before.before.before.before.before.before.before.before.loop.invariant c.before.before.before.before.before.before.before.before.before.before.before.loop-test.true c.before.before.before.before.before.before.before.before.before.first_byte.ensures c.before.before.before.before.before.before.before.comma.given.1 c.before.before.before.before.trim-both2.ensures (search rules)
 
 add-t26 : tie.Need-overflow-add-t26 invariant-loop decreases-loop
 add-t26 c = search listing

@@ -1,5 +1,5 @@
 -- `line_parts::method::method_from` meets its contract, by the laws of Methods.
-use Rattle.line_parts.proofs.Methods.{typing, signature_part, method-read}
+use Rattle.line_parts.proofs.Methods.{typing, signature_part, method_read}
 use Rattle.line_parts.proofs.method.method_from.Statement.{statement}
 use Rattle.line_parts.proofs.method.method_from.Tie as tie
 
@@ -67,7 +67,7 @@ settled-requires : tie.Need-settled-requires
 settled-requires c κs = search typing
 
 returns-3 : tie.Need-returns-3
-returns-3 c = method-read c.before.before.before.before.before.before.before.before.before.before.before.before.before.before.before.before.before.args.left.now c.before.before.before.before.before.before.before.before.before.before.before.before.before.before.before.before.before.args.rest c.before.before.before.before.before.before.before.before.before.before.before.before.before.before.before.before.before.requires.0 c.before.before.before.before.before.before.before.before.before.before.before.before.before.before.first_white_lem.ensures c.before.before.before.before.before.before.before.before.before.before.before.before.white.given.1 c.before.before.before.before.before.before.before.before.before.trim-both.ensures c.before.before.before.before.before.before.signature-in.ensures c.before.before.before.before.named.given.1 c.before.before.before.before.before.before.before.before.before.before.before.before.before.before.before.before.before.args.raw c.before.before.shifted-name.ensures c.before.shifted.ensures c.settled.ensures
+returns-3 c = method_read c.before.before.before.before.before.before.before.before.before.before.before.before.before.before.before.before.before.args.left.now c.before.before.before.before.before.before.before.before.before.before.before.before.before.before.before.before.before.args.rest c.before.before.before.before.before.before.before.before.before.before.before.before.before.before.before.before.before.requires.0 c.before.before.before.before.before.before.before.before.before.before.before.before.before.before.first_white_lem.ensures c.before.before.before.before.before.before.before.before.before.before.before.before.white.given.1 c.before.before.before.before.before.before.before.before.before.trim-both.ensures c.before.before.before.before.before.before.signature-in.ensures c.before.before.before.before.named.given.1 c.before.before.before.before.before.before.before.before.before.before.before.before.before.before.before.before.before.args.raw c.before.before.shifted-name.ensures c.before.shifted.ensures c.settled.ensures
 
 pub method-from-spec : {M : Type 1} → statement M
 method-from-spec =

@@ -1,5 +1,5 @@
 use borrow.Author.Rules.{rules}
-use Rattle.load.proofs.Leaving.{left-loaded, left-refused, leaving}
+use Rattle.load.proofs.Leaving.{left_loaded, left_refused, leaving}
 -- `load::entry::load_lines` meets its contract, by the laws of Leaving.
 use Rattle.load.proofs.entry.load_lines.Statement.{statement}
 use Rattle.load.proofs.entry.load_lines.Tie as tie
@@ -50,7 +50,7 @@ same-length-3 : tie.Need-same-length-3
 same-length-3 c = search leaving
 
 returns : tie.Need-returns
-returns c = left-loaded c.before.before.before.before.before.before.before.before.before.before.before.before.before.before.before.before.before.clear.ensures c.before.before.before.before.before.before.before.before.before.before.before.before.lesser.ensures c.before.before.before.before.before.before.before.before.before.before.before.lesser2.ensures c.before.before.before.before.before.before.before.before.before.before.lesser3.ensures _ c.before.before.before.before.before.before.load-into.ensures c.before.is-loaded.ensures c.if1.true
+returns c = left_loaded c.before.before.before.before.before.before.before.before.before.before.before.before.before.before.before.before.before.clear.ensures c.before.before.before.before.before.before.before.before.before.before.before.before.lesser.ensures c.before.before.before.before.before.before.before.before.before.before.before.lesser2.ensures c.before.before.before.before.before.before.before.before.before.before.lesser3.ensures _ c.before.before.before.before.before.before.load-into.ensures c.before.is-loaded.ensures c.if1.true
 
 clear-requires-2 : tie.Need-clear-requires-2
 clear-requires-2 c κs = search leaving
@@ -65,7 +65,7 @@ same-length-6 : tie.Need-same-length-6
 same-length-6 c = search leaving
 
 returns-2 : tie.Need-returns-2
-returns-2 c = left-refused c.before.before.before.before.before.before.before.before.before.before.before.before.before.before.before.before.before.before.before.before.before.before.before.before.before.clear.ensures c.before.before.before.before.before.before.before.before.before.before.before.before.before.before.before.before.before.before.before.before.lesser.ensures c.before.before.before.before.before.before.before.before.before.before.before.before.before.before.before.before.before.before.before.lesser2.ensures c.before.before.before.before.before.before.before.before.before.before.before.before.before.before.before.before.before.before.lesser3.ensures _ c.before.before.before.before.before.before.before.before.before.before.before.before.before.before.load-into.ensures c.before.before.before.before.before.before.before.before.before.is-loaded.ensures c.before.before.before.before.before.before.before.before.if1.false (search rules) (search rules) (search rules) c.before.before.before.before.clear2.ensures
+returns-2 c = left_refused c.before.before.before.before.before.before.before.before.before.before.before.before.before.before.before.before.before.before.before.before.before.before.before.before.before.clear.ensures c.before.before.before.before.before.before.before.before.before.before.before.before.before.before.before.before.before.before.before.before.lesser.ensures c.before.before.before.before.before.before.before.before.before.before.before.before.before.before.before.before.before.before.before.lesser2.ensures c.before.before.before.before.before.before.before.before.before.before.before.before.before.before.before.before.before.before.lesser3.ensures _ c.before.before.before.before.before.before.before.before.before.before.before.before.before.before.load-into.ensures c.before.before.before.before.before.before.before.before.before.is-loaded.ensures c.before.before.before.before.before.before.before.before.if1.false (search rules) (search rules) (search rules) c.before.before.before.before.clear2.ensures
 
 pub load-lines-spec : {M : Type 1} → statement M
 load-lines-spec =

@@ -1,6 +1,6 @@
 -- `load_members::fill::write_members` meets its contract, by the laws of Filling, Adding and Behind and an invariant of what is done.
-use Rattle.load_members.proofs.Adding.{filling-room}
-use Rattle.load_members.proofs.Behind.{filling, filling-behind, filling-few, filling-skips, filling-read}
+use Rattle.load_members.proofs.Adding.{filling_room}
+use Rattle.load_members.proofs.Behind.{filling, filling_behind, filling_few, filling_skips, filling_read}
 use Rattle.load_members.proofs.Filling.{Filling}
 use Prim.Native.Nat.{◌-◌}
 use lib.ListN.{length}
@@ -106,16 +106,16 @@ returns-3 : tie.Need-returns-3 invariant-loop decreases-loop
 returns-3 c = search filling
 
 add_at : tie.Need-overflow-add-at invariant-loop decreases-loop
-add_at c = filling-behind c.before.before.before.before.before.before.before.before.before.before.before.before.before.before.before.before.before.before.before.loop.invariant _ c.before.before.before.before.before.before.before.before.before.before.before.before.before.before.before.before.before.next-step.ensures c.before.before.before.before.before.before.before.before.before.before.before.before.before.before.before.line.given.1 c.before.before.before.before.before.before.before.before.before.before.before.residual-after.ensures
+add_at c = filling_behind c.before.before.before.before.before.before.before.before.before.before.before.before.before.before.before.before.before.before.before.loop.invariant _ c.before.before.before.before.before.before.before.before.before.before.before.before.before.before.before.before.before.next-step.ensures c.before.before.before.before.before.before.before.before.before.before.before.before.before.before.before.line.given.1 c.before.before.before.before.before.before.before.before.before.before.before.residual-after.ensures
 
 with-passed-requires : tie.Need-with-passed-requires invariant-loop decreases-loop
-with-passed-requires c κs = (filling-room c.before.before.before.before.before.before.before.before.before.before.before.before.before.before.before.before.before.before.before.loop.invariant _ c.before.before.before.before.before.before.before.before.before.before.before.before.before.before.before.before.before.next-step.ensures c.before.before.before.before.before.before.before.before.before.before.before.before.before.before.before.line.given.1 c.before.before.before.before.before.before.before.before.before.before.before.before.before.counted2.ensures, filling-few c.before.before.before.before.before.before.before.before.before.before.before.before.before.before.before.before.before.before.before.loop.invariant _ c.before.before.before.before.before.before.before.before.before.before.before.before.before.before.before.before.before.next-step.ensures c.before.before.before.before.before.before.before.before.before.before.before.before.before.before.before.line.given.1 c.before.before.before.before.before.before.before.before.before.before.before.residual-after.ensures)
+with-passed-requires c κs = (filling_room c.before.before.before.before.before.before.before.before.before.before.before.before.before.before.before.before.before.before.before.loop.invariant _ c.before.before.before.before.before.before.before.before.before.before.before.before.before.before.before.before.before.next-step.ensures c.before.before.before.before.before.before.before.before.before.before.before.before.before.before.before.line.given.1 c.before.before.before.before.before.before.before.before.before.before.before.before.before.counted2.ensures, filling_few c.before.before.before.before.before.before.before.before.before.before.before.before.before.before.before.before.before.before.before.loop.invariant _ c.before.before.before.before.before.before.before.before.before.before.before.before.before.before.before.before.before.next-step.ensures c.before.before.before.before.before.before.before.before.before.before.before.before.before.before.before.line.given.1 c.before.before.before.before.before.before.before.before.before.before.before.residual-after.ensures)
 
 loop-less-2 : tie.Need-loop-smaller-2 invariant-loop decreases-loop
-loop-less-2 c = filling-skips c.before.before.before.before.before.before.before.before.before.before.before.before.before.before.before.before.before.before.before.before.loop.invariant _ c.before.before.before.before.before.before.before.before.before.before.before.before.before.before.before.before.before.before.next-step.ensures c.before.before.before.before.before.before.before.before.before.before.before.before.before.before.before.before.line.given.1 c.before.before.before.before.before.before.before.before.before.before.before.before.residual-after.ensures c.before.before.before.before.before.before.before.before.before.before.before.before.before.before.before.before.before.before.before.loop-test.true
+loop-less-2 c = filling_skips c.before.before.before.before.before.before.before.before.before.before.before.before.before.before.before.before.before.before.before.before.loop.invariant _ c.before.before.before.before.before.before.before.before.before.before.before.before.before.before.before.before.before.before.next-step.ensures c.before.before.before.before.before.before.before.before.before.before.before.before.before.before.before.before.line.given.1 c.before.before.before.before.before.before.before.before.before.before.before.before.residual-after.ensures c.before.before.before.before.before.before.before.before.before.before.before.before.before.before.before.before.before.before.before.loop-test.true
 
 loop-again-2 : tie.Need-loop-preserved-2 invariant-loop decreases-loop
-loop-again-2 c = filling-read c.before.before.before.before.before.before.before.before.before.before.before.before.before.before.before.before.before.before.before.before.loop.invariant _ c.before.before.before.before.before.before.before.before.before.before.before.before.before.before.before.before.before.before.next-step.ensures c.before.before.before.before.before.before.before.before.before.before.before.before.before.before.before.before.line.given.1 c.before.before.before.before.before.before.before.before.before.before.before.before.residual-after.ensures c.before.before.before.before.before.before.before.before.before.before.before.before.before.before.counted2.ensures _ _ _ c.before.before.before.before.before.before.before.before.before.enter-line.ensures c.before.before.before.before.next2.given.1 c.with-passed.ensures
+loop-again-2 c = filling_read c.before.before.before.before.before.before.before.before.before.before.before.before.before.before.before.before.before.before.before.before.loop.invariant _ c.before.before.before.before.before.before.before.before.before.before.before.before.before.before.before.before.before.before.next-step.ensures c.before.before.before.before.before.before.before.before.before.before.before.before.before.before.before.before.line.given.1 c.before.before.before.before.before.before.before.before.before.before.before.before.residual-after.ensures c.before.before.before.before.before.before.before.before.before.before.before.before.before.before.counted2.ensures _ _ _ c.before.before.before.before.before.before.before.before.before.enter-line.ensures c.before.before.before.before.next2.given.1 c.with-passed.ensures
 
 same-length-7 : tie.Need-same-length-7 invariant-loop decreases-loop
 same-length-7 c = search filling

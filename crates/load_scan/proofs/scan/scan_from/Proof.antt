@@ -77,7 +77,7 @@ use Rattle.load_scan.specs.Inner.Bounds.{Within}
 use Rattle.load_scan.specs.Inner.Steps.{scan_on}
 use Rattle.load_scan.specs.declared.scan.SoFar.{SoFar}
 use Rattle.load_scan.specs.declared.scan.SoFar.TheVariants.{Sound}
-use Rattle.load_scan.proofs.Turning.{Turning, turning_starts, turning_ends, turning-line, turning-asks, turning-nearer}
+use Rattle.load_scan.proofs.Turning.{Turning, turning_starts, turning_ends, turning_line, turning_asks, turning_nearer}
 use Rattle.load_scan.specs.contracts.scan.SoFar as Y
 use Rattle.load_scan.proofs.scan.SoFar.TheLaws as Y'
 use Rattle.load_scan.proofs.scan.begun.Symbol as begun-def
@@ -165,7 +165,7 @@ module _ {M : Type 1} {𝓤 : Ura M} (𝓛 : Logic 𝓤) (mem : Memory → SProp
   enters =
       qed 𝓛 (Lent ∷ ‵ (owns (ShrSlice (named 0) κ u8 ∷ usize ∷ F.the_row ∷ Boolean ∷ []) args vals) ∷ []) ∵
       move ! (1 ∷ []) $ fsplit ! $ move ! (1 ∷ []) $ leave ! $ use1 𝓛 (Own ⊛ Own) twice $ split ! $
-      move ! (0 ∷ 2 ∷ []) $ use2 𝓛 (raw ((LinesOf 𝓛 mem run).pre (R.to-new 𝓛 mem run κ q s))) (R.goes-new 𝓛 mem run κ q s) $ frame ! $ done !
+      move ! (0 ∷ 2 ∷ []) $ use2 𝓛 (raw ((LinesOf 𝓛 mem run).pre (R.to-new 𝓛 mem run κ q s))) (R.goes_new 𝓛 mem run κ q s) $ frame ! $ done !
 
   -- the answer promised
   abbrev all : Scan
@@ -190,7 +190,7 @@ module _ {M : Type 1} {𝓤 : Ura M} (𝓛 : Logic 𝓤) (mem : Memory → SProp
     w : Val
     is : IsReader κ r u
     is_x : IsSoFar x w
-    text-is : r.text ≡ s
+    text_is : r.text ≡ s
     turning : Turning s.now all r.at x
 
   abbrev Nearer : Stand → Stand → Type 0
@@ -200,7 +200,7 @@ module _ {M : Type 1} {𝓤 : Ura M} (𝓛 : Logic 𝓤) (mem : Memory → SProp
   Nearer-wf = InvImage.wf (λ (i : Stand). length s.now - i.r.at) lt-wf_rel.wf
 
   answered : (i : Stand) (t : NextLine) → Answer i.r t → next_line s.now i.r.at ≡ t
-  answered i t e = sym (e ∙ ap (λ (x : Bor (List ℕ)). next_line x.now i.r.at) i.text-is)
+  answered i t e = sym (e ∙ ap (λ (x : Bor (List ℕ)). next_line x.now i.r.at) i.text_is)
 
   -- after a line
   module _ (i : Stand) {a b c : ℕ} (e : next_line s.now i.r.at ≡ Line a b c) (x' : SoFar) (w' : Val) (is-x' : IsSoFar x' w') (g : More s a b i.x x')
@@ -213,12 +213,12 @@ module _ {M : Type 1} {𝓤 : Ura M} (𝓛 : Logic 𝓤) (mem : Memory → SProp
       w = w';
       is = is';
       is_x = is-x';
-      text-is = m.0 ∙ i.text-is;
-      turning = subst (λ (y : ℕ). Turning s.now all y x') (sym m.1) (subst (Turning s.now all c) (sym g) (turning-line i.turning e));
+      text_is = m.0 ∙ i.text_is;
+      turning = subst (λ (y : ℕ). Turning s.now all y x') (sym m.1) (subst (Turning s.now all c) (sym g) (turning_line i.turning e));
     }
 
     nearer : length s.now - r'.at < length s.now - i.r.at
-    nearer = subst (λ (y : ℕ). length s.now - y < length s.now - i.r.at) (sym m.1) (turning-nearer i.turning e)
+    nearer = subst (λ (y : ℕ). length s.now - y < length s.now - i.r.at) (sym m.1) (turning_nearer i.turning e)
 
   -- The loop. The locals _0 to _9 stand at l₀ to l₉, and _10 to _13 at m₀ to m₃.
   module _ (𝓣 : Tables 𝓤 H) (l₀ l₁ l₂ l₃ l₄ l₅ l₆ l₇ l₈ l₉ m₀ m₁ m₂ m₃ : ℕ) (fm : FmC 𝓤 H 𝓛.laws 𝓣.C) (known-line : Triple 𝓤 (𝓣.C #line) (TheLine 𝓛 mem run))
@@ -268,7 +268,7 @@ module _ {M : Type 1} {𝓤 : Ura M} (𝓛 : Logic 𝓤) (mem : Memory → SProp
         assigns ! (of_opd ! (load ! (from ! (vrt ! refl (fld ! refl (stop !)))) (look_in ! 7 (in_variant ! 0 2 refl refl (whole !))))) (from ! (stop !)) (init ! 11 refl (tt, record { fits = c-fits })) $
         move ! (2 ∷ []) $ use1 𝓛 (Own ⊛ Own) twice $ split ! $ move ! (0 ∷ 2 ∷ []) $
         use2 𝓛 (raw ((ScanLine 𝓛 mem run).pre (to-more 𝓛 mem run κ q s a b c i.x i.w)))
-        (goes-more 𝓛 mem run κ q s a b c i.x i.w a-fits b-fits c-fits i.is_x (turning-asks i.turning z ok.0)) $
+        (goes-more 𝓛 mem run κ q s a b c i.x i.w a-fits b-fits c-fits i.is_x (turning_asks i.turning z ok.0)) $
         -- [what `scan_line` asks; what the text owns; what the reader owns; _13; …]
         calls_at ! fm (ScanLine 𝓛 mem run) known_more (to-more 𝓛 mem run κ q s a b c i.x i.w)
         (and_then ! (load ! (from ! (stop !)) (look ! 27 refl)) (and_then ! (load ! (from ! (stop !)) (look ! 15 refl)) (and_then ! (load ! (from ! (stop !)) (look ! 13 refl))
@@ -304,7 +304,7 @@ module _ {M : Type 1} {𝓤 : Ura M} (𝓛 : Logic 𝓤) (mem : Memory → SProp
         assigns ! (of_opd ! (load ! (from ! (stop !)) (look ! 19 refl))) (from ! (stop !)) (init ! 5 refl (typed i.r i.u i.is)) $
         use1 𝓛 (‵ (Reader κ i.r i.u) ⊛ ‵ (Reader κ i.r i.u))
         ((LL.copy (T.the_type (named_lft 1 0 tt (κ, tt))) (T'.the_copy (named_lft 1 0 tt (κ, tt))) 𝓛).twice i.r (i.u ∷ [])) $ split ! $
-        move ! (0 ∷ 2 ∷ []) $ use2 𝓛 (raw ((TheLine 𝓛 mem run).pre (R.to-line 𝓛 mem run κ q i.r i.u))) (R.goes-line 𝓛 mem run κ q i.r i.u) $
+        move ! (0 ∷ 2 ∷ []) $ use2 𝓛 (raw ((TheLine 𝓛 mem run).pre (R.to-line 𝓛 mem run κ q i.r i.u))) (R.goes_line 𝓛 mem run κ q i.r i.u) $
         -- [what `line` asks; what the reader owns; what the text owns; _13; …]
         calls_at ! fm (TheLine 𝓛 mem run) known-line (R.to-line 𝓛 mem run κ q i.r i.u) (and_then ! (load ! (from ! (stop !)) (look ! 5 refl)) (no_more !)) (λ u'.
         R.gives_line 𝓛 mem run κ q i.r i.u ! tt u' (λ t e is'.
@@ -324,7 +324,7 @@ module _ {M : Type 1} {𝓤 : Ura M} (𝓛 : Logic 𝓤) (mem : Memory → SProp
     w = w;
     is = is;
     is_x = is_x;
-    text-is = m.0 ∙ e.0;
+    text_is = m.0 ∙ e.0;
     turning = subst (λ (y : ℕ). Turning s.now all y x) (sym m.1) (subst (Turning s.now all fr) (sym z) (turning_starts s.now fr f has ok.1 ok.2));
   }
 
@@ -344,7 +344,7 @@ module _ {M : Type 1} {𝓤 : Ura M} (𝓛 : Logic 𝓤) (mem : Memory → SProp
         pass1 ! (init ! 20 refl ((LL.lawful F.the_type F'.the_laws 𝓛).typed f _ is_f).0) $ pass1 ! (init ! 18 refl (tt, tt)) $ pass0 ! $
         move ! (28 ∷ []) $ use1 𝓛 (raw ((LinesOf 𝓛 mem run).pre (R.to-new 𝓛 mem run κ q s)) ⊛ Own) enters $ split ! $
         calls_at ! fm (LinesOf 𝓛 mem run) known-new (R.to-new 𝓛 mem run κ q s) (and_then ! (load ! (from ! (stop !)) (look ! 26 refl)) (no_more !)) (λ u₀.
-        R.gives-new 𝓛 mem run κ q s ! tt u₀ (λ r₀ e is₀.
+        R.gives_new 𝓛 mem run κ q s ! tt u₀ (λ r₀ e is₀.
         -- [what the reader owns; the token; what the text owns; _13; …; _0; …]
         land ! (from ! (stop !)) (init ! 9 refl (typed r₀ u₀ is₀)) $
         use2 𝓛 (raw ((Moved 𝓛 mem run).pre (R.to-moved 𝓛 mem run κ q r₀ u₀ fr))) (R.goes_moved 𝓛 mem run κ q r₀ u₀ fr fr-fits) $

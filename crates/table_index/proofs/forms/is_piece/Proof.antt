@@ -1,5 +1,5 @@
 -- `table_index::forms::is_piece` meets its contract, by the laws of Spelling.
-use Rattle.table_index.proofs.Spelling.{sameness, alike-more}
+use Rattle.table_index.proofs.Spelling.{sameness, alike_more}
 use Prim.Native.Nat.{◌-◌}
 use lib.ListN.{length}
 use Rattle.table_index.specs.Inner.Order.{AlikeTo}
@@ -54,7 +54,7 @@ loop-again c =
     let even = c.before.before.before.before.before.before.before.if2.false in
     let byte = c.before.stored-byte.ensures in
     let alike = c.before.before.before.before.before.loop.invariant in
-    alike-more _ _ _ long even alike c.before.before.before.before.loop-test.true byte c.if3.false
+    alike_more _ _ _ long even alike c.before.before.before.before.loop-test.true byte c.if3.false
 
 shared-slice-read-if4 : tie.Need-shared-slice-read-if4 invariant-loop decreases-loop
 shared-slice-read-if4 c = search sameness

@@ -1,5 +1,5 @@
 -- `table_index::insert::insert_row` meets its contract, by the laws of Filing.
-use Rattle.table_index.proofs.Filing.{filing, shelf-ranked}
+use Rattle.table_index.proofs.Filing.{filing, shelf_ranked}
 use Rattle.table_index.proofs.insert.insert_row.Statement.{statement}
 use Rattle.table_index.proofs.insert.insert_row.Tie as tie
 
@@ -22,7 +22,7 @@ place-for-requires : tie.Need-place-for-requires
 place-for-requires c κs =
     let begun = c.before.before.before.before.before.before.before in
     let headed = c.before.before.before.wide-number.ensures in
-    (shelf-ranked begun.requires.0 begun.requires.1 headed c.before.shelf-at.ensures, begun.requires.1)
+    (shelf_ranked begun.requires.0 begun.requires.1 headed c.before.shelf-at.ensures, begun.requires.1)
 
 file-row-requires : tie.Need-file-row-requires
 file-row-requires c κs = search filing

@@ -1,6 +1,6 @@
 -- `table_index::make::index_classes` meets its contract, by the laws of Filing.
 use Rattle.table_index.proofs.Filing.{making}
-use Rattle.table_index.proofs.Laying.{laid-shelved}
+use Rattle.table_index.proofs.Laying.{laid_shelved}
 use Rattle.table_index.proofs.make.index_classes.Statement.{statement}
 use Rattle.table_index.proofs.make.index_classes.Tie as tie
 
@@ -13,7 +13,7 @@ lay-shelves-requires c κs = search making
 insert-rows-requires : tie.Need-insert-rows-requires
 insert-rows-requires c κs =
     let grouped = c.before.before.before.before.before.before.before.group-rows.ensures in
-    laid-shelved grouped _ c.before.before.before.lay-shelves.ensures
+    laid_shelved grouped _ c.before.before.before.lay-shelves.ensures
 
 same_length : tie.Need-same-length
 same_length c = search making

@@ -1,5 +1,5 @@
 -- `table_index::search::last_named` meets its contract, by the laws of Searching.
-use Rattle.table_index.proofs.Searching.{searching, search-ranked}
+use Rattle.table_index.proofs.Searching.{searching, search_ranked}
 use Rattle.table_index.proofs.search.last_named.Statement.{statement}
 use Rattle.table_index.proofs.search.last_named.Tie as tie
 
@@ -37,7 +37,7 @@ last-between-requires : tie.Need-last-between-requires
 last-between-requires c κs =
     let begun = c.before.before.before.before.before.before.before.before.before in
     let sized = c.before.before.before.before.before.if1.false in
-    search-ranked begun.requires sized _ c.before.before.before.before.mark_of.ensures c.before.before.wide-number.ensures
+    search_ranked begun.requires sized _ c.before.before.before.before.mark_of.ensures c.before.before.wide-number.ensures
     c.before.if2.false
     c.shelf-at.ensures
 

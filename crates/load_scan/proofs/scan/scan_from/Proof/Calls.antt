@@ -78,31 +78,31 @@ module _ {M : Type 1} {𝓤 : Ura M} (𝓛 : Logic 𝓤) (mem : Memory → SProp
     abbrev pub to-begun : (Begun 𝓛 mem run).Ghost
     to-begun = ((tt, tt, tt, (f, (member, tt)), (fates_val f ∷ [], (vbool member ∷ [], tt))), tt)
 
-    pub goes-begun : IsFates f → ent 𝓤 (⋆ 𝓛 []) ((Begun 𝓛 mem run).pre to-begun)
-    goes-begun is =
+    pub goes_begun : IsFates f → ent 𝓤 (⋆ 𝓛 []) ((Begun 𝓛 mem run).pre to-begun)
+    goes_begun is =
         qed 𝓛 [] ∵ nothing ! $ owned ! Boolean (Is Boolean) (bool_Makes 𝓛) member (vbool member ∷ []) refl $ fjoin ! $
         owned ! F.the_row (Is F.the_row) (LL.makes F.the_type F'.the_plain 𝓛) f _ is $ fjoin ! $ nothing ! $ join ! $ frame ! $ done !
 
     abbrev said-begun : SoFar → SProp 𝓤
     said-begun x = ensured 𝓛 begun.ended (begun.clauses 𝓛 mem run) tt (f, (member, tt)) tt x
 
-    begun-says : (x : SoFar) → ent 𝓤 (said-begun x) (fact 𝓤 (x ≡ Sound f member))
-    begun-says x = ex_e 𝓤 _ (λ ws. snd∗ 𝓤 (sem 𝓛 (lasts begun.ended tt (f, (member, tt)) ws)) (fact 𝓤 (x ≡ Sound f member)))
+    begun_says : (x : SoFar) → ent 𝓤 (said-begun x) (fact 𝓤 (x ≡ Sound f member))
+    begun_says x = ex_e 𝓤 _ (λ ws. snd∗ 𝓤 (sem 𝓛 (lasts begun.ended tt (f, (member, tt)) ws)) (fact 𝓤 (x ≡ Sound f member)))
 
-    pub gives-begun : {K : Type 0} {Γ : List (Item 𝓤)} {G : Goal 𝓤 H} → K → Soaks G → (w : Val) →
+    pub gives_begun : {K : Type 0} {Γ : List (Item 𝓤)} {G : Goal 𝓤 H} → K → Soaks G → (w : Val) →
         ((x : SoFar) → x ≡ Sound f member → IsSoFar x w → Seq K 𝓛 Γ G) → Seq K 𝓛 (raw ((Begun 𝓛 mem run).post to-begun w) ∷ Γ) G
-    gives-begun k soaks w rest =
+    gives_begun k soaks w rest =
         use1 𝓛 (later (some (λ (x : SoFar). (‵ ftrue ⊛ ‵ ((Y.the_row).own_val x (w ∷ []))) ⊛ raw (said-begun x)))) (id⊢ 𝓤 _) $
-        tells k soaks Y.the_row (‵ ftrue) w said-begun (λ x. x ≡ Sound f member) begun-says (λ x e is. drop k $ rest x e is)
+        tells k soaks Y.the_row (‵ ftrue) w said-begun (λ x. x ≡ Sound f member) begun_says (λ x e is. drop k $ rest x e is)
 
   -- `scan_line`, at the line from a to e of the text s, where the next one starts at n, and what became of the lines so far
   module _ (κ : Lft) (q : Share) (s : Bor (List ℕ)) (a e n : ℕ) (x : SoFar) (w : Val) where
     abbrev pub to-more : (ScanLine 𝓛 mem run).Ghost
     to-more = (((κ, tt), (q, tt), tt, (s, (a, (e, (n, (x, tt))))), (text_val s ∷ [], (vint w64 a ∷ [], (vint w64 e ∷ [], (vint w64 n ∷ [], (w ∷ [], tt)))))), tt)
 
-    pub goes-more : a < 2 ^ 64 → e < 2 ^ 64 → n < 2 ^ 64 → IsSoFar x w → Asked s a e x →
+    pub goes_more : a < 2 ^ 64 → e < 2 ^ 64 → n < 2 ^ 64 → IsSoFar x w → Asked s a e x →
         ent 𝓤 (⋆ 𝓛 (‵ (Text κ s) ∷ Token κ q ∷ [])) ((ScanLine 𝓛 mem run).pre to-more)
-    goes-more a-fits e-fits n-fits is asked =
+    goes_more a-fits e-fits n-fits is asked =
         qed 𝓛 (‵ (Text κ s) ∷ Token κ q ∷ []) ∵ says ! asked $ move ! (1 ∷ []) $ frame ! $
         nothing ! $ owned ! Y.the_row (Is Y.the_row) (EL.makes Y.the_type Y'.the_plain 𝓛) x _ is $ fjoin ! $
         owned ! usize (Is usize) (uint_Makes 𝓛 w64) n _ (refl, n-fits) $ fjoin ! $ owned ! usize (Is usize) (uint_Makes 𝓛 w64) e _ (refl, e-fits) $ fjoin ! $
@@ -111,31 +111,31 @@ module _ {M : Type 1} {𝓤 : Ura M} (𝓛 : Logic 𝓤) (mem : Memory → SProp
     abbrev said_more : SoFar → SProp 𝓤
     said_more x' = ensured 𝓛 scan_line.ended (scan_line.clauses 𝓛 mem run) (κ, tt) (s, (a, (e, (n, (x, tt))))) tt x'
 
-    more-says : (x' : SoFar) → ent 𝓤 (said_more x') (fact 𝓤 (More s a e x x'))
-    more-says x' = ex_e 𝓤 _ (λ ws. snd∗ 𝓤 (sem 𝓛 (lasts scan_line.ended (κ, tt) (s, (a, (e, (n, (x, tt))))) ws)) (fact 𝓤 (More s a e x x')))
+    more_says : (x' : SoFar) → ent 𝓤 (said_more x') (fact 𝓤 (More s a e x x'))
+    more_says x' = ex_e 𝓤 _ (λ ws. snd∗ 𝓤 (sem 𝓛 (lasts scan_line.ended (κ, tt) (s, (a, (e, (n, (x, tt))))) ws)) (fact 𝓤 (More s a e x x')))
 
     pub gives_more : {K : Type 0} {Γ : List (Item 𝓤)} {G : Goal 𝓤 H} → K → Soaks G → (w' : Val) →
         ((x' : SoFar) → More s a e x x' → IsSoFar x' w' → Seq K 𝓛 (Token κ q ∷ Γ) G) → Seq K 𝓛 (raw ((ScanLine 𝓛 mem run).post to-more w') ∷ Γ) G
     gives_more k soaks w' rest =
         use1 𝓛 (later (some (λ (x' : SoFar). (Token κ q ⊛ ‵ ((Y.the_row).own_val x' (w' ∷ []))) ⊛ raw (said_more x')))) (id⊢ 𝓤 _) $
-        tells k soaks Y.the_row (Token κ q) w' said_more (More s a e x) more-says rest
+        tells k soaks Y.the_row (Token κ q) w' said_more (More s a e x) more_says rest
 
   -- `ended`
   module _ (x : SoFar) (w : Val) where
     abbrev pub to-ended : (Ended 𝓛 mem run).Ghost
     to-ended = ((tt, tt, tt, (x, tt), (w ∷ [], tt)), tt)
 
-    pub goes-ended : IsSoFar x w → ent 𝓤 (⋆ 𝓛 []) ((Ended 𝓛 mem run).pre to-ended)
-    goes-ended is = qed 𝓛 [] ∵ nothing ! $ owned ! Y.the_row (Is Y.the_row) (EL.makes Y.the_type Y'.the_plain 𝓛) x _ is $ fjoin ! $ nothing ! $ join ! $ frame ! $ done !
+    pub goes_ended : IsSoFar x w → ent 𝓤 (⋆ 𝓛 []) ((Ended 𝓛 mem run).pre to-ended)
+    goes_ended is = qed 𝓛 [] ∵ nothing ! $ owned ! Y.the_row (Is Y.the_row) (EL.makes Y.the_type Y'.the_plain 𝓛) x _ is $ fjoin ! $ nothing ! $ join ! $ frame ! $ done !
 
     abbrev said-ended : Scan → SProp 𝓤
     said-ended y = ensured 𝓛 ended.ended (ended.clauses 𝓛 mem run) tt (x, tt) tt y
 
-    ended-says : (y : Scan) → ent 𝓤 (said-ended y) (fact 𝓤 (y ≡ scan_so_far x))
-    ended-says y = ex_e 𝓤 _ (λ ws. snd∗ 𝓤 (sem 𝓛 (lasts ended.ended tt (x, tt) ws)) (fact 𝓤 (y ≡ scan_so_far x)))
+    ended_says : (y : Scan) → ent 𝓤 (said-ended y) (fact 𝓤 (y ≡ scan_so_far x))
+    ended_says y = ex_e 𝓤 _ (λ ws. snd∗ 𝓤 (sem 𝓛 (lasts ended.ended tt (x, tt) ws)) (fact 𝓤 (y ≡ scan_so_far x)))
 
-    pub gives-ended : {K : Type 0} {Γ : List (Item 𝓤)} {G : Goal 𝓤 H} → K → Soaks G → (v : Val) →
+    pub gives_ended : {K : Type 0} {Γ : List (Item 𝓤)} {G : Goal 𝓤 H} → K → Soaks G → (v : Val) →
         ((y : Scan) → y ≡ scan_so_far x → Is P.the_row y (v ∷ []) → Seq K 𝓛 Γ G) → Seq K 𝓛 (raw ((Ended 𝓛 mem run).post to-ended v) ∷ Γ) G
-    gives-ended k soaks v rest =
+    gives_ended k soaks v rest =
         use1 𝓛 (later (some (λ (y : Scan). (‵ ftrue ⊛ ‵ ((P.the_row).own_val y (v ∷ []))) ⊛ raw (said-ended y)))) (id⊢ 𝓤 _) $
-        tells k soaks P.the_row (‵ ftrue) v said-ended (λ y. y ≡ scan_so_far x) ended-says (λ y e is. drop k $ rest y e is)
+        tells k soaks P.the_row (‵ ftrue) v said-ended (λ y. y ≡ scan_so_far x) ended_says (λ y e is. drop k $ rest y e is)
