@@ -1,4 +1,6 @@
 // Applying a mapping to a tree file.
+#![tactic(auto)]
+
 mod entry;
 mod fill;
 

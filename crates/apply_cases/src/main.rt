@@ -5,6 +5,8 @@
 //     NAME: refused 13                       the number that document 01 gives it
 //     NAME: applied 46                       the output's length; a second line follows with so many of its bytes
 //     0100000001000000010000000200..
+#![tactic(auto)]
+
 use libc::STDIN_FILENO;
 use text_places::NextLine;
 

@@ -1,4 +1,6 @@
 // Class pieces of descriptors that are known: the first one, a descriptor with all of them shown, and notes about the names of a tree.
+#![tactic(auto)]
+
 mod ahead;
 mod groups;
 mod known;

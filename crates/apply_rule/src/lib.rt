@@ -1,4 +1,5 @@
 // What applying a mapping to a tree answers. The rule of applying stands in specs/; this crate has no function.
+#![tactic(auto)]
 
 // A tree file, and what is made of it, may have so many bytes.
 pub const MOST_TREE: usize = 4194304;

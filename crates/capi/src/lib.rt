@@ -1,4 +1,6 @@
 // The C functions that a service calls. Each takes any bytes and any slices, and writes its answer as numbers.
+#![tactic(auto)]
+
 mod applying;
 mod loading;
 mod members;

@@ -1,5 +1,7 @@
 // C functions over descriptors, for differential runs. Each writes its answer as numbers; those that write into a room: 1 and the place
 // after the last byte written, or zeros where there is no room. What a room holds then is the caller's to clear.
+#![tactic(auto)]
+
 ghost use Rattle.std.specs.Prelude.{◌≡◌};
 ghost use Rattle.table_pool.specs.Names.{class_descriptor};
 ghost use Rattle.descriptor.specs.Types.{shape_of};

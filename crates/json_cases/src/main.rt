@@ -6,6 +6,8 @@
 //     NAME: id other, signature missing         a value that is no string
 //
 // After an id that is the one of a residual signature stands ` (residual)`.
+#![tactic(auto)]
+
 use libc::STDIN_FILENO;
 use text_places::NextLine;
 

@@ -1,5 +1,7 @@
 // What a JSON string stands for: how long it is, whether it is a given text, and its bytes written into a lent slice. A string without
 // escapes stands for its own bytes.
+#![tactic(auto)]
+
 mod compare;
 mod length;
 mod octets;

@@ -1,4 +1,6 @@
 // C functions over comments and the strings in them, for differential runs and for timing. Each writes its answer as numbers.
+#![tactic(auto)]
+
 ghost use Rattle.std.specs.Prelude.{◌≡◌, length, drop};
 ghost use Rattle.ground.specs.Choice.{bit};
 ghost use Rattle.json_grammar.specs.Reader.{chars_from};

@@ -1,4 +1,6 @@
 // Strings of JSON (RFC 8259, section 7) by places in a text. Every function takes any bytes and any place, and ends.
+#![tactic(auto)]
+
 mod after;
 mod plain;
 mod string;

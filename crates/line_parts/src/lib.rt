@@ -1,5 +1,7 @@
 // The parts of a class line and of a member line: both sides of the arrow, a field, a method. Every public function but those that only
 // move places takes any bytes; `method_parts` is told where their first `(` stands.
+#![tactic(auto)]
+
 mod arguments;
 mod arrow;
 mod field;

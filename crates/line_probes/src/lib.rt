@@ -1,4 +1,6 @@
 // C functions over a line of a mapping file, for differential runs and for timing. Each writes its answer as numbers.
+#![tactic(auto)]
+
 mod lines;
 mod methods;
 

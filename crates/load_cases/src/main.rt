@@ -5,6 +5,8 @@
 //     NAME: refused 4 line 1                 the line that the loading program prints
 //     NAME: loaded lines 5 blank 1 ..        where it is loaded, a second line follows with the used pool as it stands
 //     Lx;La/Main;bInc(Lx;)VrunLa/Main;
+#![tactic(auto)]
+
 use libc::STDIN_FILENO;
 use text_places::NextLine;
 

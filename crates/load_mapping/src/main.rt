@@ -1,4 +1,6 @@
 // The loading program: reads a mapping file from standard input, and writes one line that says what became of it.
+#![tactic(auto)]
+
 use libc::{STDIN_FILENO, STDOUT_FILENO};
 
 mod answer;

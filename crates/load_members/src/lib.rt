@@ -1,4 +1,6 @@
 // Member rows, written with their texts while the lines of a text are read.
+#![tactic(auto)]
+
 mod enter;
 mod fill;
 mod passed;

@@ -1,4 +1,6 @@
 // What the loading program prints.
+#![tactic(auto)]
+
 mod decimal;
 mod printing;
 

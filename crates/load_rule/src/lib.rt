@@ -1,4 +1,5 @@
 // What loading a mapping answers. The rule of loading stands in specs/; this crate has no function.
+#![tactic(auto)]
 
 // A text may have so many bytes.
 pub const MOST_TEXT: usize = 1048576;

@@ -1,4 +1,6 @@
 // The texts of a member, written into the pool behind the descriptors of all classes.
+#![tactic(auto)]
+
 mod descriptors;
 mod texts;
 

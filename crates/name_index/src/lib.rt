@@ -1,4 +1,6 @@
 // An index of member rows, for whoever looks up often. It answers as looking at each row does.
+#![tactic(auto)]
+
 mod chained;
 mod chains;
 mod lines;

@@ -1,4 +1,6 @@
 // Members: the display names of fields and methods, and the display lines of methods. Every function takes any tables.
+#![tactic(auto)]
+
 mod names;
 mod rows;
 

@@ -1,4 +1,6 @@
 // C functions over look-ups by an index, for differential runs and timings.
+#![tactic(auto)]
+
 ghost use Rattle.std.specs.Prelude.{◌≡◌, ◌≤◌, length};
 ghost use Rattle.table_rows.specs.Rows.{most_members};
 ghost use Rattle.table_rows.specs.Tables.{tables};

@@ -1,4 +1,6 @@
 // Numbers and ranges of line numbers, as document 01 "Method" has them.
+#![tactic(auto)]
+
 mod range;
 mod read;
 

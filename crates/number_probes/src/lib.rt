@@ -1,4 +1,6 @@
 // C functions over numbers and ranges, for differential runs and for timing. Each writes its answer as numbers.
+#![tactic(auto)]
+
 ghost use Rattle.std.specs.Prelude.{◌≡◌};
 ghost use Rattle.number.specs.Numbers.{number_of};
 ghost use Rattle.number.specs.Ranges.{leading_range, trailing_range};

@@ -1,5 +1,7 @@
 // An index of class rows by one of their descriptors. A search asks only rows with the mark of what is looked for, and halves these, so
 // that no text makes it slow.
+#![tactic(auto)]
+
 mod blocks;
 mod forms;
 mod group;

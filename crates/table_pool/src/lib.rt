@@ -1,5 +1,7 @@
 // Texts, class names and class descriptors, written into a lent pool at a place. Every public function takes any bytes; `put_copy` asks
 // that the text stands before the place.
+#![tactic(auto)]
+
 mod names;
 mod write;
 

@@ -1,4 +1,6 @@
 // Rows by value, and rows and bytes made zero.
+#![tactic(auto)]
+
 mod rows;
 mod zero;
 

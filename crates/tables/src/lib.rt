@@ -1,4 +1,6 @@
 // Tables: the texts that rows name, the check for refusal 14, and the last row with a descriptor.
+#![tactic(auto)]
+
 mod check;
 mod search;
 mod texts;

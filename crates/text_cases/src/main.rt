@@ -5,6 +5,8 @@
 //     before 1:3:void  the range before a method:        1 to 3, rest at 4
 //     after :10:x      the range after a method's `)`:   10 to 10, short
 //     # a comment, or nothing: written as it is
+#![tactic(auto)]
+
 use libc::STDIN_FILENO;
 use text_places::NextLine;
 

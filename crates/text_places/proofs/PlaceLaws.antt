@@ -165,7 +165,7 @@ no_pair a b [] h = refl
 no_pair a b (x ∷ []) h = both_false (eqb x a)
 no_pair a b (x ∷ (y ∷ l)) h = absurd (omega arith)
 
-module _ {a b : ℕ} {s : List ℕ} {at : ℕ} (k : Seeking (starts_pair a b) s at) where
+module _ (a b : ℕ) {s : List ℕ} {at : ℕ} (k : Seeking (starts_pair a b) s at) where
   pub pair_ends : length s ≤ at + 1 → Nowhere ≡ first_where (starts_pair a b) s
   pair_ends h = go (le_or_lt (length s) at)
     where

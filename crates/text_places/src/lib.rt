@@ -1,5 +1,7 @@
 // Places of bytes in a text, its parts and its lines, and whether two texts are the same. Every function takes any bytes but `shifted`,
 // which moves a part.
+#![tactic(auto)]
+
 mod blocks;
 mod find;
 mod lines;

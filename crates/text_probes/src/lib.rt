@@ -1,4 +1,6 @@
 // C functions over characters, white space, places and lines, for differential runs and for timing. Each writes its answer as numbers.
+#![tactic(auto)]
+
 ghost use Rattle.std.specs.Prelude.{◌≡◌, ◌<◌, ◌^◌, drop};
 ghost use Rattle.ground.specs.Choice.{bit};
 ghost use Rattle.text_utf8.specs.Utf8.{sequence_of, check_of};

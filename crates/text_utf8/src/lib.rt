@@ -1,4 +1,6 @@
 // UTF-8. Every function takes any bytes.
+#![tactic(auto)]
+
 mod ascii;
 mod check;
 mod sequence;

@@ -1,6 +1,8 @@
 // White space: which characters are, and a text without those at its ends.
 //
 // Every function takes any bytes. What it gives on a text that is not UTF-8 is said by its rule in specs/.
+#![tactic(auto)]
+
 mod inks;
 mod trim;
 mod white;

@@ -1,5 +1,7 @@
 // The checks of a tree file, in document 01's order, for refusal 12. `well_formed_tree` takes any bytes; a check by itself requires that
 // the checks which it rests on have passed.
+#![tactic(auto)]
+
 mod names;
 mod nodes;
 mod tokens;

@@ -1,4 +1,6 @@
 // C functions over tree files, for differential runs and for timing.
+#![tactic(auto)]
+
 ghost use Rattle.std.specs.Prelude.{◌≡◌};
 ghost use Rattle.ground.specs.Choice.{bit};
 ghost use Rattle.tree_rule.specs.Checks.{well_formed_file};

@@ -1,5 +1,6 @@
 // Tree files: what their rule speaks of, and what their checks and the search for a signature answer. The rule stands in specs/; this crate
 // has no function.
+#![tactic(auto)]
 
 // The numbers at the head of a tree file: how many node rows, token rows, name rows and name bytes there are.
 #[derive(Drop)]

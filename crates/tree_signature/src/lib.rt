@@ -1,5 +1,7 @@
 // The signature of a node of a well_formed_lem tree file: the member that it names. Functions take the counts of the file and the numbers of
 // tokens, and require that the file has passed its checks.
+#![tactic(auto)]
+
 mod signature;
 mod token;
 

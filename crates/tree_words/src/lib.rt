@@ -1,5 +1,7 @@
 // The words of a tree file: numbers, counts, rows, and the texts of names. Functions that read at a place require that what they read
 // lies in the file; those that say where a stretch starts take any counts.
+#![tactic(auto)]
+
 mod layout;
 mod put;
 mod rows;
