@@ -17,7 +17,7 @@ use tables::Found;
 use text_places::same_text;
 use tree_signature::starts_as;
 
-#[derive(Drop)]
+#[derive(Clone, Copy)]
 pub struct MemberNote {
     // The row whose name is shown.
     pub named: u32,
@@ -27,7 +27,7 @@ pub struct MemberNote {
     pub lines: u32,
 }
 
-fn row_number_lem(found: Found) -> u32
+fn row_number(found: Found) -> u32
     requires { noted_row found ≤ most_members }
     ensures { result ≡ noted_row found }
 {
@@ -76,7 +76,7 @@ fn method_note(
     requires { (class < length classes.now) × (noted_row found ≤ length members.now) × (length members.now ≤ most_members) }
     ensures { result ≡ found_note classes.now members.now pool.now class found home }
 {
-    let named = row_number_lem(found);
+    let named = row_number(found);
     let Found::Row(row) = found else {
         return MemberNote {
             named,
@@ -142,7 +142,7 @@ pub fn member_note(
         return method_note(classes, members, pool, class, found, home);
     }
     MemberNote {
-        named: row_number_lem(found),
+        named: row_number(found),
         inherits: true,
         lines: 0,
     }

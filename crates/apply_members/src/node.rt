@@ -23,7 +23,7 @@ use tree_rule::{NodeSignature, Owner, TreeCounts};
 use tree_signature::node_signature;
 use tree_words::{name_text, names_start, tokens_start, word_at};
 
-#[derive(Drop)]
+#[derive(Clone, Copy)]
 pub struct NodeNote {
     // The token that is the member's name, by its number.
     pub member: usize,

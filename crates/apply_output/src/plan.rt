@@ -5,7 +5,7 @@ ghost use Rattle.apply_output.specs.Inner.Plan.{PlanReady, plan_at};
 use tree_rule::TreeCounts;
 use tree_words::{bytes_start, names_start, word_at};
 
-#[derive(Drop)]
+#[derive(Clone, Copy)]
 pub enum Plan {
     // A text of the pool.
     InPool {

@@ -14,7 +14,7 @@ use tables::Found;
 use text_places::{Place, first_byte};
 
 // What stands ahead of a place: the first known piece, the place behind the first `;`, or 0, and the first known piece behind that `;`.
-#[derive(Drop)]
+#[derive(Clone, Copy)]
 pub struct Ahead {
     pub known: Note,
     pub past: u32,

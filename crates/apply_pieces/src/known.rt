@@ -10,14 +10,14 @@ use tables::Found;
 use text_places::{Place, first_byte};
 
 // A class piece by where it starts, and the last class row that has it as its raw descriptor.
-#[derive(Drop)]
+#[derive(Clone, Copy)]
 pub enum KnownPiece {
     At { start: usize, row: usize },
     Nowhere,
 }
 
 // A class piece by where it starts, and the place behind it.
-#[derive(Drop)]
+#[derive(Clone, Copy)]
 pub enum NextPiece {
     At { start: usize, end: usize },
     Nowhere,

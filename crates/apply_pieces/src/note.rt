@@ -13,7 +13,7 @@ use table_rows::ClassRow;
 use tree_words::put_word;
 
 // The first known piece of a text: one more than the place where it starts, and its row. Where there is none both are 0.
-#[derive(Drop)]
+#[derive(Clone, Copy)]
 pub struct Note {
     pub start: u32,
     pub row: u32,

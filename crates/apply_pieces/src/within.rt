@@ -4,7 +4,7 @@ ghost use Rattle.apply_pieces.specs.Inner.Within.{WithinBy};
 
 use text_places::{Place, first_byte};
 
-#[derive(Drop)]
+#[derive(Clone, Copy)]
 pub enum Within {
     // It ends by the place.
     Closed { start: usize, end: usize },

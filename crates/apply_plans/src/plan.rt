@@ -13,7 +13,7 @@ use table_rows::{ClassRow, MemberRow, unpack_class, unpack_member};
 use tree_rule::TreeCounts;
 use tree_words::{name_text, names_start, tokens_start, word_at};
 
-#[derive(Drop)]
+#[derive(Clone, Copy)]
 pub enum Plan {
     Stays,
     // A line is put there.

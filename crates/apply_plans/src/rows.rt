@@ -10,7 +10,7 @@ use tree_rule::TreeCounts;
 use tree_words::{bytes_start, put_word, tokens_start, word_at};
 
 // How many names are planned, or that there is no room for their rows.
-#[derive(Drop)]
+#[derive(Clone, Copy)]
 pub enum Planned {
     Done(usize),
     NoRoom,

@@ -4,7 +4,7 @@
 // A tree file, and what is made of it, may have so many bytes.
 pub const MOST_TREE: usize = 4194304;
 
-#[derive(Drop)]
+#[derive(Clone, Copy)]
 pub enum Applied {
     // How long the output is.
     Done(u32),

@@ -6,14 +6,14 @@ use text_places::same_bytes;
 use text_white::trim_both;
 
 // Where a type ends without the `[]`s at its end, and how many they are.
-#[derive(Drop)]
+#[derive(Clone, Copy)]
 pub struct Stripped {
     pub end: usize,
     pub brackets: usize,
 }
 
 // What a type is without its `[]`s.
-#[derive(Drop)]
+#[derive(Clone, Copy)]
 pub enum Base {
     // One of the nine Java words, by its letter.
     Letter(u8),
@@ -24,7 +24,7 @@ pub enum Base {
 }
 
 // A type: how many `[]`s it has, what the rest is, and where that stands.
-#[derive(Drop)]
+#[derive(Clone, Copy)]
 pub struct TypeShape {
     pub brackets: usize,
     pub start: usize,

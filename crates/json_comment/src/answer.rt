@@ -10,7 +10,7 @@ use json_string::After;
 use json_values::{Member, member_at, skip_space, structural_at};
 
 // What stands last under a name.
-#[derive(Drop)]
+#[derive(Clone, Copy)]
 pub enum Stands {
     Missing,
     // A value that is no string.
@@ -19,7 +19,7 @@ pub enum Stands {
     Text(usize),
 }
 
-#[derive(Drop)]
+#[derive(Clone, Copy)]
 pub enum Comment {
     Unreadable,
     Readable { id: Stands, signature: Stands },

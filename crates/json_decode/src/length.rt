@@ -7,7 +7,7 @@ ghost use Rattle.json_decode.specs.Decoded.{decoded_length};
 use json_string::{Piece, piece_at};
 
 // How many bytes a string stands for.
-#[derive(Drop)]
+#[derive(Clone, Copy)]
 pub enum Decoded {
     Bytes(usize),
     NoString,

@@ -9,7 +9,7 @@ use crate::length::{Decoded, decoded_length, utf8_length};
 use crate::octets::put_octets;
 use json_string::{Piece, piece_at};
 
-#[derive(Drop)]
+#[derive(Clone, Copy)]
 pub enum Written {
     // All bytes are written; the place after them.
     Done(usize),

@@ -28,6 +28,7 @@ unreadable s e j = let (xs, n, f) = json_all j in let z : ◌≡◌ {A = ℕ} 0 
 
 -- The last member with a name. There is one such value at most
 pub unnamed_none : {k : List ℕ} {m : Meaning} {ns : List Named} → Unnamed k ns → Last k m ns → ⊥
+unnamed_none {k = k} {m = m} nobody x3 = elim x3 [ ]
 unnamed_none (nor f u) (this e v w) = f e
 unnamed_none (nor f u) (later l) = unnamed_none u l
 

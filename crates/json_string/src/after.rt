@@ -1,5 +1,5 @@
 // Where reading goes on, or that there was nothing of the kind.
-#[derive(Drop)]
+#[derive(Clone, Copy)]
 pub enum After {
     Next(usize),
     Unread,

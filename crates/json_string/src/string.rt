@@ -8,7 +8,7 @@ use crate::after::After;
 use crate::plain::{is_plain, plain_end};
 
 // What stands at a place inside a string, and the place after it.
-#[derive(Drop)]
+#[derive(Clone, Copy)]
 pub enum Piece {
     // A char that stands for one byte.
     Byte(u8, usize),

@@ -9,7 +9,7 @@ use crate::space::{skip_space, structural_at};
 use json_string::{After, string_end};
 
 // A member: the place of its value, and where reading goes on.
-#[derive(Drop)]
+#[derive(Clone, Copy)]
 pub enum Member {
     Read { value: usize, next: usize },
     NoMember,

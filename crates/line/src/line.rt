@@ -11,7 +11,7 @@ use line_parts::{
 use text_places::{Place, Span, first_byte, shifted};
 use text_white::trim_ends;
 
-#[derive(Drop)]
+#[derive(Clone, Copy)]
 pub enum Line {
     Blank,
     // The place of its `{`.
@@ -33,7 +33,7 @@ pub enum Line {
 }
 
 // Why a line is refused: it is no class line, no member line, no method or no field.
-#[derive(Drop)]
+#[derive(Clone, Copy)]
 pub enum Refusal {
     Class,
     Member,

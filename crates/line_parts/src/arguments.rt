@@ -7,7 +7,7 @@ use text_places::{Place, Span, first_byte};
 use text_white::trim_both;
 
 // An argument, trimmed: where it starts, where it ends, and where the search for the following one starts.
-#[derive(Drop)]
+#[derive(Clone, Copy)]
 pub enum NextArgument {
     Argument {
         start: usize,

@@ -6,7 +6,7 @@ use text_places::{Place, Span, first_pair, shifted};
 use text_white::trim_both;
 
 // Both sides of the first arrow, trimmed; none where a side is empty.
-#[derive(Drop)]
+#[derive(Clone, Copy)]
 pub enum Arrow {
     Sides { left: Span, right: Span },
     NoArrow,

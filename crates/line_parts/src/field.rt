@@ -6,7 +6,7 @@ use text_places::{Place, Span, shifted};
 use text_white::{last_white, trim_both};
 
 // Its type and its name.
-#[derive(Drop)]
+#[derive(Clone, Copy)]
 pub enum Field {
     Parts { declared: Span, name: Span },
     NoField,

@@ -11,14 +11,14 @@ use text_places::{Place, Span, shifted};
 use text_white::{first_white, trim_both};
 
 // A range of line numbers, if there is one.
-#[derive(Drop)]
+#[derive(Clone, Copy)]
 pub enum LineRange {
     Lines { start: u32, end: u32 },
     NoLines,
 }
 
 // A method's parts. `short` tells that its display range has a second part that does not read.
-#[derive(Drop)]
+#[derive(Clone, Copy)]
 pub struct Method {
     pub returned: Span,
     pub named: Qualified,
@@ -28,7 +28,7 @@ pub struct Method {
     pub short: bool,
 }
 
-#[derive(Drop)]
+#[derive(Clone, Copy)]
 pub enum MethodParts {
     Parts(Method),
     NoMethod,

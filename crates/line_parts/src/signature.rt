@@ -10,7 +10,7 @@ use text_places::{Place, Span, first_byte, last_byte, shifted};
 use text_white::trim_both;
 
 // A method's name, with its owner where it has one.
-#[derive(Drop)]
+#[derive(Clone, Copy)]
 pub enum Qualified {
     Owned { owner: Span, name: Span },
     Plain { name: Span },
@@ -26,7 +26,7 @@ pub fn name_span(named: Qualified) -> Span
     }
 }
 
-#[derive(Drop)]
+#[derive(Clone, Copy)]
 pub enum Signature {
     Parts {
         named: Qualified,

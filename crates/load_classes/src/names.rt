@@ -6,13 +6,13 @@ use line::{Line, read_line};
 use text_places::Span;
 use text_white::white_at;
 
-#[derive(Drop)]
+#[derive(Clone, Copy)]
 pub struct ClassNames {
     pub display: Span,
     pub raw: Span,
 }
 
-#[derive(Drop)]
+#[derive(Clone, Copy)]
 pub enum ClassLine {
     Names(ClassNames),
     Other,

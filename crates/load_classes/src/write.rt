@@ -10,7 +10,7 @@ use table_pool::Wrote;
 use table_rows::ClassRow;
 use text_places::{NextLine, next_line, next_start};
 
-#[derive(Drop)]
+#[derive(Clone, Copy)]
 pub enum Classes {
     // How many rows are used, and where the descriptors end.
     Written { count: usize, end: usize },

@@ -12,7 +12,7 @@ use table_rows::{ClassRow, MemberRow};
 
 // Where the next member goes: its row, and the place of its texts. `classes` class lines stand before it; the display name of the last
 // one stands in the text from `own` to `own_end`.
-#[derive(Drop)]
+#[derive(Clone, Copy)]
 pub struct Slot {
     pub row: usize,
     pub place: usize,
@@ -21,7 +21,7 @@ pub struct Slot {
     pub own_end: usize,
 }
 
-#[derive(Drop)]
+#[derive(Clone, Copy)]
 pub enum NextSlot {
     At(Slot),
     // Rows or pool do not hold the member.

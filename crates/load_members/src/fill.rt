@@ -14,7 +14,7 @@ use load_rule::{Fates, Scan};
 use load_scan::{Step, counted, next_step, no_fates, scan_from};
 use table_rows::{ClassRow, MemberRow};
 
-#[derive(Drop)]
+#[derive(Clone, Copy)]
 pub enum Filled {
     // What became of the lines, and where the texts end.
     Written { fates: Fates, end: usize },

@@ -7,7 +7,7 @@ use line_parts::name_span;
 use load_texts::{Body, MemberLine};
 use text_places::Span;
 
-#[derive(Drop)]
+#[derive(Clone, Copy)]
 pub enum Role {
     // A class line, by its display name.
     Class(Span),

@@ -65,7 +65,7 @@ fn first_place(s: &[u8], b: u8) -> Place
 }
 
 // How far a text that stands between an `L` and a last `;` was written.
-#[derive(Drop)]
+#[derive(Clone, Copy)]
 pub enum Stretch {
     // It goes on: the places in the pool and in the text.
     More(usize, usize),

@@ -15,7 +15,7 @@ use text_places::{NextLine, Place, first_byte, next_line};
 use text_white::{is_wide, trim_both, trim_end, white_length};
 
 // A string in a text: its JSON runs from `start` to `end`, and its first char stands at the place `string` of the JSON.
-#[derive(Drop)]
+#[derive(Clone, Copy)]
 pub enum Residual {
     Text {
         start: usize,
@@ -27,7 +27,7 @@ pub enum Residual {
 
 // Blank lines and comments that stand behind a class line or a member line: how many bytes they are in all, how many of them are blank,
 // how many give a signature that counts, and how many don't.
-#[derive(Drop)]
+#[derive(Clone, Copy)]
 pub struct Passed {
     pub bytes: usize,
     pub blank: u32,
@@ -36,14 +36,14 @@ pub struct Passed {
 }
 
 // What the lines behind a line give, and those that were read for it: who goes over the lines need not read these again.
-#[derive(Drop)]
+#[derive(Clone, Copy)]
 pub struct Looked {
     pub residual: Residual,
     pub passed: Passed,
 }
 
 // What a line opens with.
-#[derive(Drop)]
+#[derive(Clone, Copy)]
 pub enum Opening {
     // Nothing: it is blank. The place where the next line starts.
     Blank(usize),

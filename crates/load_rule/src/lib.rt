@@ -5,7 +5,7 @@
 pub const MOST_TEXT: usize = 1048576;
 
 // What becomes of one line.
-#[derive(Drop)]
+#[derive(Clone, Copy)]
 pub enum Fate {
     Blank,
     // A comment whose signature replaces one.
@@ -21,7 +21,7 @@ pub enum Fate {
 }
 
 // What became of the lines of a text: how many had each fate.
-#[derive(Drop)]
+#[derive(Clone, Copy)]
 pub struct Fates {
     pub lines: u32,
     pub blank: u32,
@@ -35,13 +35,13 @@ pub struct Fates {
 }
 
 // The lines of a text: what became of them, or the first faulty one.
-#[derive(Drop)]
+#[derive(Clone, Copy)]
 pub enum Scan {
     Sound(Fates),
     Faulty { number: u32, line: u32 },
 }
 
-#[derive(Drop)]
+#[derive(Clone, Copy)]
 pub enum Load {
     // `names` is how many bytes of the pool are used.
     Loaded { fates: Fates, names: u32 },

@@ -15,7 +15,7 @@ use text_lines::{line, lines_of, moved};
 use text_places::NextLine;
 
 // What became of the lines so far and whether the current class has a last member, or the first faulty line.
-#[derive(Drop)]
+#[derive(Clone, Copy)]
 enum SoFar {
     Sound { fates: Fates, has_member: bool },
     Faulty { number: u32, line: u32 },

@@ -10,7 +10,7 @@ use text_places::{NextLine, next_line};
 
 // Where a line stands and where the next one starts; what it is; what becomes of it; whether the current class has a last member after
 // it. Steps are copied once a line: the small fields stand last, so that the large one is copied word by word.
-#[derive(Drop)]
+#[derive(Clone, Copy)]
 pub struct LineStep {
     pub start: usize,
     pub end: usize,
@@ -20,7 +20,7 @@ pub struct LineStep {
     pub has_member: bool,
 }
 
-#[derive(Drop)]
+#[derive(Clone, Copy)]
 pub enum Step {
     End,
     Faulty(u32),

@@ -19,7 +19,7 @@ use table_rows::ClassRow;
 use text_places::Span;
 
 // What only a field has, and what only a method has.
-#[derive(Drop)]
+#[derive(Clone, Copy)]
 pub enum Body {
     // Its type.
     Field(Span),
@@ -27,7 +27,7 @@ pub enum Body {
 }
 
 // A member line by the parts that become texts.
-#[derive(Drop)]
+#[derive(Clone, Copy)]
 pub struct MemberLine {
     pub raw: Span,
     pub name: Span,
@@ -35,7 +35,7 @@ pub struct MemberLine {
 }
 
 // Where the texts of a member start, after its raw name, and where they end.
-#[derive(Drop)]
+#[derive(Clone, Copy)]
 pub struct Places {
     pub descriptor: usize,
     pub name: usize,
@@ -43,7 +43,7 @@ pub struct Places {
     pub end: usize,
 }
 
-#[derive(Drop)]
+#[derive(Clone, Copy)]
 pub enum Entered {
     At(Places),
     NoRoom,

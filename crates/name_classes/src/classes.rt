@@ -7,7 +7,7 @@ ghost use Rattle.name_classes.specs.ClassNames.{found_at, display_of_class, raw_
 use table_rows::{Class, ClassRow, MemberRow, Text, unpack_class};
 use tables::{Found, Used, last_with_display, last_with_raw, text_in, well_formed};
 
-#[derive(Drop)]
+#[derive(Clone, Copy)]
 pub enum ClassName {
     // Where it stands in the pool.
     Found { place: u32, length: u32 },

@@ -35,7 +35,7 @@ pub fn member_mark(raw: &[u8], name: &[u8], descriptor: &[u8]) -> usize
 }
 
 // The mark of the raw descriptor of a class row, kept while member rows of that class follow each other.
-#[derive(Drop)]
+#[derive(Clone, Copy)]
 pub struct ClassMark {
     pub class: u32,
     pub mark: usize,

@@ -5,13 +5,13 @@ ghost use Rattle.name_lines.specs.LineNames.{holds_line, line_name};
 
 use table_rows::Ranges;
 
-#[derive(Drop)]
+#[derive(Clone, Copy)]
 pub struct RawLine(pub u32);
 
-#[derive(Drop)]
+#[derive(Clone, Copy)]
 pub struct DisplayLine(pub u32);
 
-#[derive(Drop)]
+#[derive(Clone, Copy)]
 pub enum LineName {
     Line(DisplayLine),
     Unknown,

@@ -10,7 +10,7 @@ use name_lines::{DisplayLine, LineName, RawLine, translated};
 use table_rows::{ClassRow, MemberRow, unpack_member};
 use tables::{Found, Used, well_formed};
 
-#[derive(Drop)]
+#[derive(Clone, Copy)]
 pub enum MemberName {
     // The row that answers, and where its display name stands in the pool.
     Found { row: u32, place: u32, length: u32 },
@@ -19,7 +19,7 @@ pub enum MemberName {
     Malformed,
 }
 
-#[derive(Drop)]
+#[derive(Clone, Copy)]
 pub enum MemberLine {
     // The row that answers, and the display line.
     Found { row: u32, line: DisplayLine },
@@ -29,7 +29,7 @@ pub enum MemberLine {
 }
 
 // The row that answers, or why there is none.
-#[derive(Drop)]
+#[derive(Clone, Copy)]
 pub enum Answering {
     Row(u32),
     Unknown,

@@ -15,7 +15,7 @@ use tables::{Found, last_with_raw, text_in};
 use text_places::same_text;
 
 // What is asked: the name of a field or of a method, or the display line of a raw line of a method.
-#[derive(Drop)]
+#[derive(Clone, Copy)]
 pub enum Asked {
     Field,
     Method,
@@ -23,7 +23,7 @@ pub enum Asked {
 }
 
 // What a member that matches has to be.
-#[derive(Drop)]
+#[derive(Clone, Copy)]
 pub enum Sought {
     Field,
     Method,

@@ -15,7 +15,7 @@ use name_index::{MEMBER_INDEX, chained_row, index_members};
 use table_rows::{ClassRow, MemberRow};
 use tables::{Found, last_with_raw, used_of, well_formed};
 
-fn row_number_lem(found: Found) -> u64
+fn row_number(found: Found) -> u64
     ensures { result ≡ row_number found }
 {
     match found {
@@ -71,5 +71,5 @@ pub extern "C" fn clumarief_probe_method_row(
     let member_count = counts.members as usize;
     let class_rows = &classes[..class_count];
     let member_rows = &members[..member_count];
-    row_number_lem(indexed_row(class_rows, member_rows, pool, owner, name, descriptor))
+    row_number(indexed_row(class_rows, member_rows, pool, owner, name, descriptor))
 }

@@ -7,14 +7,14 @@ use crate::read::{Number, read_number};
 use text_places::{Place, first_byte};
 
 // The range before a method. `rest` is the place after its second colon.
-#[derive(Drop)]
+#[derive(Clone, Copy)]
 pub enum LeadingRange {
     Taken { start: u32, end: u32, rest: usize },
     NotTaken,
 }
 
 // The range after a method's `)`. `second_unread` tells that a second part is there and does not read, so that `end` is `start`.
-#[derive(Drop)]
+#[derive(Clone, Copy)]
 pub enum TrailingRange {
     Taken {
         start: u32,
@@ -60,7 +60,7 @@ fn to_colon(s: &[u8]) -> &[u8]
 }
 
 // A range of which one number is there.
-fn one_number_lem(s: &[u8]) -> TrailingRange
+fn one_number(s: &[u8]) -> TrailingRange
     ensures { result ≡ one_number (number_of s.now) }
 {
     let Number::Value(start) = read_number(s) else {
@@ -108,7 +108,7 @@ pub fn trailing_range(s: &[u8]) -> TrailingRange
     }
     let numbers = &s[1..];
     let Place::At(colon) = first_byte(numbers, b':') else {
-        return one_number_lem(numbers);
+        return one_number(numbers);
     };
     two_numbers(numbers, colon)
 }

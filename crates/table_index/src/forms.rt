@@ -11,7 +11,7 @@ use table_pool::stored_byte;
 use text_places::same_text;
 
 // What a name stands for.
-#[derive(Drop)]
+#[derive(Clone, Copy)]
 pub enum NameForm {
     // Itself.
     Whole,

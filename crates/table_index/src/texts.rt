@@ -4,7 +4,7 @@ ghost use Rattle.table_index.specs.Inner.Order.{compared, not_after};
 
 use crate::blocks::alike_up_to;
 
-#[derive(Drop)]
+#[derive(Clone, Copy)]
 pub enum Order {
     Before,
     Same,

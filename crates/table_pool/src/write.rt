@@ -3,7 +3,7 @@ ghost use Rattle.std.specs.Prelude.{◌≡◌, [], ◌∷◌, ◌+◌, ◌≤◌
 ghost use Rattle.ground.specs.Put.{put};
 ghost use Rattle.table_pool.specs.Inner.Wrote.{WroteBy};
 
-#[derive(Drop)]
+#[derive(Clone, Copy)]
 pub enum Wrote {
     // The place after the last byte.
     Done(usize),
@@ -11,7 +11,7 @@ pub enum Wrote {
 }
 
 // Two texts are written one after the other: where the second one starts, and the place after it.
-#[derive(Drop)]
+#[derive(Clone, Copy)]
 pub enum TwoTexts {
     At { second: usize, next: usize },
     NoRoom,

@@ -15,7 +15,7 @@ pub type ClassRow = [u32; 4];
 pub type MemberRow = [u32; 15];
 
 // A text in the pool.
-#[derive(Drop)]
+#[derive(Clone, Copy)]
 pub struct Text {
     pub place: u32,
     pub length: u32,
@@ -33,14 +33,14 @@ pub fn text_between(start: usize, end: usize) -> Text
     }
 }
 
-#[derive(Drop)]
+#[derive(Clone, Copy)]
 pub struct Class {
     pub raw: Text,
     pub display: Text,
 }
 
 // The ranges of a method: absent ones are zeros in its row.
-#[derive(Drop)]
+#[derive(Clone, Copy)]
 pub enum Ranges {
     None,
     Display {
@@ -55,7 +55,7 @@ pub enum Ranges {
     },
 }
 
-#[derive(Drop)]
+#[derive(Clone, Copy)]
 pub struct Member {
     // 0 a field, 1 a method.
     pub kind: u32,

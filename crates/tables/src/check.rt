@@ -11,7 +11,7 @@ use table_rows::{
 use text_utf8::{ascii_start, is_utf8};
 
 // How many class rows, member rows and pool bytes are used.
-#[derive(Drop)]
+#[derive(Clone, Copy)]
 pub struct Used {
     pub classes: u32,
     pub members: u32,

@@ -8,14 +8,14 @@ use table_rows::{Class, ClassRow, Text, unpack_class};
 use text_places::same_bytes;
 
 // A class row by its number, or none.
-#[derive(Drop)]
+#[derive(Clone, Copy)]
 pub enum Found {
     Row(usize),
     Unknown,
 }
 
 // By which of its two descriptors a class is looked for.
-#[derive(Drop)]
+#[derive(Clone, Copy)]
 pub enum Side {
     Raw,
     Display,

@@ -5,7 +5,7 @@ ghost use Rattle.text_places.specs.Places.{first_where, last_where, starts, star
 use crate::blocks::after_blocks;
 
 // A place in a text, or none.
-#[derive(Drop)]
+#[derive(Clone, Copy)]
 pub enum Place {
     At(usize),
     Nowhere,

@@ -6,7 +6,7 @@ ghost use Rattle.text_places.specs.Inner.NextLine.{next_line, NextStart, to_lf};
 use crate::blocks::after_blocks;
 
 // A line without its LF and without all CR at its end: where it starts, where it ends, and where the following one starts.
-#[derive(Drop)]
+#[derive(Clone, Copy)]
 pub enum NextLine {
     Line {
         start: usize,

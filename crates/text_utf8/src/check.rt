@@ -8,7 +8,7 @@ use crate::ascii::{ascii_blocks, ascii_end};
 use crate::sequence::{Sequence, sequence_at};
 
 // Whether a whole text is UTF-8, and if not, where and how it breaks first.
-#[derive(Drop)]
+#[derive(Clone, Copy)]
 pub enum Check {
     Valid,
     Broken { at: usize, length: usize },

@@ -3,7 +3,7 @@
 #![tactic(auto)]
 
 // The numbers at the head of a tree file: how many node rows, token rows, name rows and name bytes there are.
-#[derive(Drop)]
+#[derive(Clone, Copy)]
 pub struct TreeCounts {
     pub nodes: u32,
     pub tokens: u32,
@@ -12,7 +12,7 @@ pub struct TreeCounts {
 }
 
 // A token. Names go by their number among the name rows.
-#[derive(Drop)]
+#[derive(Clone, Copy)]
 pub enum Token {
     // Kind 0: its two numbers are kept and not read.
     Other { a: u32, b: u32 },
@@ -22,21 +22,21 @@ pub enum Token {
 }
 
 // What a check of rows answers: the first one that fails, by its number.
-#[derive(Drop)]
+#[derive(Clone, Copy)]
 pub enum RowCheck {
     Fine,
     Faulty(usize),
 }
 
 // Whose member a node names: the class given, or that of a descriptor, by the number of its token.
-#[derive(Drop)]
+#[derive(Clone, Copy)]
 pub enum Owner {
     Given,
     At(usize),
 }
 
 // The member that a node names, by the numbers of two of its tokens.
-#[derive(Drop)]
+#[derive(Clone, Copy)]
 pub enum NodeSignature {
     Absent,
     Present {

@@ -1,7 +1,7 @@
 -- `name_probes::row_number` meets its contract, by the laws of Probing.
 use Rattle.name_probes.proofs.Probing.{numbering}
-use Rattle.name_probes.proofs.row_number_lem.Statement.{statement}
-use Rattle.name_probes.proofs.row_number_lem.Tie as tie
+use Rattle.name_probes.proofs.row_number.Statement.{statement}
+use Rattle.name_probes.proofs.row_number.Tie as tie
 
 enum-known-found : tie.Need-enum-known-found
 enum-known-found c = search numbering

@@ -1,7 +1,7 @@
 -- `apply_members::member::row_number` meets its contract, by the laws of Noting.
 use Rattle.apply_members.proofs.Noting.{row_numbers}
-use Rattle.apply_members.proofs.member.row_number_lem.Statement.{statement}
-use Rattle.apply_members.proofs.member.row_number_lem.Tie as tie
+use Rattle.apply_members.proofs.member.row_number.Statement.{statement}
+use Rattle.apply_members.proofs.member.row_number.Tie as tie
 
 enum-known-found : tie.Need-enum-known-found
 enum-known-found c = search row_numbers

@@ -1,0 +1,23 @@
+use Rattle.table_rows.proofs.Zeroing.{filling}
+use Rattle.table_rows.proofs.zero.zero_bytes.Goals as goal
+
+pub loop-i-init : goal.loop-i-init
+loop-i-init c = search filling
+
+pub bounds-pool-i : goal.bounds-pool-i
+bounds-pool-i c = search filling
+
+pub overflow_add-i : goal.overflow_add-i
+overflow_add-i c = search filling
+
+pub loop-i-smaller : goal.loop-i-smaller
+loop-i-smaller c = search filling
+
+pub loop-i-preserved : goal.loop-i-preserved
+loop-i-preserved c = search filling
+
+pub shape_of-pool : goal.shape_of-pool
+shape_of-pool c = search filling
+
+pub returns : goal.returns
+returns c = search filling

@@ -1,0 +1,11 @@
+-- `text_utf8::ascii::ascii_blocks` meets its contract, by the laws of RunLaws and an invariant that says: the rest decides as the whole does.
+use Prim.Native.Nat.{◌-◌}
+use lib.ListN.{length}
+use Rattle.text_utf8.specs.Inner.Runs.{AsciiTo}
+use Rattle.text_utf8.proofs.ascii.ascii_blocks.Given as goal
+
+abbrev pub invariant-loop-at : goal.invariant-loop-at
+invariant-loop-at l = AsciiTo l.s l.start l.at
+
+abbrev pub decreases-loop-at : goal.decreases-loop-at
+decreases-loop-at l = length l.s - l.at
