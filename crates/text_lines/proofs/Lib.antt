@@ -1,2 +1,0 @@
--- What other crates' walks need.
-pub mod walks
