@@ -1,5 +1,5 @@
 -- `json_string::string::hex4_at` meets its contract, by the laws of Hex.
-use Rattle.json_string.proofs.Hex.{four_read, hex_four}
+use Rattle.json_string.proofs.Hex.{hex_four}
 use Rattle.json_string.proofs.string.hex4_at.Goals as goal
 
 pub overflow_sub-s : goal.overflow_sub-s
@@ -45,4 +45,4 @@ pub hex_value-requires : goal.hex_value-requires
 hex_value-requires c = search hex_four
 
 pub returns : goal.returns
-returns c = four_read c.before.before.before.before.before.before.before.before.before.before.before.args.s.now c.before.before.before.before.before.before.before.before.before.before.before.args.at c.before.before.before.before.before.before.before.before.before.before.before.requires c.before.before.before.before.before.before.before.before.before.if1.false c.before.before.before.before.before.before.before.hex_digit.ensures c.before.before.before.before.before.hex-digit2.ensures c.before.before.before.hex-digit3.ensures c.before.hex-digit4.ensures c.hex_value_lem.ensures
+returns c = search hex_four

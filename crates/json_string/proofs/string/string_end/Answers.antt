@@ -1,4 +1,4 @@
-use Rattle.json_string.proofs.Strings.{stringing}
+use Rattle.json_string.proofs.Strings.{stringing, string_wrong}
 use Rattle.json_string.proofs.string.string_end.Goals as goal
 
 pub plain_end-at-requires : goal.plain_end-at-requires
@@ -53,7 +53,7 @@ pub enum_told-1 : goal.enum_told-1
 enum_told-1 c = search stringing
 
 pub returns-in-Wrong : goal.returns-in-Wrong
-returns-in-Wrong c = search stringing
+returns-in-Wrong c = string_wrong c.loop-at.invariant c.every_piece_at.ensures c.in-Wrong.is
 
 pub returns : goal.returns
 returns c = search stringing

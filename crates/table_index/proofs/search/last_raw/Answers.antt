@@ -1,0 +1,43 @@
+-- `table_index::search::last_raw` meets its contract, by the laws of Searching.
+use Rattle.table_index.proofs.Searching.{searching, search_ranked}
+use Rattle.table_index.proofs.search.last_raw.Goals as goal
+
+pub last_with_raw-requires : goal.last_with_raw-requires
+last_with_raw-requires c = search searching
+
+pub returns-then-index-ne-INDEX : goal.returns-then-index-ne-INDEX
+returns-then-index-ne-INDEX c = search searching
+
+pub mark_whole-mark-requires : goal.mark_whole-mark-requires
+mark_whole-mark-requires c = search searching
+
+pub overflow_add-mark : goal.overflow_add-mark
+overflow_add-mark c = search searching
+
+pub offset_bounds-index-mark : goal.offset_bounds-index-mark
+offset_bounds-index-mark c = search searching
+
+pub bounds-index-mark : goal.bounds-index-mark
+bounds-index-mark c = search searching
+
+pub wide_number-first-requires : goal.wide_number-first-requires
+wide_number-first-requires c = search searching
+
+pub returns-then-first-eq0 : goal.returns-then-first-eq0
+returns-then-first-eq0 c = search searching
+
+pub overflow_sub-first : goal.overflow_sub-first
+overflow_sub-first c = search searching
+
+pub shelf_at-shelf-requires : goal.shelf_at-shelf-requires
+shelf_at-shelf-requires c = search searching
+
+pub last_between-requires : goal.last_between-requires
+last_between-requires c = let begun = c.before in
+    let sized = c.if-index-ne-INDEX.false in
+    search_ranked begun.requires sized _ c.mark_whole-mark.ensures c.wide_number-first.ensures
+    c.if-first-eq0.false
+    c.shelf_at-shelf.ensures
+
+pub returns : goal.returns
+returns c = search searching
