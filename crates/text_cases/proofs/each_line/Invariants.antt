@@ -1,4 +1,4 @@
--- `text_cases::each_line` meets its contract, by the laws of Safe and an invariant that says: the rest decides as the whole does.
+-- `text_cases::each_line` stays inside the text: its invariant is that the place does.
 use Rattle.text_places.proofs.Taking.{Taking}
 use Prim.Native.Nat.{◌-◌}
 use lib.ListN.{length}
