@@ -59,7 +59,7 @@ pub scan_line : (f : Fates) (member : Bool) (l : List ℕ) (ls : List (List ℕ)
     scan_on f member (l ∷ ls) ≡ scan_on (plus f (one (fate_of member l (line_of l)))) (member_after member (line_of l)) ls
 unfolding fates_from faults_from
 scan_line f member l ls e =
-    rw (e, plus_plus f (one (fate_of member l (line_of l))) (fates_from (member_after member (line_of l)) ls), fate_class member l (line_of l), add-one (f.lines + 1))
+    rw (e, plus_plus f (one (fate_of member l (line_of l))) (fates_from (member_after member (line_of l)) ls), ← fate_class member l (line_of l), add-one (f.lines + 1))
 
 pub scan_end : (f : Fates) (member : Bool) → scan_on f member [] ≡ Sound f
 unfolding fates_from faults_from

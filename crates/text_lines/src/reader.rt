@@ -5,7 +5,7 @@ ghost use Rattle.text_places.specs.Inner.NextLine.{next_line};
 use text_places::{NextLine, next_line};
 
 // A text, and the place in it where the following line starts.
-#[derive(Drop)]
+#[derive(Clone, Copy)]
 pub struct Lines<'a> {
     pub text: &'a [u8],
     pub at: usize,

@@ -1,0 +1,21 @@
+-- `load_scan::step::next_step` meets its contract, by the laws of Stepping.
+use Rattle.load_scan.proofs.Stepping.{next_stepping}
+use Rattle.load_scan.proofs.step.next_step.Goals as goal
+
+pub next_line-requires : goal.next_line-requires
+next_line-requires c = search next_stepping
+
+pub enum_known-start : goal.enum_known-start
+enum_known-start c = search next_stepping
+
+pub enum_told-1 : goal.enum_told-1
+enum_told-1 c = search next_stepping
+
+pub returns-in_default : goal.returns-in_default
+returns-in_default c = search next_stepping
+
+pub step_of-requires : goal.step_of-requires
+step_of-requires c = search next_stepping
+
+pub returns : goal.returns
+returns c = search next_stepping
