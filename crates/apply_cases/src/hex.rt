@@ -1,6 +1,8 @@
 // Bytes in hexadecimal, two digits each.
 ghost use Rattle.std.specs.Prelude.{◌≤◌, ◌<◌, length};
 
+use std::io;
+
 // The value of a digit in upper case.
 fn digit(b: u8) -> u8
     ensures { result < 16 }
@@ -37,17 +39,17 @@ fn digit_of(value: u8) -> u8 {
     55 + v
 }
 
-fn say_byte(b: u8) {
+fn say_byte(rt: &impl Print, b: u8) -> io::Result<()> {
     let digits = [digit_of(b / 16), digit_of(b)];
-    replay::words(&digits);
+    replay::words(rt, &digits)
 }
 
 // Writes bytes as a line.
-pub fn say_bytes(s: &[u8]) {
+pub fn say_bytes(rt: &impl Print, s: &[u8]) -> io::Result<()> {
     let mut at = 0;
     while at < s.len() {
-        say_byte(s[at]);
+        say_byte(rt, s[at])?;
         at += 1;
     }
-    replay::words(b"\n");
+    replay::words(rt, b"\n")
 }

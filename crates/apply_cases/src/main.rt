@@ -7,20 +7,21 @@
 //     0100000001000000010000000200..
 #![tactic(auto)]
 
-use libc::STDIN_FILENO;
+use std::io;
+use std::io::Read;
 use text_places::NextLine;
 
 mod answers;
 mod hex;
 
 // What is asked stands behind the line that opens the case.
-fn replay_case(line: &[u8], asked: &[u8]) {
-    replay::case_name(line);
-    replay::words(b": ");
-    answers::answer(asked);
+fn replay_case(rt: &impl Print, line: &[u8], asked: &[u8]) -> io::Result<()> {
+    replay::case_name(rt, line)?;
+    replay::words(rt, b": ")?;
+    answers::answer(rt, asked)
 }
 
-fn each_case(s: &[u8]) {
+fn each_case(rt: &impl Print, s: &[u8]) -> io::Result<()> {
     let mut at = replay::case_from(s, 0);
     while at < s.len() {
         let NextLine::Line {
@@ -29,17 +30,18 @@ fn each_case(s: &[u8]) {
             next: start,
         } = text_places::next_line(s, at)
         else {
-            return;
+            return Ok(());
         };
         let next = replay::case_from(s, start);
         let stop = replay::document_end(s, start, next);
-        replay_case(&s[at..end], &s[start..stop]);
+        replay_case(rt, &s[at..end], &s[start..stop])?;
         at = next;
     }
+    Ok(())
 }
 
-fn main() {
-    let mut input = io::large_buffer();
-    let n = io::read_full(STDIN_FILENO, &mut input);
-    each_case(&input[..n]);
+fn main(rt: HostRuntime) -> io::Result<()> {
+    let mut input = Vec::new(rt.alloc());
+    rt.stdin().take(65536).read_to_end(&mut input)?;
+    each_case(&rt, &input)
 }

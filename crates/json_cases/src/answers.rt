@@ -1,48 +1,50 @@
 // What is written for a case.
 use json_comment::{Comment, Stands};
 use json_decode::Written;
+use std::io;
 
 // A string: the length of what it stands for, and that itself.
-fn text(document: &[u8], start: usize) {
-    let mut room = io::buffer();
+fn text(rt: &impl Print, document: &[u8], start: usize) -> io::Result<()> {
+    let mut room = [0u8; 4096];
     match json_decode::decode_at(&mut room, 0, document, start) {
         Written::Done(n) => {
-            replay::words(b"text ");
-            replay::decimal(n);
-            replay::words(b" ");
-            replay::words(&room[..n]);
+            replay::words(rt, b"text ")?;
+            replay::decimal(rt, n)?;
+            replay::words(rt, b" ")?;
+            replay::words(rt, &room[..n])
         }
-        Written::NoRoom => replay::words(b"text too long"),
-        Written::NoString => replay::words(b"text unread"),
+        Written::NoRoom => replay::words(rt, b"text too long"),
+        Written::NoString => replay::words(rt, b"text unread"),
     }
 }
 
-fn member(document: &[u8], stands: Stands) {
+fn member(rt: &impl Print, document: &[u8], stands: Stands) -> io::Result<()> {
     match stands {
-        Stands::Missing => replay::words(b"missing"),
-        Stands::Other => replay::words(b"other"),
-        Stands::Text(start) => text(document, start),
+        Stands::Missing => replay::words(rt, b"missing"),
+        Stands::Other => replay::words(rt, b"other"),
+        Stands::Text(start) => text(rt, document, start),
     }
 }
 
 // Says so where the id is that of a residual signature.
-fn residual(document: &[u8], id: Stands) {
+fn residual(rt: &impl Print, document: &[u8], id: Stands) -> io::Result<()> {
     if let Stands::Text(start) = id {
         if json_comment::is_residual(document, start) {
-            replay::words(b" (residual)");
+            replay::words(rt, b" (residual)")?;
         }
     }
+    Ok(())
 }
 
-pub fn answer(document: &[u8]) {
+pub fn answer(rt: &impl Print, document: &[u8]) -> io::Result<()> {
     match json_comment::read_comment(document) {
-        Comment::Unreadable => replay::words(b"unreadable"),
+        Comment::Unreadable => replay::words(rt, b"unreadable"),
         Comment::Readable { id, signature } => {
-            replay::words(b"id ");
-            member(document, id);
-            residual(document, id);
-            replay::words(b", signature ");
-            member(document, signature);
+            replay::words(rt, b"id ")?;
+            member(rt, document, id)?;
+            residual(rt, document, id)?;
+            replay::words(rt, b", signature ")?;
+            member(rt, document, signature)
         }
     }
 }

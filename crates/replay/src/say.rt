@@ -1,17 +1,18 @@
 // Writing to standard output.
-use libc::STDOUT_FILENO;
+use std::io;
 
-pub fn words(s: &[u8]) {
-    io::write_all(STDOUT_FILENO, s);
+pub fn words(rt: &impl Print, s: &[u8]) -> io::Result<()> {
+    rt.write_all(s)
 }
 
-pub fn decimal(n: usize) {
-    io::print_decimal(STDOUT_FILENO, n as u64);
+pub fn decimal(rt: &impl Print, n: usize) -> io::Result<()> {
+    rt.print(n)
 }
 
 // The name of a case, from the line that opens it.
-pub fn case_name(line: &[u8]) {
+pub fn case_name(rt: &impl Print, line: &[u8]) -> io::Result<()> {
     if 2 <= line.len() {
-        words(&line[2..]);
+        words(rt, &line[2..])?;
     }
+    Ok(())
 }

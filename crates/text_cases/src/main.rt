@@ -7,7 +7,8 @@
 //     # a comment, or nothing: written as it is
 #![tactic(auto)]
 
-use libc::STDIN_FILENO;
+use std::io;
+use std::io::Read;
 use text_places::NextLine;
 
 mod ranges;
@@ -15,25 +16,22 @@ mod say;
 mod sequences;
 
 // What a line asks for, by its first word.
-fn replay(line: &[u8]) {
+fn replay(rt: &impl Print, line: &[u8]) -> io::Result<()> {
     if line.len() == 0 {
-        say::line_end();
-        return;
+        return say::line_end(rt);
     }
     if line[0] == b'#' {
-        replay::words(line);
-        say::line_end();
-        return;
+        replay::words(rt, line)?;
+        return say::line_end(rt);
     }
-    if ranges::replayed(line) {
-        say::line_end();
-        return;
+    if ranges::replayed(rt, line)? {
+        return say::line_end(rt);
     }
-    sequences::replay(line);
-    say::line_end();
+    sequences::replay(rt, line)?;
+    say::line_end(rt)
 }
 
-fn each_line(s: &[u8]) {
+fn each_line(rt: &impl Print, s: &[u8]) -> io::Result<()> {
     let mut at = 0;
     while at < s.len() {
         let NextLine::Line {
@@ -42,15 +40,16 @@ fn each_line(s: &[u8]) {
             next,
         } = text_places::next_line(s, at)
         else {
-            return;
+            return Ok(());
         };
-        replay(&s[at..end]);
+        replay(rt, &s[at..end])?;
         at = next;
     }
+    Ok(())
 }
 
-fn main() {
-    let mut input = io::large_buffer();
-    let n = io::read_full(STDIN_FILENO, &mut input);
-    each_line(&input[..n]);
+fn main(rt: HostRuntime) -> io::Result<()> {
+    let mut input = Vec::new(rt.alloc());
+    rt.stdin().take(65536).read_to_end(&mut input)?;
+    each_line(&rt, &input)
 }

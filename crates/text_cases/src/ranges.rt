@@ -1,65 +1,67 @@
 // Cases of numbers and of ranges.
 use number::{LeadingRange, Number, TrailingRange};
+use std::io;
 use text_places::Place;
 
-fn number_case(s: &[u8]) {
+fn number_case(rt: &impl Print, s: &[u8]) -> io::Result<()> {
     match number::read_number(s) {
-        Number::Value(v) => replay::decimal(v as usize),
-        Number::Unread => replay::words(b"unread"),
+        Number::Value(v) => replay::decimal(rt, v as usize),
+        Number::Unread => replay::words(rt, b"unread"),
     }
 }
 
-fn from_to(start: u32, end: u32) {
-    replay::decimal(start as usize);
-    replay::words(b" to ");
-    replay::decimal(end as usize);
+fn from_to(rt: &impl Print, start: u32, end: u32) -> io::Result<()> {
+    replay::decimal(rt, start as usize)?;
+    replay::words(rt, b" to ")?;
+    replay::decimal(rt, end as usize)
 }
 
-fn before_case(s: &[u8]) {
+fn before_case(rt: &impl Print, s: &[u8]) -> io::Result<()> {
     match number::leading_range(s) {
         LeadingRange::Taken { start, end, rest } => {
-            from_to(start, end);
-            replay::words(b", rest at ");
-            replay::decimal(rest);
+            from_to(rt, start, end)?;
+            replay::words(rt, b", rest at ")?;
+            replay::decimal(rt, rest)
         }
-        LeadingRange::NotTaken => replay::words(b"none"),
+        LeadingRange::NotTaken => replay::words(rt, b"none"),
     }
 }
 
-fn after_case(s: &[u8]) {
+fn after_case(rt: &impl Print, s: &[u8]) -> io::Result<()> {
     match number::trailing_range(s) {
         TrailingRange::Taken {
             start,
             end,
             second_unread,
         } => {
-            from_to(start, end);
+            from_to(rt, start, end)?;
             if second_unread {
-                replay::words(b", short");
+                replay::words(rt, b", short")?;
             }
+            Ok(())
         }
-        TrailingRange::NotTaken => replay::words(b"none"),
+        TrailingRange::NotTaken => replay::words(rt, b"none"),
     }
 }
 
 // Replays a line of a kind that stands here, and answers whether it is one.
-pub fn replayed(line: &[u8]) -> bool {
+pub fn replayed(rt: &impl Print, line: &[u8]) -> io::Result<bool> {
     let Place::At(space) = text_places::first_byte(line, b' ') else {
-        return false;
+        return Ok(false);
     };
     let kind = &line[..space];
     let asked = &line[space + 1..];
     if text_places::same_bytes(kind, b"number") {
-        number_case(asked);
-        return true;
+        number_case(rt, asked)?;
+        return Ok(true);
     }
     if text_places::same_bytes(kind, b"before") {
-        before_case(asked);
-        return true;
+        before_case(rt, asked)?;
+        return Ok(true);
     }
     if text_places::same_bytes(kind, b"after") {
-        after_case(asked);
-        return true;
+        after_case(rt, asked)?;
+        return Ok(true);
     }
-    false
+    Ok(false)
 }

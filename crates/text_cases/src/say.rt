@@ -1,10 +1,10 @@
 // What this program alone writes to standard output.
-use libc::STDOUT_FILENO;
+use std::io;
 
-pub fn code_point(code: u32) {
-    io::print_hex(STDOUT_FILENO, code as u64, 1);
+pub fn code_point(rt: &impl Print, code: u32) -> io::Result<()> {
+    print!(rt; "{code:x}")
 }
 
-pub fn line_end() {
-    replay::words(b"\n");
+pub fn line_end(rt: &impl Print) -> io::Result<()> {
+    replay::words(rt, b"\n")
 }

@@ -2,6 +2,7 @@
 ghost use Rattle.std.specs.Prelude.{◌≤◌, ◌<◌, length};
 
 use crate::say;
+use std::io;
 use text_utf8::{Check, Sequence};
 
 // The value of a hexadecimal digit in upper case.
@@ -31,47 +32,48 @@ fn hex_bytes(line: &[u8], bytes: &mut [u8]) -> usize
     n
 }
 
-fn verdict(s: &[u8]) {
+fn verdict(rt: &impl Print, s: &[u8]) -> io::Result<()> {
     match text_utf8::check_text(s) {
-        Check::Valid => replay::words(b"valid:"),
+        Check::Valid => replay::words(rt, b"valid:"),
         Check::Broken { at, length } => {
-            replay::words(b"broken at ");
-            replay::decimal(at);
-            replay::words(b" length ");
-            replay::decimal(length);
-            replay::words(b":");
+            replay::words(rt, b"broken at ")?;
+            replay::decimal(rt, at)?;
+            replay::words(rt, b" length ")?;
+            replay::decimal(rt, length)?;
+            replay::words(rt, b":")
         }
     }
 }
 
 // Each sequence: its code point, or `?` and the length of its longest good start.
-fn each_sequence(s: &[u8]) {
+fn each_sequence(rt: &impl Print, s: &[u8]) -> io::Result<()> {
     let mut at = 0;
     while at < s.len() {
         match text_utf8::sequence_at(s, at) {
             Sequence::End => {
-                return;
+                return Ok(());
             }
             Sequence::Good { code, length } => {
-                replay::words(b" ");
-                say::code_point(code);
+                replay::words(rt, b" ")?;
+                say::code_point(rt, code)?;
                 at += length;
             }
             Sequence::Bad { length } => {
-                replay::words(b" ?");
-                replay::decimal(length);
+                replay::words(rt, b" ?")?;
+                replay::decimal(rt, length)?;
                 if length == 0 {
-                    return;
+                    return Ok(());
                 }
                 at += length;
             }
         }
     }
+    Ok(())
 }
 
-pub fn replay(line: &[u8]) {
-    let mut bytes = io::buffer();
+pub fn replay(rt: &impl Print, line: &[u8]) -> io::Result<()> {
+    let mut bytes = [0u8; 4096];
     let n = hex_bytes(line, &mut bytes);
-    verdict(&bytes[..n]);
-    each_sequence(&bytes[..n]);
+    verdict(rt, &bytes[..n])?;
+    each_sequence(rt, &bytes[..n])
 }

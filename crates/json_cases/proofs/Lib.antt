@@ -1,2 +1,0 @@
--- What the program needs so that it stays within its slices and ends.
-mod Safe
