@@ -1,4 +1,5 @@
--- Every text of a mapping is well formed where the text that it is loaded from is: the classes' descriptors, and the members' names, descriptors and owners.
+-- Every text of a mapping is well formed where the text that it is loaded from is: the classes' descriptors, and the members' names,
+-- descriptors and owners.
 -- Assumes nothing.
 use mathlib.Core.Path.{◌≡◌, refl}
 use mathlib.Core.Bool.{Bool, true, false}

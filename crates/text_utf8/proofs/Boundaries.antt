@@ -1,5 +1,5 @@
--- UTF-8 finds its own characters: a well-formed text may be cut before every octet that is no UTF8-tail, and both parts are well formed. What is made of
--- well-formed texts. Assumes nothing.
+-- UTF-8 finds its own characters: a well-formed text may be cut before every octet that is no UTF8-tail, and both parts are well formed.
+-- What is made of well-formed texts. Assumes nothing.
 use mathlib.Core.Path.{◌≡◌, refl, sym, ◌∙◌, ap}
 use mathlib.Core.Bool.{true}
 use mathlib.Core.List.{List, [], ◌∷◌, ◌++◌, map, append-nil, append_assoc, map-append}
