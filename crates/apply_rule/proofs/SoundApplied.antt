@@ -166,7 +166,7 @@ module _ (m : Mapping) (class : List ℕ) (t : Tree) (s : SoundTree t) (w : Show
             (omega arith, omega arith)));
       }
 
--- A mapping applied to a well_formed_lem file, of bytes: the file that comes out is well formed, and is read to the tree that comes out.
+-- A mapping applied to a well-formed file, of bytes: the file that comes out is well formed, and is read to the tree that comes out.
 module _
     (m : Mapping)
     (class f : List ℕ)

@@ -1,4 +1,4 @@
--- Descriptors of well_formed_lem texts are well formed, and stay so where their class pieces are turned. Assumes nothing.
+-- Descriptors of well-formed texts are well formed, and stay so where their class pieces are turned. Assumes nothing.
 use mathlib.Core.Path.{◌≡◌, refl, sym, ◌∙◌, ap}
 use mathlib.Core.Bool.{Bool, true, false}
 use mathlib.Core.List.{List, [], ◌∷◌, ◌++◌, map, append-nil, append_assoc}

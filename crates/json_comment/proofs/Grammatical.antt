@@ -160,6 +160,6 @@ answer_says s {ms} j {i} {g} e =
     says : (items : List Item) → members_of s ≡ got items [] → (k : List ℕ) → Says s (names items) k (stands_in s (last_of k items))
     says items f k = record { if_missing = stands_missing s f k; if_other = stands_other s f k; if_text = λ v. stands_text s f k }
 
--- What such a string stands for is well_formed_lem UTF-8 where the text is.
+-- What such a string stands for is well-formed UTF-8 where the text is.
 pub told_octets : (s : List ℕ) (p : ℕ) {v : List ℕ} → Told s p v → Utf8Octets s → Utf8Octets v
 told_octets s p t o = reader_octets t.front (drop p s) t.chars (rw t.cut at o)

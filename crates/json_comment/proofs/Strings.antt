@@ -1,4 +1,4 @@
--- A string that the answer for a comment names stands for well_formed_lem text where the comment is well formed. Assumes nothing.
+-- A string that the answer for a comment names stands for well-formed text where the comment is well formed. Assumes nothing.
 use mathlib.Core.Path.{◌≡◌, sym, ◌∙◌, ap}
 use mathlib.Core.List.{List}
 use Prim.Native.Nat.{ℕ}

@@ -1,4 +1,4 @@
--- The octets of a code point are a Utf8Char of RFC 3629, section 4, where it is no surrogate. Assumes nothing.
+-- The octets of a code point are a UTF8-char of RFC 3629, section 4, where it is no surrogate. Assumes nothing.
 use mathlib.Core.Path.{◌≡◌, sym, ◌∙◌, ap}
 use mathlib.Core.Bool.{false}
 use mathlib.Core.List.{List, [], ◌∷◌}

@@ -1,4 +1,4 @@
--- The reader reads exactly what the grammar has, and what strings of well_formed_lem text stand for is well formed.
+-- The reader reads exactly what the grammar has, and what strings of well-formed text stand for is well formed.
 pub mod Took
 pub mod StringsTook
 pub mod ValuesTook

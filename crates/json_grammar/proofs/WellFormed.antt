@@ -1,4 +1,4 @@
--- What strings of well_formed_lem UTF-8 text stand for is well_formed_lem UTF-8. Assumes nothing.
+-- What strings of well-formed UTF-8 text stand for is well-formed UTF-8. Assumes nothing.
 use mathlib.Core.Path.{◌≡◌, refl, sym, ◌∙◌, ap}
 use mathlib.Core.Bool.{true, false}
 use mathlib.Core.List.{List, [], ◌∷◌, ◌++◌, append_assoc}
@@ -75,7 +75,7 @@ four_beyond =
     (either_beyond (both_beyond (from (omega arith)) (both_beyond tail_beyond (both_beyond tail_beyond tail_beyond)))
     (both_beyond (from (omega arith)) (both_beyond (from (omega arith)) (both_beyond tail_beyond tail_beyond))))
 
--- A Utf8Char is one ASCII octet, or has none.
+-- A UTF8-char is one ASCII octet, or has none.
 record Begins (a : List ℕ) : Type 0 where
   first : ℕ
   later : List ℕ
@@ -97,7 +97,7 @@ no_octet e = absurd (let z : ◌≡◌ {A = ℕ} 0 1 = cc in omega arith)
 at_head : {a t : List ℕ} (b : List ℕ) (g : Begins a) → a ++ b ≡ t → g.first ∷ (g.later ++ b) ≡ t
 at_head b g e = sym (ap (λ l. l ++ b) g.are) ∙ e
 
--- The first Utf8Char of a text that begins with `x`, and the rest.
+-- The first UTF8-char of a text that begins with `x`, and the rest.
 record Head (x : ℕ) (s : List ℕ) : Type 0 where
   later : List ℕ
   rest : List ℕ
@@ -130,7 +130,7 @@ head_of (more {a = a} {b = b} c o) x s e =
 octets_head : (x : ℕ) (s : List ℕ) → Utf8Octets (x ∷ s) → Head x s
 octets_head x s o = head_of o x s refl
 
--- what stands before and what stands after an ASCII octet of a well_formed_lem text is well formed
+-- what stands before and what stands after an ASCII octet of a well-formed text is well formed
 middle_octets : (p q : List ℕ) (x : ℕ) → x < 0x80 → Utf8Octets (p ++ (x ∷ q)) → Utf8Octets p × Utf8Octets q
 middle_octets p q x h o = let (a, b) = cut_octets p (x ∷ q) (at_low h) o in (a, tail_octets x q h b)
 
@@ -143,7 +143,7 @@ past_low : {a : List ℕ} → Low a → (b : List ℕ) → Utf8Octets (a ++ b) �
 past_low no_low b o = o
 past_low (low {x} {s} h l) b o = past_low l b (tail_octets x (s ++ b) h o)
 
--- A char is ASCII and stands for well_formed_lem text, or is an octet from 80 on that stands for itself.
+-- A char is ASCII and stands for well-formed text, or is an octet from 80 on that stands for itself.
 data Seen : List ℕ → List ℕ → Type 0 where
   ascii : {x : ℕ} {a v : List ℕ} → x < 0x80 → Low a → Utf8Octets v → Seen (x ∷ a) v
   itself : (x : ℕ) → 0x80 ≤ x → Seen (x ∷ []) (x ∷ [])
@@ -221,7 +221,7 @@ seen (Grammar.plane {t} {u} c e) = seen_code u (written c) (let s = (four c).sma
 seen (Grammar.pair {t} {s} {u} {v} c d p q) = seen_pair u v (written_pair (written c) (written d)) p q
 
 -- Chars, where the first `c` of their octets are the later ones of a UTF8-char: these stand for themselves, and what comes after them for
--- well_formed_lem text.
+-- well-formed text.
 record Goes (c v : List ℕ) : Type 0 where
   text : List ℕ
   value : v ≡ c ++ text
@@ -249,11 +249,11 @@ goes Grammar.no_char [] r h e o = record { text = []; value = refl; well = none 
 goes Grammar.no_char (x ∷ c) r h e o = no_octet e
 goes (Grammar.char {b = b} {w = w} c cs) d r h e o = then_goes (seen c) b w (λ k q g f p. goes cs k q g f p) h r e o
 
--- the bytes that chars of a well_formed_lem text stand for are well formed
+-- the bytes that chars of a well-formed text stand for are well formed
 pub chars_octets : (a v : List ℕ) → Grammar.Chars a v → Utf8Octets a → Utf8Octets v
 chars_octets a v c o = let g = goes c [] a no_high refl o in octets_as (sym g.value) g.well
 
--- a string anywhere in well_formed_lem text
+-- a string anywhere in well-formed text
 pub decoded_octets : (p a q v : List ℕ) → Grammar.String a v → Utf8Octets (p ++ (a ++ q)) → Utf8Octets v
 decoded_octets p a q v (Grammar.quoted {a = c} cs) o =
     let s = (middle_octets p (c ++ (0x22 ∷ []) ++ q) 0x22 (omega arith) o).1 in

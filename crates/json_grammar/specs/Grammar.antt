@@ -97,7 +97,7 @@ pub data Chars : List ℕ → List ℕ → Type 0 where
   no_char : Chars [] []
   char : {a b v w : List ℕ} → Char a v → Chars b w → Chars (a ++ b) (v ++ w)
 
--- string = quotation_mark *char quotation_mark
+-- string = quotation-mark *char quotation-mark
 pub data String : List ℕ → List ℕ → Type 0 where
   quoted : {a v : List ℕ} → Chars a v → String (0x22 ∷ (a ++ (0x22 ∷ []))) v
 
@@ -112,13 +112,13 @@ pub data Flat : List ℕ → Meaning → Type 0 where
   number : {a : List ℕ} → Number a → Flat a other
   string : {a v : List ℕ} → String a v → Flat a (text v)
 
--- P *( value_separator P ), with the meanings in order
+-- P *( value-separator P ), with the meanings in order
 pub data Separated {X : Type 0} (P : List ℕ → X → Type 0) : List ℕ → List X → Type 0 where
   one : {a : List ℕ} {x : X} → P a x → Separated P a (x ∷ [])
   and : {a c b : List ℕ} {x : X} {xs : List X} → P a x → value_separator c → Separated P b xs →
       Separated P (a ++ (c ++ b)) (x ∷ xs)
 
--- opening [ P *( value_separator P ) ] closing
+-- opening [ P *( value-separator P ) ] closing
 pub data Enclosed {X : Type 0} (opening closing : Kind) (P : List ℕ → X → Type 0) : List ℕ → List X → Type 0 where
   empty : {a b : List ℕ} → opening a → closing b → Enclosed opening closing P (a ++ b) []
   filled : {a b c : List ℕ} {xs : List X} → opening a → Separated P b xs → closing c →
@@ -129,16 +129,16 @@ pub record Named : Type 0 where
   pub key : List ℕ
   pub value : Meaning
 
--- Section 4. member = string name_separator value
+-- Section 4. member = string name-separator value
 pub data Member (Inner : List ℕ → Meaning → Type 0) : List ℕ → Named → Type 0 where
   member : {a c b n : List ℕ} {m : Meaning} → String a n → name_separator c → Inner b m →
       Member Inner (a ++ (c ++ b)) (record { key = n; value = m })
 
--- object = begin_object [ member *( value_separator member ) ] end_object
+-- object = begin-object [ member *( value-separator member ) ] end-object
 abbrev pub Object : (List ℕ → Meaning → Type 0) → List ℕ → List Named → Type 0
 Object Inner = Enclosed begin_object end_object (Member Inner)
 
--- Section 5. array = begin_array [ value *( value_separator value ) ] end_array
+-- Section 5. array = begin-array [ value *( value-separator value ) ] end-array
 abbrev pub Array : (List ℕ → Meaning → Type 0) → List ℕ → List Meaning → Type 0
 Array Inner = Enclosed begin_array end_array Inner
 

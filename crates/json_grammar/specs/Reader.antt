@@ -189,7 +189,7 @@ after_item closing x more (y ∷ t) =
     let goes = and_then (more (skip t)) (λ xs q. got (x ∷ xs) q) in
     pick (eqb y 0x2C) goes (pick (eqb y closing) (got (x ∷ []) (skip t)) bad)
 
--- P *( value_separator P ) closing, of at most `n` items
+-- P *( value-separator P ) closing, of at most `n` items
 unfoldable pub items_of : {X : Type 0} → (List ℕ → Out X) → ℕ → ℕ → List ℕ → Out (List X)
 items_of p closing zero s = bad
 items_of p closing (suc n) s = and_then (p s) (λ x r. after_item closing x (items_of p closing n) (skip r))
@@ -201,7 +201,7 @@ inside_of p closing (x ∷ s) =
     let items = items_of p closing (length (x ∷ s)) (x ∷ s) in
     pick (eqb x closing) (got [] (skip s)) items
 
--- opening [ P *( value_separator P ) ] closing, at the opening character
+-- opening [ P *( value-separator P ) ] closing, at the opening character
 unfoldable pub enclosed_of : {X : Type 0} → (List ℕ → Out X) → ℕ → ℕ → List ℕ → Out (List X)
 enclosed_of p opening closing [] = bad
 enclosed_of p opening closing (x ∷ s) =

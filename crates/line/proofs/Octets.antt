@@ -1,5 +1,5 @@
--- Every part of a well_formed_lem line is well formed: the sides of a class line and of a member line, a field's and a method's parts, arguments, and the JSON of a
--- comment. Assumes nothing.
+-- Every part of a well-formed line is well formed: the sides of a class line and of a member line, a field's and a method's parts,
+-- arguments, and the JSON of a comment. Assumes nothing.
 use mathlib.Core.Path.{◌≡◌, refl, sym, ◌∙◌, ap}
 use mathlib.Core.Bool.{Bool, true, false}
 use mathlib.Core.List.{List, ◌∷◌}

@@ -1,4 +1,4 @@
--- All that a well_formed_lem line tells is well formed: each part of what it is. Assumes nothing.
+-- All that a well-formed line tells is well formed: each part of what it is. Assumes nothing.
 use mathlib.Core.Path.{◌≡◌, refl, sym, ◌∙◌, ap}
 use mathlib.Core.Bool.{Bool, true, false}
 use mathlib.Core.List.{List}
@@ -104,7 +104,7 @@ member_octets s by e t k h o = go (arrow_of t) refl
         let (c, d) = arrow_lies t f in
         side_octets s (by + l.start) e (part_of t l) (stands_deeper k l c h) a (shift by r) (octets_as (stands_part k r d) b) (first_where (starts 0x28) (part_of t l))
 
--- a line that is well formed tells well_formed_lem texts alone
+-- a line that is well formed tells well-formed texts alone
 pub line_octets : {s : List ℕ} → Utf8Octets s → LineOctets s (trim_both s).«end» (line_of s)
 line_octets {s} o = go (is_empty p) (starts 0x23 t) (starts_white s)
   where

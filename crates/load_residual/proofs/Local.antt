@@ -1,4 +1,5 @@
--- A good sequence is told by its own bytes: so white space stays white whatever follows it, and nothing else becomes white where a text is cut.
+-- A good sequence is told by its own bytes: so white space stays white whatever follows it, and nothing else becomes white where a text is
+-- cut.
 -- Assumes nothing.
 use mathlib.Core.Path.{◌≡◌, refl, sym, ◌∙◌, ap}
 use mathlib.Core.Bool.{Bool, true, false}

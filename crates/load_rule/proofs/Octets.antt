@@ -1,4 +1,5 @@
--- Every text of a mapping is well formed where the text that it is loaded from is: the classes' descriptors, and the members' names, descriptors and owners.
+-- Every text of a mapping is well formed where the text that it is loaded from is: the classes' descriptors, and the members' names,
+-- descriptors and owners.
 -- Assumes nothing.
 use mathlib.Core.Path.{◌≡◌, refl}
 use mathlib.Core.Bool.{Bool, true, false}
@@ -159,7 +160,7 @@ module _ {cs : List Pair} (p : Pairs cs) where
       let k = line_octets o in
       append_entries (entry_octets u w (residual_in ls) (residual_octets t) l (line_of l) k) (entries_octets t (under_after u l (line_of l)) (own_octets u w l (line_of l) k))
 
--- The lines of a well_formed_lem text, and all texts that they give.
+-- The lines of a well-formed text, and all texts that they give.
 pub str_texts : {s : List ℕ} → Utf8Octets s → Texts (lines_str s)
 str_texts o = lines_texts o
 

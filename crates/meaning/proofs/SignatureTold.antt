@@ -91,7 +91,7 @@ module _ (s v : List ℕ) where
           let says : says_residual s i ≡ true = ap (says_residual s) is ∙ id_said s p t ∙ same_refl residual_id in
           rw says (ap (string_at s) at ∙ string_said s q u)
 
-  -- A comment's JSON gives the signature `v` exactly where it is a JSON text whose last `id` is the fixed text and whose last `signature` is
-  -- a string that stands for `v`.
+  -- A comment's JSON gives the signature `v` exactly where it is a JSON text whose last `id` is the fixed text and whose last `signature`
+  -- is a string that stands for `v`.
   pub signature_iff : (signature_of s ≡ known v) ↔ GivesSignature s v
   signature_iff = (gives, given)

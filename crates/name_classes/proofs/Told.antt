@@ -1,4 +1,4 @@
--- What an answer says: of well_formed_lem tables, the text that stands at the place found is what the classes, read back, are known by.
+-- What an answer says: of well-formed tables, the text that stands at the place found is what the classes, read back, are known by.
 -- Assumes nothing.
 use mathlib.Core.Path.{◌≡◌, refl, sym, ◌∙◌, ap}
 use mathlib.Core.Bool.{true}

@@ -1,4 +1,4 @@
--- What an answer says: of well_formed_lem tables, the name and the line that the mapping, read back, has; and after an accepted load those of
+-- What an answer says: of well-formed tables, the name and the line that the mapping, read back, has; and after an accepted load those of
 -- the text. Assumes nothing.
 use mathlib.Core.Path.{◌≡◌, refl, sym, ◌∙◌, ap}
 use mathlib.Core.Bool.{true}

@@ -67,7 +67,7 @@ module _ (s : List ℕ) where
     pub good : Utf8Octets (between s m b)
     pub stops : b < length s → (a r : List ℕ) → Utf8Char a → drop b s ≡ a ++ r → ⊥
 
-  -- a character stands at the head of a well_formed_lem part
+  -- a character stands at the head of a well-formed part
   char_there : {t : List ℕ} → Utf8Octets t → (b e : ℕ) → t ≡ between s b e → 0 < length t → ((a r : List ℕ) → Utf8Char a → drop b s ≡ a ++ r → ⊥) → ⊥
   char_there none b e q h n = absurd (omega arith)
   char_there (more {a = a} {b = d} c o) b e q h n =

@@ -1,4 +1,4 @@
--- Octets that only continue a sequence, and where a well_formed_lem text may be cut. Assumes nothing.
+-- Octets that only continue a sequence, and where a well-formed text may be cut. Assumes nothing.
 use mathlib.Core.Path.{◌≡◌, refl, sym, ◌∙◌, ap}
 use mathlib.Core.Bool.{Bool, true, false}
 use mathlib.Core.List.{List, [], ◌∷◌, ◌++◌, append_assoc}
@@ -49,7 +49,7 @@ fresh_here s i h f = fresh_head (fresh_as (drop-cons s i 0 h) f)
 pub here_fresh : (s : List ℕ) (i : ℕ) → i < length s → is_tail (get_or s i 0) ≡ false → Fresh (drop i s)
 here_fresh s i h e = fresh_as (sym (drop-cons s i 0 h)) (head_fresh (get_or s i 0) (drop (suc i) s) e)
 
--- What is left of a well_formed_lem text behind a well_formed_lem start is well formed.
+-- What is left of a well-formed text behind a well-formed start is well formed.
 pub rest_octets : {a : List ℕ} → Utf8Octets a → (b : List ℕ) → Utf8Octets (a ++ b) → Utf8Octets b
 rest_octets none b o = o
 rest_octets (more {a = c} {b = d} k w) b o =

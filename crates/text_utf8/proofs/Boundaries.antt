@@ -1,5 +1,5 @@
--- UTF-8 finds its own characters: a well_formed_lem text may be cut before every octet that is no Utf8Tail, and both parts are well formed. What is made of
--- well_formed_lem texts. Assumes nothing.
+-- UTF-8 finds its own characters: a well-formed text may be cut before every octet that is no UTF8-tail, and both parts are well formed.
+-- What is made of well-formed texts. Assumes nothing.
 use mathlib.Core.Path.{◌≡◌, refl, sym, ◌∙◌, ap}
 use mathlib.Core.Bool.{true}
 use mathlib.Core.List.{List, [], ◌∷◌, ◌++◌, map, append-nil, append_assoc, map-append}
@@ -25,7 +25,7 @@ use Rattle.ground.proofs.Joins.{cons_same}
 pub octets_as : {s t : List ℕ} → s ≡ t → Utf8Octets s → Utf8Octets t
 octets_as e o = rw e at o
 
--- What is made of well_formed_lem texts.
+-- What is made of well-formed texts.
 pub char_octets : {a : List ℕ} → Utf8Char a → Utf8Octets a
 char_octets {a} c = octets_as (append-nil a) (more c none)
 
@@ -48,23 +48,23 @@ pub replicate_octets : (n x : ℕ) → x < 0x80 → Utf8Octets (replicate n x)
 replicate_octets zero x h = none
 replicate_octets (suc n) x h = cons_octets x h (replicate_octets n x h)
 
--- well_formed_lem texts
+-- well-formed texts
 pub data Texts : List (List ℕ) → Type 0 where
   no_text : Texts []
   text : {l : List ℕ} {ls : List (List ℕ)} → Utf8Octets l → Texts ls → Texts (l ∷ ls)
 
--- octets that are Utf8Tail
+-- octets that are UTF8-tail
 data Tails : List ℕ → Type 0 where
   no_tail : Tails []
   tail : {x : ℕ} {s : List ℕ} → 0x80 ≤ x → x ≤ 0xBF → Tails s → Tails (x ∷ s)
 
--- no Utf8Tail stands at the head
+-- no UTF8-tail stands at the head
 pub data Fresh : List ℕ → Type 0 where
   at_end : Fresh []
   at_low : {x : ℕ} {s : List ℕ} → x < 0x80 → Fresh (x ∷ s)
   at_high : {x : ℕ} {s : List ℕ} → 0xC0 ≤ x → Fresh (x ∷ s)
 
--- a UTF8-char: one ASCII octet, or an octet from C2 on and then Utf8Tail alone
+-- a UTF8-char: one ASCII octet, or an octet from C2 on and then UTF8-tail alone
 data Shape : List ℕ → Type 0 where
   single : {x : ℕ} → x < 0x80 → Shape (x ∷ [])
   several : {x : ℕ} {s : List ℕ} → 0xC0 ≤ x → Tails s → Shape (x ∷ s)
@@ -103,7 +103,7 @@ shape_fresh : {a : List ℕ} → Shape a → (b : List ℕ) → Fresh (a ++ b)
 shape_fresh (single h) b = at_low h
 shape_fresh (several h t) b = at_high h
 
--- a well_formed_lem text begins with no Utf8Tail
+-- a well-formed text begins with no UTF8-tail
 pub octets_fresh : {s : List ℕ} → Utf8Octets s → Fresh s
 octets_fresh none = at_end
 octets_fresh (more {b = b} c o) = shape_fresh (shape c) b
@@ -115,7 +115,7 @@ same_first e = cc
 same_later : {x y : ℕ} {s t : List ℕ} → x ∷ s ≡ y ∷ t → s ≡ t
 same_later e = cc
 
--- where Utf8Tail are at the head, a cut comes after them
+-- where UTF8-tail are at the head, a cut comes after them
 record Behind (c b p q : List ℕ) : Type 0 where
   between : List ℕ
   before : p ≡ c ++ between
@@ -157,7 +157,7 @@ module _ {s : List ℕ} (o : Utf8Octets s) where
     both_octets : Utf8Octets (take i s) × Utf8Octets (drop i s)
     both_octets = cut o (take i s) (drop i s) f (sym (take-append-drop i s))
 
-    -- a well_formed_lem text up to such a place, and from there on
+    -- a well-formed text up to such a place, and from there on
     pub take_octets : Utf8Octets (take i s)
     take_octets = both_octets.0
 
@@ -171,7 +171,7 @@ module _ {s : List ℕ} (o : Utf8Octets s) where
       let k : Fresh (drop (j - i) (drop i s)) = fresh_as (sym (drop-drop (j - i) i s ∙ ap (λ n. drop n s) there)) g in
       (cut (drop_octets i f) (take (j - i) (drop i s)) (drop (j - i) (drop i s)) k (sym (take-append-drop (j - i) (drop i s)))).0
 
--- the rest of a well_formed_lem text after a sequence that is read at its head
+-- the rest of a well-formed text after a sequence that is read at its head
 check_any : (at k : ℕ) (ps : List Sequence) → check_from at ps ≡ Valid → check_from k ps ≡ Valid
 unfolding check_from
 check_any at k [] e = refl
@@ -207,7 +207,7 @@ past_ascii (more c o) x s h e = by_shape (shape c) e o
     by_shape (single k) q w = octets_as (same_later q) w
     by_shape (several {x = y} k t) q w = absurd (let z : y ≡ x = same_first q in omega arith)
 
--- a well_formed_lem text without an ASCII octet at its head
+-- a well-formed text without an ASCII octet at its head
 pub tail_octets : (x : ℕ) (s : List ℕ) → x < 0x80 → Utf8Octets (x ∷ s) → Utf8Octets s
 tail_octets x s h o = past_ascii o x s h refl
 

@@ -21,12 +21,12 @@ use Rattle.text_utf8.proofs.Pieces.{pieces_none, pieces_good, pieces_bad}
 use Rattle.text_utf8.specs.Utf8.{Lead, lead, lead_of, tails, after_lead, sequence_of, pieces, check_from, check_of, is_valid, is_utf8}
 use Rattle.text_utf8.proofs.Checking.{valid_told}
 
--- octets after the first: as many as are to come, the next between two bounds and all later ones Utf8Tail
+-- octets after the first: as many as are to come, the next between two bounds and all later ones UTF8-tail
 data Tails : ℕ → ℕ → ℕ → List ℕ → Type 0 where
   last : {low high : ℕ} → Tails 0 low high []
   next : {n low high y : ℕ} {ys : List ℕ} → within low high y ≡ true → Tails n 0x80 0xBF ys → Tails (suc n) low high (y ∷ ys)
 
--- Sound: a sequence that is read is a Utf8Char.
+-- Sound: a sequence that is read is a UTF8-char.
 Sound : ℕ → List ℕ → Lead → Type 0
 Sound x ys l = eqb l.octets 0 ≡ false → Tails (pred l.octets) l.low l.high ys → Utf8Char (x ∷ ys)
 
@@ -112,7 +112,7 @@ good_is_char (x ∷ l) {d} {m} e =
     rw size (sound_row x (take (pred y.octets) l) (starts_something (eqb y.octets 0) o e)
     (tails_taken (pred y.octets) y.low y.high (x - y.mark) 1 l g))
 
--- Complete: a Utf8Char is read. First, which row a first octet has.
+-- Complete: a UTF8-char is read. First, which row a first octet has.
 module _ (x : ℕ) where
   row_00 : within 0x00 0x7F x ≡ true → lead_of x ≡ lead 1 0x00 0x80 0xBF
   unfolding lead_of
@@ -201,7 +201,7 @@ accepted (more {a} {b} c st) at =
     let (d, e) = char_reads c b in
     rw (pieces_good (a ++ b) e, drop-append_seam a b) (accepted st (at + length a))
 
--- RFC 3629: a text is accepted exactly where it is Utf8Octets
+-- RFC 3629: a text is accepted exactly where it is UTF8-octets
 pub valid_iff : (s : List ℕ) → (check_of s ≡ Valid) ↔ Utf8Octets s
 valid_iff s = (octets_of (length s) s 0 (omega arith), λ o. accepted o 0)
 

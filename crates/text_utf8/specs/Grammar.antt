@@ -2,45 +2,45 @@
 use Rattle.std.specs.Prelude.{◌≡◌, List, ◌++◌, ◌↔◌, ◌⊎◌, ℕ, ◌≤◌, ◌<◌, length, take, drop}
 use Rattle.ground.specs.Abnf.{Kind, Octet, ◌⊹◌, ◌∣◌, Star}
 
--- Utf8Tail   = %x80-BF
+-- UTF8-tail   = %x80-BF
 abbrev pub Utf8Tail : Kind
 Utf8Tail = Octet 0x80 0xBF
 
--- Utf8_1      = %x00-7F
+-- UTF8-1      = %x00-7F
 abbrev pub Utf8_1 : Kind
 Utf8_1 = Octet 0x00 0x7F
 
--- Utf8_2      = %xC2-DF Utf8Tail
+-- UTF8-2      = %xC2-DF UTF8-tail
 abbrev pub Utf8_2 : Kind
 Utf8_2 = Octet 0xC2 0xDF ⊹ Utf8Tail
 
--- Utf8_3      = %xE0 %xA0-BF Utf8Tail / %xE1-EC 2( Utf8Tail ) / %xED %x80-9F Utf8Tail / %xEE-EF 2( Utf8Tail )
+-- UTF8-3      = %xE0 %xA0-BF UTF8-tail / %xE1-EC 2( UTF8-tail ) / %xED %x80-9F UTF8-tail / %xEE-EF 2( UTF8-tail )
 abbrev pub Utf8_3 : Kind
 Utf8_3 =
     Octet 0xE0 0xE0 ⊹ Octet 0xA0 0xBF ⊹ Utf8Tail ∣ Octet 0xE1 0xEC ⊹ Utf8Tail ⊹ Utf8Tail ∣
     Octet 0xED 0xED ⊹ Octet 0x80 0x9F ⊹ Utf8Tail ∣ Octet 0xEE 0xEF ⊹ Utf8Tail ⊹ Utf8Tail
 
--- Utf8_4      = %xF0 %x90-BF 2( Utf8Tail ) / %xF1-F3 3( Utf8Tail ) / %xF4 %x80-8F 2( Utf8Tail )
+-- UTF8-4      = %xF0 %x90-BF 2( UTF8-tail ) / %xF1-F3 3( UTF8-tail ) / %xF4 %x80-8F 2( UTF8-tail )
 abbrev pub Utf8_4 : Kind
 Utf8_4 =
     Octet 0xF0 0xF0 ⊹ Octet 0x90 0xBF ⊹ Utf8Tail ⊹ Utf8Tail ∣ Octet 0xF1 0xF3 ⊹ Utf8Tail ⊹ Utf8Tail ⊹ Utf8Tail ∣
     Octet 0xF4 0xF4 ⊹ Octet 0x80 0x8F ⊹ Utf8Tail ⊹ Utf8Tail
 
--- Utf8Char   = Utf8_1 / Utf8_2 / Utf8_3 / Utf8_4
+-- UTF8-char   = UTF8-1 / UTF8-2 / UTF8-3 / UTF8-4
 abbrev pub Utf8Char : Kind
 Utf8Char = Utf8_1 ∣ Utf8_2 ∣ Utf8_3 ∣ Utf8_4
 
--- Utf8Octets = *( Utf8Char )
+-- UTF8-octets = *( UTF8-char )
 abbrev pub Utf8Octets : Kind
 Utf8Octets = Star Utf8Char
 
--- Document 01, refusal 2: the place is "valid bytes before it". They are Utf8Octets, and no Utf8Char stands after them.
+-- Document 01, refusal 2: the place is "valid bytes before it". They are UTF8-octets, and no UTF8-char stands after them.
 pub record Breaks (s : List ℕ) (at : ℕ) : Type 0 where
   pub inside : at < length s
   pub before : Utf8Octets (take at s)
   pub after : (a r : List ℕ) → Utf8Char a → drop at s ≡ a ++ r → ⊥
 
--- "the length is the longest start of a good sequence": a text that can be followed by others to a Utf8Char
+-- "the length is the longest start of a good sequence": a text that can be followed by others to a UTF8-char
 abbrev pub StartsChar : List ℕ → Type 0
 StartsChar a = (b : List ℕ) × Utf8Char (a ++ b)
 

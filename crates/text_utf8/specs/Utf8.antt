@@ -31,7 +31,7 @@ lead_of x =
     (pick (within 0xF4 0xF4 x) (lead 4 0xF0 0x80 0x8F)  --          %xF4 %x80-8F 2( Utf8Tail )
     (lead 0 0x00 0x80 0xBF)))))))))
 
--- The octets after the first: so many are still to come, the next between `low` and `high` and all later ones Utf8Tail = %x80-BF. Each
+-- The octets after the first: so many are still to come, the next between `low` and `high` and all later ones UTF8-tail = %x80-BF. Each
 -- has six x bits (section 3). `taken` octets are a start of a good sequence. So an octet that does not fit leaves that length (document 01:
 -- "the longest start of a good sequence"), and a text that ends here leaves 0 ("0 if the text ends in one").
 unfoldable pub tails : ℕ → ℕ → ℕ → ℕ → ℕ → List ℕ → Sequence

@@ -156,7 +156,7 @@ module _ {c : ℕ} {f : List ℕ → List (List ℕ)} (r : Splitting c f) where
       go false e later again =
           texts_as (ontos_more p b (f s) ∙ ap (ontos p) (sym (r.stays b s (eqb-false b c e)))) (again (octets_as (sym (append_assoc p (b ∷ []) s)) o))
 
-  -- the parts of a well_formed_lem text are well formed
+  -- the parts of a well-formed text are well formed
   pub split_texts : {s : List ℕ} → Utf8Octets s → Texts (f s)
   unfolding ontos
   split_texts {s} o = split_from [] s o

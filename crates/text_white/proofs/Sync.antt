@@ -54,7 +54,7 @@ any_tail x =
     (either_row Tail (within 0xF4 0xF4 x) (tail 4 0xF0 0x80 0x8F (lit≤ tt) (lit≤ tt) (lit≤ tt))
     (tail 0 0x00 0x80 0xBF (lit≤ tt) (lit≤ tt) (lit≤ tt))))))))))
 
--- every octet of a good sequence but its first is a Utf8Tail
+-- every octet of a good sequence but its first is a UTF8-tail
 tails_inner : (n low high code taken : ℕ) (l : List ℕ) {d m : ℕ} → 0x80 ≤ low → high ≤ 0xBF → tails n low high code taken l ≡ Good d m →
     (k : ℕ) → k < n → (0x80 ≤ get_or l k 0) × (get_or l k 0 ≤ 0xBF)
 unfolding tails
@@ -85,7 +85,7 @@ good_size (x ∷ l) e =
     let f = tails_fit (pred y.octets) y.low y.high (x - y.mark) 1 l (second_good (eqb y.octets 0) 1 e) in
     omega (arith, (any_tail x).most)
 
--- and no good sequence starts with a Utf8Tail
+-- and no good sequence starts with a UTF8-tail
 good_start : (l : List ℕ) {d m : ℕ} → sequence_of l ≡ Good d m → 0x80 ≤ get_or l 0 0 → get_or l 0 0 ≤ 0xBF → ⊥
 unfolding sequence_of after_lead
 good_start [] e p h = let z : ◌≡◌ {A = ℕ} 0 1 = cc in omega arith

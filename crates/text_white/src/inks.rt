@@ -27,7 +27,8 @@ fn gap_so_far(holds: bool, b: u8) -> bool
     true
 }
 
-// Whether one of the 16 bytes from a place on is no ink; promised is only what passing the block needs, that all are where the answer is no.
+// Whether one of the 16 bytes from a place on is no ink; promised is only what passing the block needs, that all are where the answer is
+// no.
 // The compiler makes a few vector instructions of the loop.
 fn block_has_gap(s: &[u8], at: usize) -> bool
     requires { at + 16 ≤ length s.now }

@@ -1,4 +1,4 @@
--- Every tree that is read from a well_formed_lem file can be written. Assumes nothing.
+-- Every tree that is read from a well-formed file can be written. Assumes nothing.
 use mathlib.Core.Path.{◌≡◌, refl, ◌∙◌, ap}
 use mathlib.Core.Bool.{Bool, true, false}
 use mathlib.Core.List.{List}

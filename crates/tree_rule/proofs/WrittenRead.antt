@@ -1,4 +1,4 @@
--- A well_formed_lem file, read and written, is the file. Assumes nothing.
+-- A well-formed file, read and written, is the file. Assumes nothing.
 use mathlib.Core.Path.{◌≡◌, refl, sym, ◌∙◌, ap}
 use mathlib.Core.Bool.{Bool, true, false}
 use mathlib.Core.List.{List, ◌++◌, map, append_assoc}
@@ -122,7 +122,7 @@ module _ (c : TreeCounts) (f : List ℕ) where
       ap (λ l. list_from (token_at c f) t (token_count_at f i) ++ l) (nodes_tokens (suc i) (t + token_count_at f i) n)
       ∙ sym (list_append (token_at c f) t (token_count_at f i) (sum_from (token_count_at f) (suc i) n))
 
-  -- The stretches of a well_formed_lem file.
+  -- The stretches of a well-formed file.
   module _ (small : (i : ℕ) → get_or f i 0 < 256) (k : FormedBy c f) where
     node_stretch : drop 16 f ≡ join (map node_row_bytes (nodes_from c f 0 0 c.nodes)) ++ drop (tokens_start c) f
     node_stretch =

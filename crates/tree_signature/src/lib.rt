@@ -1,4 +1,4 @@
-// The signature of a node of a well_formed_lem tree file: the member that it names. Functions take the counts of the file and the numbers of
+// The signature of a node of a well-formed tree file: the member that it names. Functions take the counts of the file and the numbers of
 // tokens, and require that the file has passed its checks.
 #![tactic(auto)]
 

@@ -5,7 +5,7 @@ use Rattle.text_utf8.specs.declared.check.Check.{Check}
 use Rattle.text_utf8.specs.declared.check.Check.TheVariants.{Valid, Broken}
 use Rattle.text_utf8.specs.Utf8.{check_of}
 
--- RFC 3629's Utf8Tail
+-- RFC 3629's UTF8-tail
 abbrev pub is_tail : ℕ → Bool
 is_tail x = within 0x80 0xBF x
 

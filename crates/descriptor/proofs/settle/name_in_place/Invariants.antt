@@ -1,4 +1,5 @@
--- `descriptor::settle::name_in_place` meets its contract, by the laws of Settling and an invariant that says: the rest decides as the whole does.
+-- `descriptor::settle::name_in_place` meets its contract, by the laws of Settling and an invariant that says: the rest decides as the whole
+-- does.
 use Rattle.descriptor.proofs.Settling.{Moving}
 use Rattle.descriptor.proofs.settle.name_in_place.Given as goal
 

@@ -1,4 +1,5 @@
--- `descriptor::types::without_brackets` meets its contract, by the laws of Typing and an invariant that says: the rest decides as the whole does.
+-- `descriptor::types::without_brackets` meets its contract, by the laws of Typing and an invariant that says: the rest decides as the whole
+-- does.
 use Rattle.descriptor.proofs.Typing.{Stripping}
 use Rattle.descriptor.proofs.types.without_brackets.Given as goal
 

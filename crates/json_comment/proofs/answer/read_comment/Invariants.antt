@@ -1,4 +1,5 @@
--- `json_comment::answer::read_comment` meets its contract, by the laws of Answers and an invariant that says: the rest decides as the whole does.
+-- `json_comment::answer::read_comment` meets its contract, by the laws of Answers and an invariant that says: the rest decides as the
+-- whole does.
 use Rattle.json_comment.proofs.Answers.{Reading}
 use Prim.Native.Nat.{◌-◌}
 use lib.ListN.{length}

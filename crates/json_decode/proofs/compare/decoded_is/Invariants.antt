@@ -1,4 +1,5 @@
--- `json_decode::compare::decoded_is` meets its contract, by the laws of Comparing and an invariant that says: the rest decides as the whole does.
+-- `json_decode::compare::decoded_is` meets its contract, by the laws of Comparing and an invariant that says: the rest decides as the
+-- whole does.
 use Rattle.json_decode.proofs.Comparing.{Comparing}
 use Prim.Native.Nat.{◌-◌}
 use lib.ListN.{length}

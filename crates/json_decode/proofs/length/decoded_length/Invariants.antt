@@ -1,4 +1,5 @@
--- `json_decode::length::decoded_length` meets its contract, by the laws of Lengths and an invariant that says: the rest decides as the whole does.
+-- `json_decode::length::decoded_length` meets its contract, by the laws of Lengths and an invariant that says: the rest decides as the
+-- whole does.
 use Rattle.json_decode.proofs.Lengths.{Counting}
 use Prim.Native.Nat.{◌-◌}
 use lib.ListN.{length}

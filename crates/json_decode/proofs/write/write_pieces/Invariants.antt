@@ -1,4 +1,5 @@
--- `json_decode::write::write_pieces` meets its contract, by the laws of Writing and an invariant that says: the rest decides as the whole does.
+-- `json_decode::write::write_pieces` meets its contract, by the laws of Writing and an invariant that says: the rest decides as the
+-- whole does.
 use Rattle.json_decode.proofs.Writing.{Writing}
 use Prim.Native.Nat.{◌-◌}
 use lib.ListN.{length}

@@ -1,4 +1,5 @@
--- `json_string::plain::plain_blocks` meets its contract, by the laws of PlainLaws and an invariant that says what is done and what is left.
+-- `json_string::plain::plain_blocks` meets its contract, by the laws of PlainLaws and an invariant that says what is done and what is
+-- left.
 use Prim.Native.Nat.{◌-◌}
 use lib.ListN.{length}
 use Rattle.json_string.specs.Inner.Plain.{PlainTo}

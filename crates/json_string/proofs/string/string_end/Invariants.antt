@@ -1,4 +1,5 @@
--- `json_string::string::string_end` meets its contract, by the laws of Strings and an invariant that says: the rest decides as the whole does.
+-- `json_string::string::string_end` meets its contract, by the laws of Strings and an invariant that says: the rest decides as the
+-- whole does.
 use Rattle.json_string.proofs.Strings.{Stringing}
 use Prim.Native.Nat.{◌-◌}
 use lib.ListN.{length}

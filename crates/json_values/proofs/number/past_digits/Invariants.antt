@@ -1,4 +1,5 @@
--- `json_values::number::past_digits` meets its contract, by the laws of Numbers and an invariant that says: the rest decides as the whole does.
+-- `json_values::number::past_digits` meets its contract, by the laws of Numbers and an invariant that says: the rest decides as the
+-- whole does.
 use Rattle.json_values.proofs.Spaces.{Passing}
 use Prim.Native.Nat.{◌-◌}
 use lib.ListN.{length}

@@ -1,5 +1,6 @@
--- The readers of values, members, objects and arrays, which call each other, meet their contracts, by the laws of Values. What falls from call to
--- call is the depth allowance: three steps of it a level, since a value asks an object one level down, that a member, and that a value.
+-- The readers of values, members, objects and arrays, which call each other, meet their contracts, by the laws of Values. What falls
+-- from call to call is the depth allowance: three steps of it a level, since a value asks an object one level down, that a member, and
+-- that a value.
 use Rattle.std.proofs.Common.{length, drop, ◌+◌, ◌-◌, ◌*◌}
 use Rattle.json_grammar.specs.Reader.{enclosed_of, member_of, value_of}
 use Rattle.json_values.proofs.Listing.{Listing}

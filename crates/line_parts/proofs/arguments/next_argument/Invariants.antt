@@ -1,4 +1,5 @@
--- `line_parts::arguments::next_argument` meets its contract, by the laws of Listed and an invariant that says: the rest decides as the whole does.
+-- `line_parts::arguments::next_argument` meets its contract, by the laws of Listed and an invariant that says: the rest decides as the
+-- whole does.
 use Rattle.line_parts.proofs.Listed.{Passing}
 use Prim.Native.Nat.{◌-◌}
 use lib.ListN.{length}

@@ -1,4 +1,5 @@
--- `load_raw_types::types::put_raw_pieces` meets its contract, by the laws of Going and an invariant that says what is done and what is left.
+-- `load_raw_types::types::put_raw_pieces` meets its contract, by the laws of Going and an invariant that says what is done and what is
+-- left.
 use Rattle.load_raw_types.proofs.Going.{Going}
 use Prim.Native.Nat.{◌-◌}
 use lib.ListN.{length}

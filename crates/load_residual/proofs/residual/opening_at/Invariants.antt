@@ -1,4 +1,5 @@
--- `load_residual::residual::opening_at` meets its contract, by the laws of Leading and an invariant that says what is done and what is left.
+-- `load_residual::residual::opening_at` meets its contract, by the laws of Leading and an invariant that says what is done and what is
+-- left.
 use Rattle.load_residual.proofs.Leading.{Leading}
 use Prim.Native.Nat.{◌-◌}
 use lib.ListN.{length}

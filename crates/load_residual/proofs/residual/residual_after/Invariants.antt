@@ -1,4 +1,5 @@
--- `load_residual::residual::residual_after` meets its contract, by the laws of Following and an invariant that says what is done and what is left.
+-- `load_residual::residual::residual_after` meets its contract, by the laws of Following and an invariant that says what is done and what
+-- is left.
 use Rattle.load_residual.proofs.Following.{Following}
 use Prim.Native.Nat.{◌-◌}
 use lib.ListN.{length}

@@ -1,4 +1,5 @@
--- `load_texts::descriptors::put_arguments` meets its contract, by the laws of Typing and an invariant that says what is done and what is left.
+-- `load_texts::descriptors::put_arguments` meets its contract, by the laws of Typing and an invariant that says what is done and what is
+-- left.
 use Rattle.load_texts.proofs.Typing.{Arguing}
 use Prim.Native.Nat.{◌-◌}
 use lib.ListN.{length}

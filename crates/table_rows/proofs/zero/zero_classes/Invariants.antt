@@ -1,4 +1,5 @@
--- `table_rows::zero::zero_classes` meets its contract, by the laws of Zeroing and an invariant that says: the rest decides as the whole does.
+-- `table_rows::zero::zero_classes` meets its contract, by the laws of Zeroing and an invariant that says: the rest decides as the whole
+-- does.
 use Rattle.table_rows.proofs.Zeroing.{Filling}
 use Rattle.table_rows.specs.Rows.{zero_class}
 use Prim.Native.Nat.{◌-◌}

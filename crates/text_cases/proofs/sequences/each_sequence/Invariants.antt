@@ -1,4 +1,5 @@
--- `text_cases::sequences::each_sequence` meets its contract, by the laws of Safe and an invariant that says: the rest decides as the whole does.
+-- `text_cases::sequences::each_sequence` meets its contract, by the laws of Safe and an invariant that says: the rest decides as the whole
+-- does.
 use Rattle.text_places.proofs.Taking.{Taking}
 use Prim.Native.Nat.{◌-◌}
 use lib.ListN.{length}

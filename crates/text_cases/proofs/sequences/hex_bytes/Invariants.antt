@@ -1,4 +1,5 @@
--- `text_cases::sequences::hex_bytes` meets its contract, by the laws of Safe and an invariant that says: the rest decides as the whole does.
+-- `text_cases::sequences::hex_bytes` meets its contract, by the laws of Safe and an invariant that says: the rest decides as the whole
+-- does.
 use Rattle.text_cases.proofs.Safe.{Filling}
 use Prim.Native.Nat.{◌-◌, ◌+◌}
 use lib.ListN.{length}

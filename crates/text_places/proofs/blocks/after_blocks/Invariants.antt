@@ -1,4 +1,5 @@
--- `text_places::blocks::after_blocks` meets its contract, by the laws of BlockLaws and an invariant that says what is done and what is left.
+-- `text_places::blocks::after_blocks` meets its contract, by the laws of BlockLaws and an invariant that says what is done and what is
+-- left.
 use Prim.Native.Nat.{◌-◌}
 use lib.ListN.{length}
 use Rattle.text_places.specs.Inner.Blocks.{Without}

@@ -1,4 +1,5 @@
--- `text_places::blocks::block_holds` meets its contract, by the laws of BlockLaws and an invariant that says: the rest decides as the whole does.
+-- `text_places::blocks::block_holds` meets its contract, by the laws of BlockLaws and an invariant that says: the rest decides as the whole
+-- does.
 use Rattle.text_places.specs.Inner.Blocks.{is_byte}
 use Rattle.text_places.proofs.MaskLaws.{Passed}
 use Prim.Native.Nat.{◌-◌}

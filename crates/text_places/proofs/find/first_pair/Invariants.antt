@@ -1,4 +1,5 @@
--- `text_places::find::first_pair` meets its contract, by the laws of BlockLaws and an invariant that says: the rest decides as the whole does.
+-- `text_places::find::first_pair` meets its contract, by the laws of BlockLaws and an invariant that says: the rest decides as the whole
+-- does.
 use Rattle.text_places.proofs.PlaceLaws.{Seeking}
 use Prim.Native.Nat.{◌-◌}
 use lib.ListN.{length}

@@ -1,4 +1,5 @@
--- `text_places::find::same_bytes` meets its contract, by the laws of PlaceLaws and an invariant that says: the rest decides as the whole does.
+-- `text_places::find::same_bytes` meets its contract, by the laws of PlaceLaws and an invariant that says: the rest decides as the whole
+-- does.
 use Rattle.text_places.proofs.PlaceLaws.{Matching}
 use Prim.Native.Nat.{◌-◌}
 use lib.ListN.{length}

@@ -1,4 +1,5 @@
--- `text_places::lines::lf_from` meets its contract, by the laws of BlockLaws and an invariant that says: the rest decides as the whole does.
+-- `text_places::lines::lf_from` meets its contract, by the laws of BlockLaws and an invariant that says: the rest decides as the whole
+-- does.
 use Rattle.text_places.proofs.LineLaws.{ToLf}
 use Prim.Native.Nat.{◌-◌}
 use lib.ListN.{length}

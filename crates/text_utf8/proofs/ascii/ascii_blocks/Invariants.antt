@@ -1,4 +1,5 @@
--- `text_utf8::ascii::ascii_blocks` meets its contract, by the laws of RunLaws and an invariant that says: the rest decides as the whole does.
+-- `text_utf8::ascii::ascii_blocks` meets its contract, by the laws of RunLaws and an invariant that says: the rest decides as the whole
+-- does.
 use Prim.Native.Nat.{◌-◌}
 use lib.ListN.{length}
 use Rattle.text_utf8.specs.Inner.Runs.{AsciiTo}

@@ -1,4 +1,5 @@
--- `text_utf8::ascii::greatest_of_block` meets its contract, by the laws of RunLaws and an invariant that says: the rest decides as the whole does.
+-- `text_utf8::ascii::greatest_of_block` meets its contract, by the laws of RunLaws and an invariant that says: the rest decides as the
+-- whole does.
 use Rattle.text_utf8.proofs.RunLaws.{Bounded}
 use Prim.Native.Nat.{◌-◌}
 use Rattle.text_utf8.proofs.ascii.greatest_of_block.Given as goal

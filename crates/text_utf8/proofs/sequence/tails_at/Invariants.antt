@@ -1,4 +1,5 @@
--- `text_utf8::sequence::tails_at` meets its contract, by the laws of Sequences and an invariant that says: the rest decides as the whole does.
+-- `text_utf8::sequence::tails_at` meets its contract, by the laws of Sequences and an invariant that says: the rest decides as the whole
+-- does.
 use Rattle.text_utf8.proofs.Sequences.{Tailing}
 use Prim.Native.Nat.{◌-◌}
 use Rattle.text_utf8.proofs.sequence.tails_at.Given as goal

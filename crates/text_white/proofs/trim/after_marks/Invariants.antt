@@ -1,4 +1,5 @@
--- `text_white::trim::after_marks` meets its contract, by the laws of TrimLaws and an invariant that says: the rest decides as the whole does.
+-- `text_white::trim::after_marks` meets its contract, by the laws of TrimLaws and an invariant that says: the rest decides as the whole
+-- does.
 use Rattle.text_white.proofs.TrimLaws.{Running}
 use Prim.Native.Nat.{◌-◌}
 use lib.ListN.{length}
