@@ -24,7 +24,7 @@ fn is_tail(b: u8) -> bool
     b <= 0xBF
 }
 
-// Whether three octets stand at a place whose first one allows every second one (RFC 3629, section 4, `%xE1-EC 2( Utf8Tail )`): most
+// Whether three octets stand at a place whose first one allows every second one (RFC 3629, section 4, `%xE1-EC 2( UTF8-tail )`): most
 // characters of three octets. Promised is only what passing them needs.
 fn is_three(s: &[u8], at: usize) -> bool
     requires { at ≤ length s.now }
