@@ -4,35 +4,10 @@ use mathlib.Core.List.{List}
 use lib.ListN.{replicate}
 use Rattle.load_mapping.proofs.Programming.{program_long, program_loads}
 use lib.ListN.{length-replicate}
-use borrow.Author.Rules.{rules}
 use Rattle.load_mapping.proofs.answer.line_for.Goals as goal
-
-pub report_line-requires : goal.report_line-requires
-report_line-requires c = search rules
-
-pub shape_of-out-then-input-gt65536 : goal.shape_of-out-then-input-gt65536
-shape_of-out-then-input-gt65536 c = search rules
 
 pub returns-then-input-gt65536 : goal.returns-then-input-gt65536
 returns-then-input-gt65536 c = (program_long c.args.input.now c.if-input-gt65536.true c.report_line.ensures.0, c.report_line.ensures.1)
-
-pub slice_bounds-parse-end : goal.slice_bounds-parse-end
-slice_bounds-parse-end c = search rules
-
-pub slice_bounds-parse-end-2 : goal.slice_bounds-parse-end-2
-slice_bounds-parse-end-2 c = search rules
-
-pub slice_bounds-parse-end-3 : goal.slice_bounds-parse-end-3
-slice_bounds-parse-end-3 c = search rules
-
-pub parse-load-requires : goal.parse-load-requires
-parse-load-requires c = search rules
-
-pub report_line-requires-2 : goal.report_line-requires-2
-report_line-requires-2 c = search rules
-
-pub shape_of-out : goal.shape_of-out
-shape_of-out c = search rules
 
 pub returns : goal.returns
 returns c = (program_loads c.args.input.now c.if-input-gt65536.false c.parse-load.ensures.0 (length-replicate {A = List ℕ} 1024 (replicate 4 0)) (length-replicate {A = List ℕ} 1024 (replicate 15 0)) (length-replicate {A = ℕ} 65536 0) c.report_line-2.ensures.0, c.report_line-2.ensures.1)
