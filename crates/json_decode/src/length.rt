@@ -14,6 +14,7 @@ pub enum Decoded {
 }
 
 // How many bytes a code point has in UTF-8.
+#[tactic(auto, using(crate::proofs::Lengths::utf8_lengths))]
 pub fn utf8_length(code: u32) -> usize
     ensures { result ≡ length (utf8 code) }
 {

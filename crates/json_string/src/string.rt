@@ -106,6 +106,7 @@ fn second_at(s: &[u8], base: usize, high: u32) -> Piece
 }
 
 // The escape of a code point by four digits. The char starts at `base`, and its digits two bytes later.
+#[tactic(auto, using(crate::proofs::PieceLaws::unicodes))]
 fn unicode_at(s: &[u8], base: usize) -> Piece
     requires { base + 2 ≤ length s.now }
     ensures { PieceMeans s.now base result (unicode (drop (base + 2) s.now)) }
@@ -180,6 +181,7 @@ fn escape_at(s: &[u8], base: usize) -> Piece
 }
 
 // What stands at a place inside a string.
+#[tactic(auto, using(crate::proofs::PieceLaws::pieces_here))]
 fn every_piece_at(s: &[u8], at: usize) -> Piece
     ensures { PieceMeans s.now at result (piece_of (drop at s.now)) }
 {

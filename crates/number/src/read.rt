@@ -11,6 +11,7 @@ pub enum Number {
 
 // The number whose digits start at a place and end with the text. It stops at the first byte that is no digit, and where the value grows
 // too large: no more digits make it smaller.
+#[tactic(auto, using(crate::proofs::Reading::reading))]
 fn digits_from(s: &[u8], start: usize) -> Number
     requires { start ≤ length s.now }
     ensures { result ≡ plain (drop start s.now) }

@@ -20,15 +20,15 @@ lead octets mark low high = record { octets = octets; mark = mark; low = low; hi
 -- Section 4, line by line. No production begins with any other octet, which is 0 octets here: 80 to C1 and F5 to FF.
 unfoldable pub lead_of : ℕ → Lead
 lead_of x =
-    pick (within 0x00 0x7F x) (lead 1 0x00 0x80 0xBF)  -- Utf8_1 = %x00-7F
-    (pick (within 0xC2 0xDF x) (lead 2 0xC0 0x80 0xBF)  -- Utf8_2 = %xC2-DF Utf8Tail
-    (pick (within 0xE0 0xE0 x) (lead 3 0xE0 0xA0 0xBF)  -- Utf8_3 = %xE0 %xA0-BF Utf8Tail /
-    (pick (within 0xE1 0xEC x) (lead 3 0xE0 0x80 0xBF)  --          %xE1-EC 2( Utf8Tail ) /
-    (pick (within 0xED 0xED x) (lead 3 0xE0 0x80 0x9F)  --          %xED %x80-9F Utf8Tail /
-    (pick (within 0xEE 0xEF x) (lead 3 0xE0 0x80 0xBF)  --          %xEE-EF 2( Utf8Tail )
-    (pick (within 0xF0 0xF0 x) (lead 4 0xF0 0x90 0xBF)  -- Utf8_4 = %xF0 %x90-BF 2( Utf8Tail ) /
-    (pick (within 0xF1 0xF3 x) (lead 4 0xF0 0x80 0xBF)  --          %xF1-F3 3( Utf8Tail ) /
-    (pick (within 0xF4 0xF4 x) (lead 4 0xF0 0x80 0x8F)  --          %xF4 %x80-8F 2( Utf8Tail )
+    pick (within 0x00 0x7F x) (lead 1 0x00 0x80 0xBF)  -- UTF8-1 = %x00-7F
+    (pick (within 0xC2 0xDF x) (lead 2 0xC0 0x80 0xBF)  -- UTF8-2 = %xC2-DF UTF8-tail
+    (pick (within 0xE0 0xE0 x) (lead 3 0xE0 0xA0 0xBF)  -- UTF8-3 = %xE0 %xA0-BF UTF8-tail /
+    (pick (within 0xE1 0xEC x) (lead 3 0xE0 0x80 0xBF)  --          %xE1-EC 2( UTF8-tail ) /
+    (pick (within 0xED 0xED x) (lead 3 0xE0 0x80 0x9F)  --          %xED %x80-9F UTF8-tail /
+    (pick (within 0xEE 0xEF x) (lead 3 0xE0 0x80 0xBF)  --          %xEE-EF 2( UTF8-tail )
+    (pick (within 0xF0 0xF0 x) (lead 4 0xF0 0x90 0xBF)  -- UTF8-4 = %xF0 %x90-BF 2( UTF8-tail ) /
+    (pick (within 0xF1 0xF3 x) (lead 4 0xF0 0x80 0xBF)  --          %xF1-F3 3( UTF8-tail ) /
+    (pick (within 0xF4 0xF4 x) (lead 4 0xF0 0x80 0x8F)  --          %xF4 %x80-8F 2( UTF8-tail )
     (lead 0 0x00 0x80 0xBF)))))))))
 
 -- The octets after the first: so many are still to come, the next between `low` and `high` and all later ones UTF8-tail = %x80-BF. Each

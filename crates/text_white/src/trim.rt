@@ -27,6 +27,7 @@ pub fn white_at(s: &[u8], at: usize) -> bool
 }
 
 // Where a text starts without the white space at its start.
+#[tactic(auto, using(crate::proofs::Starting::starting))]
 pub fn trim_start(s: &[u8]) -> usize
     ensures { result ≡ trim_start s.now }
 {

@@ -20,11 +20,5 @@ escape_at-requires c = search pieces_here
 pub returns-then-b-eq92 : goal.returns-then-b-eq92
 returns-then-b-eq92 c = search pieces_here
 
-pub overflow_add-result-then-b-ge32 : goal.overflow_add-result-then-b-ge32
-overflow_add-result-then-b-ge32 c = search pieces_here
-
-pub returns-then-b-ge32 : goal.returns-then-b-ge32
-returns-then-b-ge32 c = search pieces_here
-
 pub returns : goal.returns
 returns c = search pieces_here

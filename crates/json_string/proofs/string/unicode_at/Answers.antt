@@ -20,12 +20,6 @@ overflow_add-result c = search unicodes
 pub returns-then-code-lt128 : goal.returns-then-code-lt128
 returns-then-code-lt128 c = search unicodes
 
-pub overflow_add-result-then-code-lt55296 : goal.overflow_add-result-then-code-lt55296
-overflow_add-result-then-code-lt55296 c = search unicodes
-
-pub returns-then-code-lt55296 : goal.returns-then-code-lt55296
-returns-then-code-lt55296 c = search unicodes
-
 pub second_at-requires : goal.second_at-requires
 second_at-requires c = search unicodes
 

@@ -25,9 +25,6 @@ overflow_cast-value c = search reading
 pub overflow_add-value : goal.overflow_add-value
 overflow_add-value c = search reading
 
-pub returns-then-value-gt4294967295 : goal.returns-then-value-gt4294967295
-returns-then-value-gt4294967295 c = search reading
-
 pub overflow_add-at : goal.overflow_add-at
 overflow_add-at c = search reading
 

@@ -19,12 +19,6 @@ bounds-s-at-in-loop-at c = search starting
 pub overflow_add-at : goal.overflow_add-at
 overflow_add-at c = search starting
 
-pub loop-at-smaller-then-s-at-eq32 : goal.loop-at-smaller-then-s-at-eq32
-loop-at-smaller-then-s-at-eq32 c = search starting
-
-pub loop-at-preserved-then-s-at-eq32 : goal.loop-at-preserved-then-s-at-eq32
-loop-at-preserved-then-s-at-eq32 c = search starting
-
 pub white_length-length-requires : goal.white_length-length-requires
 white_length-length-requires c = search starting
 
