@@ -36,7 +36,7 @@ pub shape_of-out-in_default : goal.shape_of-out-in_default
 shape_of-out-in_default c = search passing
 
 pub returns-in_default : goal.returns-in_default
-returns-in_default c = search (c.requires.0, c.loop-node.invariant, c.loop-node-test.true, c.token_count_at-count.ensures, c.node_note-note.ensures, c.last_raw-given.ensures, c.home_row-home.ensures, c.plan_node.ensures, c.enum_told-1.given.1, plans_over)
+returns-in_default c = search (c.requires.0, c.loop-node.invariant, c.loop-node-test.true, c.token_count_at-count.ensures, c.node_note-note.ensures, c.last_raw-given.ensures, c.home_row-home.ensures, c.plan_node.ensures, c.in_default.is, plans_over)
 
 pub overflow_add-first : goal.overflow_add-first
 overflow_add-first c = search (c.requires.0, c.loop-node.invariant, c.loop-node-test.true, c.token_count_at-count.ensures, first_fits, rules)
@@ -48,7 +48,7 @@ pub loop-node-smaller : goal.loop-node-smaller
 loop-node-smaller c = search passing
 
 pub loop-node-preserved : goal.loop-node-preserved
-loop-node-preserved c = search (c.requires.0, c.loop-node.invariant, c.loop-node-test.true, c.token_count_at-count.ensures, c.node_note-note.ensures, c.last_raw-given.ensures, c.home_row-home.ensures, c.plan_node.ensures, c.more-1.given.1, plans_more)
+loop-node-preserved c = search (c.requires.0, c.loop-node.invariant, c.loop-node-test.true, c.token_count_at-count.ensures, c.node_note-note.ensures, c.last_raw-given.ensures, c.home_row-home.ensures, c.plan_node.ensures, c.in-Done.is, plans_more)
 
 pub shape_of-out : goal.shape_of-out
 shape_of-out c = search passing
