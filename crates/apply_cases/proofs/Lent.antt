@@ -1,11 +1,9 @@
 -- What is loaded, applied and written stays within the arrays that are lent. Assumes nothing.
 use mathlib.Core.Path.{◌≡◌, sym, ◌∙◌, ap}
 use mathlib.Core.List.{List}
-use Prim.Native.Nat.{ℕ, ◌+◌, ◌≤◌}
+use Prim.Native.Nat.{ℕ, ◌≤◌}
 use native.Mathlib.Omega.{arith}
 use lib.ListN.{length, take}
-use mir.Val.{Fits}
-use mir.Syntax.{w32}
 use borrow.Author.Rules.{rules}
 use Rattle.ground.proofs.Parts.{prefix_whole}
 use Rattle.text_places.specs.declared.lines.NextLine.{NextLine}
@@ -14,22 +12,10 @@ use Rattle.text_places.specs.Inner.NextLine.{next_line}
 use Rattle.text_places.proofs.Taking.{line_inside, line_starts, line_ends}
 use Rattle.table_rows.specs.Tables.{Tables}
 use Rattle.tables.specs.declared.check.Used.{Used}
-use Rattle.load_rule.specs.declared.Fates.{Fates}
-use Rattle.load_rule.specs.declared.Load.{Load}
-use Rattle.load_rule.specs.declared.Load.TheVariants.{Loaded}
-use Rattle.load_rule.specs.Loading.{Lent, answer_of}
-use Rattle.load_rule.proofs.Exactly.{loaded_iff}
 use Rattle.apply_rule.specs.declared.Applied.{Applied}
 use Rattle.apply_rule.specs.declared.Applied.TheVariants.{Done}
 use Rattle.apply_rule.specs.Applying.{apply_answer, apply_output}
 use Rattle.apply_rule.proofs.Answers.{accepted_output, output_length}
-
--- "member rows 32,768": no more are counted where a load is accepted
-pub members_fit : (s : List ℕ) (ls : List (List ℕ)) (n : Lent) {f : Fates} {names : ℕ} {load : Load} →
-    load ≡ answer_of s ls n → load ≡ Loaded f names → Fits w32 (f.field + f.method)
-members_fit s ls n {f} {names} a l = let r = ((loaded_iff s ls n f names).0 (sym a ∙ l)).member_rows in omega arith
-
-pub ruleset loading = (members_fit, rules)
 
 -- "An accepted apply returns the output's length.": there was room for it
 module _ (t : Tables) (used : Used) (class file : List ℕ) (room : ℕ) {a : Applied} {n : ℕ} {out : List ℕ}
@@ -44,9 +30,6 @@ module _ (t : Tables) (used : Used) (class file : List ℕ) (room : ℕ) {a : Ap
   output_part = prefix_whole out n output_inside
 
 pub ruleset applying = (output_inside, output_part, rules)
-
--- the tree file is the part of its array that was filled
-pub ruleset reading = (prefix_whole, rules)
 
 -- a part up to the end of a line, as the class given is
 pub line_part : (s : List ℕ) (at : ℕ) {a e n : ℕ} {t : NextLine} → t ≡ next_line s at → t ≡ Line a e n → e ≡ length (take e s)

@@ -1,2 +1,0 @@
--- What the program needs so that it stays within its line and its pool.
-mod Used
