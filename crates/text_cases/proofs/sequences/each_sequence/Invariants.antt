@@ -1,4 +1,4 @@
--- `text_cases::sequences::each_sequence` meets its contract, by the laws of Safe and an invariant that says: the rest decides as the whole
+-- `text_cases::sequences::each_sequence` stays inside the bytes: its invariant is that the place does.
 -- does.
 use Rattle.text_places.proofs.Taking.{Taking}
 use Prim.Native.Nat.{◌-◌}

@@ -1,4 +1,4 @@
--- `text_cases::sequences::hex_bytes` meets its contract, by the laws of Safe and an invariant that says: the rest decides as the whole
+-- `text_cases::sequences::hex_bytes`: its invariant is that bytes are filled from the start.
 -- does.
 use Rattle.text_cases.proofs.Safe.{Filling}
 use Prim.Native.Nat.{◌-◌, ◌+◌}
