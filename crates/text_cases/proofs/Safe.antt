@@ -3,7 +3,7 @@ use mathlib.Core.Path.{◌≡◌, sym, ◌∙◌}
 use mathlib.Core.List.{List}
 use Prim.Native.Nat.{ℕ, ◌+◌, ◌-◌, ◌^◌, ◌≤◌, ◌<◌}
 use native.Mathlib.Omega.{arith}
-use lib.ListN.{length, drop, length-drop}
+use lib.ListN.{length, drop, set, length-set, length-drop}
 use mir.Val.{Fits}
 use mir.Syntax.{w64}
 use borrow.Author.Rules.{rules}
@@ -23,6 +23,14 @@ pub record Filling (line bytes₀ bytes : List ℕ) (n at : ℕ) : Type 0 where
   pub same : length bytes ≡ length bytes₀
   pub inside : n ≤ length bytes
   pub read : at ≤ length line + 1
+
+pub filling_starts : (line bytes : List ℕ) → Filling line bytes bytes 0 0
+filling_starts line bytes = omega arith
+
+pub filling_more : {line bytes₀ bytes : List ℕ} {n at : ℕ} (b : ℕ) → Filling line bytes₀ bytes n at → at + 1 < length line → n < length bytes →
+    Filling line bytes₀ (set bytes n b) (n + 1) (at + 3)
+filling_more {bytes = bytes} {n = n} b f h i =
+    record { same = length-set bytes n b ∙ f.same; inside = omega (arith, length-set bytes n b); read = omega arith }
 
 -- sequences are taken one after the other
 module _ (s : List ℕ) (at : ℕ) {t : Sequence} (p : t ≡ sequence_of (drop at s)) where
