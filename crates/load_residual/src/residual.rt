@@ -120,6 +120,9 @@ pub fn gives_signature(line: &[u8], brace: Place) -> bool
     is_given(signature_at(line, brace))
 }
 
+// The white space that most lines start with.
+const SPACE: u8 = b' ';
+
 // What the line at a place opens with: its first character that is no white space tells, so that its end need not be found first. Spaces,
 // CR and U+3000 are told by their bytes.
 fn opening_at(text: &[u8], at: usize) -> Opening
@@ -129,7 +132,7 @@ fn opening_at(text: &[u8], at: usize) -> Opening
     let mut i = at;
     while i < text.len() {
         let b = text[i];
-        if b == b' ' {
+        if b == SPACE {
             i += 1;
             continue;
         }

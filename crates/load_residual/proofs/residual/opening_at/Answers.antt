@@ -10,11 +10,11 @@ bounds-text-i c = search leading
 pub overflow_add-i : goal.overflow_add-i
 overflow_add-i c = search leading
 
-pub loop-i-smaller-then-b-eq32 : goal.loop-i-smaller-then-b-eq32
-loop-i-smaller-then-b-eq32 c = search leading
+pub loop-i-smaller-then-b-eq-SPACE : goal.loop-i-smaller-then-b-eq-SPACE
+loop-i-smaller-then-b-eq-SPACE c = search leading
 
-pub loop-i-preserved-then-b-eq32 : goal.loop-i-preserved-then-b-eq32
-loop-i-preserved-then-b-eq32 c = search leading
+pub loop-i-preserved-then-b-eq-SPACE : goal.loop-i-preserved-then-b-eq-SPACE
+loop-i-preserved-then-b-eq-SPACE c = search leading
 
 pub overflow_add-result : goal.overflow_add-result
 overflow_add-result c = search leading
