@@ -1,4 +1,5 @@
 -- What is answered, and what the output is. Assumes nothing.
+use Rattle.std.specs.Prelude.{Result, Ok, Err}
 use mathlib.Core.Path.{◌≡◌, refl, sym, ◌∙◌, ap}
 use mathlib.Core.Bool.{true, false}
 use mathlib.Core.List.{List, ◌++◌, append_assoc}
@@ -13,13 +14,13 @@ use borrow.Author.Rules.{rules}
 use borrow.Author.Tests.{le-leb, lt-leb}
 use Rattle.ground.proofs.Cases.{le_or_lt}
 use Rattle.ground.proofs.Parts.{prefix_whole}
-use Rattle.table_pool.specs.declared.write.Wrote.{Wrote}
-use Rattle.table_pool.specs.declared.write.Wrote.TheVariants.{Done, NoRoom}
 use Rattle.tables.proofs.Checking.{formed}
-use Rattle.apply_rule.specs.declared.Applied.TheVariants as answer
 use Rattle.apply_rule.specs.Applying.{most_tree, fits_in}
 use Rattle.apply.proofs.Filling.{zero_drop}
 use Rattle.apply.specs.Inner.Filled.{FillReady, AcceptReady, FilledTo, NoneFilled, OutputFilledBy, fitting_answer, fitting_output}
+use Rattle.table_pool.specs.declared.write.NoRoom.{NoRoom}
+use Rattle.table_pool.specs.Inner.Wrote.{no_room}
+use Rattle.apply_rule.specs.declared.ApplyError.TheVariants as refusal
 
 zero_take : (k n : ℕ) → k ≤ n → ◌≡◌ {A = List ℕ} (take k (replicate n 0)) (replicate k 0)
 zero_take zero n h = refl
@@ -63,8 +64,8 @@ module _ (classes rows : List (List ℕ)) (f out : List ℕ) (k : AcceptReady cl
       pub end_fits : Fits w32 «end»
       end_fits = omega (arith, d.room, part_length)
 
-      pub answer_done : answer.Done «end» ≡ fitting_answer (length out) file
-      answer_done = ap answer.Done d.past ∙ sym (rw (fits_yes (omega (arith, d.past, d.room, part_length))))
+      pub answer_done : Ok «end» ≡ fitting_answer (length out) file
+      answer_done = ap Ok d.past ∙ sym (rw (fits_yes (omega (arith, d.past, d.room, part_length))))
 
       pub output_done : {new : List ℕ} → new ≡ part ++ drop room out → new ≡ fitting_output (length out) file
       output_done {new} g =
@@ -77,34 +78,34 @@ module _ (classes rows : List (List ℕ)) (f out : List ℕ) (k : AcceptReady cl
           ∙ sym (rw (fits_yes (omega (arith, d.past, d.room, part_length))))
 
     module _ (d : NoneFilled file (take room out)) where
-      pub answer_none : answer.NoRoom ≡ fitting_answer (length out) file
+      pub answer_none : Err refusal.NoRoom ≡ fitting_answer (length out) file
       answer_none = sym (rw (fits_no (omega (arith, d.over, part_length))))
 
       pub output_none : {new : List ℕ} → new ≡ replicate (length out) 0 → new ≡ fitting_output (length out) file
       output_none g = g ∙ sym (rw (fits_no (omega (arith, d.over, part_length))))
 
     -- by the answer of the filling
-    module _ (part : List ℕ) (r : Wrote) (w : OutputFilledBy r file (take room out) part) where
-      told : {«end» : ℕ} → r ≡ Done «end» → FilledTo «end» file (take room out) part
+    module _ (part : List ℕ) (r : Result ℕ NoRoom) (w : OutputFilledBy r file (take room out) part) where
+      told : {«end» : ℕ} → r ≡ Ok «end» → FilledTo «end» file (take room out) part
       told g = rw g at w
 
-      told_none : r ≡ NoRoom → NoneFilled file (take room out)
+      told_none : r ≡ Err no_room → NoneFilled file (take room out)
       told_none g = rw g at w
 
-      pub fill_fits : {«end» : ℕ} → r ≡ Done «end» → Fits w32 «end»
+      pub fill_fits : {«end» : ℕ} → r ≡ Ok «end» → Fits w32 «end»
       fill_fits g = end_fits (told g)
 
-      pub fill_answer : {«end» : ℕ} → r ≡ Done «end» → answer.Done «end» ≡ fitting_answer (length out) file
+      pub fill_answer : {«end» : ℕ} → r ≡ Ok «end» → Ok «end» ≡ fitting_answer (length out) file
       fill_answer g = answer_done (told g)
 
-      pub fill_output : {«end» : ℕ} → r ≡ Done «end» → part ++ drop room out ≡ fitting_output (length out) file
+      pub fill_output : {«end» : ℕ} → r ≡ Ok «end» → part ++ drop room out ≡ fitting_output (length out) file
       fill_output g = output_done (told g) refl
 
-      pub fill_refused : r ≡ NoRoom → answer.NoRoom ≡ fitting_answer (length out) file
+      pub fill_refused : r ≡ Err no_room → Err refusal.NoRoom ≡ fitting_answer (length out) file
       fill_refused g = answer_none (told_none g)
 
       -- the part that was written is made zero again
-      pub fill_zero : r ≡ NoRoom → length part ≡ length (take room out) → {mid : List ℕ} →
+      pub fill_zero : r ≡ Err no_room → length part ≡ length (take room out) → {mid : List ℕ} →
           mid ≡ replicate (length (take room (part ++ drop room out))) 0 →
           mid ++ drop room (part ++ drop room out) ≡ fitting_output (length out) file
       fill_zero g l {mid} h =

@@ -1,4 +1,5 @@
 -- The answer of each way through the entry point. Assumes nothing.
+use Rattle.std.specs.Prelude.{Result, Err}
 use mathlib.Core.Path.{◌≡◌, sym, ◌∙◌, ap}
 use mathlib.Core.Bool.{Bool, true, false, not}
 use mathlib.Core.List.{List, []}
@@ -14,16 +15,16 @@ use Rattle.tables.specs.declared.check.Used.{Used}
 use Rattle.tables.specs.Check.{well_formed}
 use Rattle.tables.proofs.Checking.{formed, tested_formed, class_rows_lent, member_rows_lent}
 use Rattle.tree_rule.specs.Checks.{well_formed_file}
-use Rattle.apply_rule.specs.declared.Applied.{Applied}
-use Rattle.apply_rule.specs.declared.Applied.TheVariants.{Malformed, TooLong, BadTree}
 use Rattle.apply_rule.specs.Applying.{applied_file, most_tree, apply_answer, apply_output}
 use Rattle.apply_rule.specs.Inner.Plans.{mapping_in}
 use Rattle.apply_plans.specs.Inner.Plan.{TextsLow}
 use Rattle.apply.specs.Inner.Filled.{AcceptReady, fitting_answer, fitting_output}
+use Rattle.apply_rule.specs.declared.ApplyError.{ApplyError}
+use Rattle.apply_rule.specs.declared.ApplyError.TheVariants.{Malformed, TooLong, BadTree}
 
 module _ (c m : List (List ℕ)) (p class f : List ℕ) (used : Used) (room : ℕ) {b : Bool} (w : b ≡ well_formed c m p used) where
   -- tables malformed
-  pub malformed_answer : not b ≡ true → Malformed ≡ apply_answer (tables c m p) used class f room
+  pub malformed_answer : not b ≡ true → Err Malformed ≡ apply_answer (tables c m p) used class f room
   malformed_answer h = sym (rw (sym w ∙ not-true b h))
 
   pub malformed_output : not b ≡ true → {out : List ℕ} → out ≡ replicate room 0 → out ≡ apply_output (tables c m p) used class f room
@@ -31,7 +32,7 @@ module _ (c m : List (List ℕ)) (p class f : List ℕ) (used : Used) (room : �
 
   module _ (h : not b ≡ false) where
     -- the tree file too long
-    pub long_answer : most_tree < length f → TooLong ≡ apply_answer (tables c m p) used class f room
+    pub long_answer : most_tree < length f → Err TooLong ≡ apply_answer (tables c m p) used class f room
     long_answer l = sym (rw (tested_formed c m p used w h, lt-leb (length f) most_tree l))
 
     pub long_output : most_tree < length f → {out : List ℕ} → out ≡ replicate room 0 → out ≡ apply_output (tables c m p) used class f room
@@ -39,7 +40,7 @@ module _ (c m : List (List ℕ)) (p class f : List ℕ) (used : Used) (room : �
 
     module _ (l : length f ≤ most_tree) {t : Bool} (v : t ≡ well_formed_file f) where
       -- the tree file malformed
-      pub bad_answer : not t ≡ true → BadTree ≡ apply_answer (tables c m p) used class f room
+      pub bad_answer : not t ≡ true → Err BadTree ≡ apply_answer (tables c m p) used class f room
       bad_answer g = sym (rw (tested_formed c m p used w h, le-leb (length f) most_tree l, sym v ∙ not-true t g))
 
       pub bad_output : not t ≡ true → {out : List ℕ} → out ≡ replicate room 0 → out ≡ apply_output (tables c m p) used class f room
@@ -53,7 +54,7 @@ module _ (c m : List (List ℕ)) (p class f : List ℕ) (used : Used) (room : �
           size : length out ≡ room
           size = ap length e ∙ length-replicate room 0
 
-          pub accepted_answer : {r : Applied} → r ≡ fitting_answer (length out) (applied_file (mapping_in (take used.classes c) (take used.members m) p) class f) →
+          pub accepted_answer : {r : Result ℕ ApplyError} → r ≡ fitting_answer (length out) (applied_file (mapping_in (take used.classes c) (take used.members m) p) class f) →
               r ≡ apply_answer (tables c m p) used class f room
           accepted_answer q =
               q ∙ ap (λ n. fitting_answer n (applied_file (mapping_in (take used.classes c) (take used.members m) p) class f)) size

@@ -1,4 +1,5 @@
 -- The passes, one after the other. Assumes nothing.
+use Rattle.std.specs.Prelude.{Result, Ok, Err}
 use mathlib.Core.Path.{◌≡◌, refl, sym, ◌∙◌, ap, subst}
 use mathlib.Core.List.{List, ◌++◌, map}
 use Prim.Native.Nat.{ℕ, zero, suc, ◌+◌, ◌*◌, ◌-◌, ◌≤◌, ◌<◌}
@@ -8,8 +9,6 @@ use lib.Seq.{drop-drop}
 use mir.Val.{Fits}
 use mir.Syntax.{w8}
 use borrow.Author.Rules.{rules}
-use Rattle.table_pool.specs.declared.write.Wrote.{Wrote}
-use Rattle.table_pool.specs.declared.write.Wrote.TheVariants.{Done, NoRoom}
 use Rattle.tables.specs.declared.search.Side.TheVariants.{Raw}
 use Rattle.table_index.specs.Inner.Index.{IndexBy}
 use Rattle.tree_rule.specs.declared.TreeCounts.{TreeCounts}
@@ -26,8 +25,6 @@ use Rattle.apply_rule.proofs.Laid.{laid_applied}
 use Rattle.apply_rule.proofs.Numbering.{numbered_length}
 use Rattle.apply_rule.proofs.NodeChanges.{changes_length}
 use Rattle.apply_pieces.specs.Inner.Notes.{Noted}
-use Rattle.apply_plans.specs.declared.rows.Planned.{Planned}
-use Rattle.apply_plans.specs.declared.rows.Planned.TheVariants as plans
 use Rattle.apply_plans.specs.Inner.Entries.{entry_at, planned_text, planned_names}
 use Rattle.apply_plans.specs.Inner.Passed.{PlansReady, PlansMade, PlansBy}
 use Rattle.apply_plans.specs.Inner.Put.{NoRow}
@@ -35,6 +32,8 @@ use Rattle.apply_output.proofs.Listing.{laid_length}
 use Rattle.apply_output.specs.Inner.Output.{Ready, output_from, OutputIs, OutputBy}
 use Rattle.apply.specs.Inner.Filled.{PassReady, FillReady, FilledTo, NoneFilled, OutputFilledBy}
 use Rattle.ground.specs.Join.{join}
+use Rattle.table_pool.specs.declared.write.NoRoom.{NoRoom}
+use Rattle.table_pool.specs.Inner.Wrote.{no_room}
 
 -- Zeros.
 pub zero_drop : (k n : ℕ) → ◌≡◌ {A = List ℕ} (drop k (replicate n 0)) (replicate (n - k) 0)
@@ -74,14 +73,14 @@ module _ (classes rows : List (List ℕ)) (pool class : List ℕ) (c : TreeCount
       most = omega (arith, k.most, n.size);
     }
 
-    module _ (r : Planned) (mid : List ℕ) (p : PlansBy r classes rows pool class c f noted mid) where
+    module _ (r : Result ℕ NoRoom) (mid : List ℕ) (p : PlansBy r classes rows pool class c f noted mid) where
       -- no room for the plan of a name
-      pub pass_none : r ≡ plans.NoRoom → NoneFilled (laid_out c f (changes_in classes rows pool class c f)) old
+      pub pass_none : r ≡ Err no_room → NoneFilled (laid_out c f (changes_in classes rows pool class c f)) old
       pass_none e =
           let none : NoRow c (length (new_names (changes_in classes rows pool class c f))) noted = rw e at p in
           record { over = omega (arith, none.over, laid_size classes rows pool class c f k.formed, n.size) }
 
-      module _ {count : ℕ} (e : r ≡ plans.Done count) where
+      module _ {count : ℕ} (e : r ≡ Ok count) where
         made : PlansMade count classes rows pool class c f noted mid
         made = rw e at p
 
@@ -126,10 +125,10 @@ module _ (classes rows : List (List ℕ)) (pool class : List ℕ) (c : TreeCount
               is = o.is ∙ ap (λ l. l ++ drop x mid) same_file ∙ ap (λ l. file ++ l) rest;
             }
 
-        pub pass_by : (q : Wrote) (new : List ℕ) → OutputBy q classes pool c f count mid new →
+        pub pass_by : (q : Result ℕ NoRoom) (new : List ℕ) → OutputBy q classes pool c f count mid new →
             OutputFilledBy q (laid_out c f (changes_in classes rows pool class c f)) old new
-        pass_by (Done x) new o = done o
-        pass_by NoRoom new o = record { over = omega (arith, o.over, ap length same_file, made.size, n.size) }
+        pass_by (Ok x) new o = done o
+        pass_by (Err _) new o = record { over = omega (arith, o.over, ap length same_file, made.size, n.size) }
 
 pub ruleset passes = (pass_file, pass_plans, pass_none, pass_ready, pass_by, rules)
 
@@ -164,7 +163,7 @@ module _ (classes rows : List (List ℕ)) (pool class : List ℕ) (f old : List 
           low = k.low;
         })
 
-    pub fill_done : (r : Wrote) (new : List ℕ) → OutputFilledBy r (laid_out c f (changes_in classes rows pool class c f)) old new →
+    pub fill_done : (r : Result ℕ NoRoom) (new : List ℕ) → OutputFilledBy r (laid_out c f (changes_in classes rows pool class c f)) old new →
         OutputFilledBy r (applied_file (mapping_in classes rows pool) class f) old new
     fill_done r new = subst (λ x. OutputFilledBy r x old new) (file_is e)
 

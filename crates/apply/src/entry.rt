@@ -6,8 +6,7 @@ ghost use Rattle.apply_rule.specs.Inner.Plans.{mapping_in};
 ghost use Rattle.apply.specs.Inner.Filled.{AcceptReady, fitting_answer, fitting_output};
 
 use crate::fill::fill_output;
-use apply_rule::{Applied, MOST_TREE};
-use table_pool::Wrote;
+use apply_rule::{ApplyError, MOST_TREE};
 use table_rows::{ClassRow, MemberRow, zero_bytes};
 use tables::{Used, lesser, well_formed};
 use tree_checks::well_formed_tree;
@@ -20,7 +19,7 @@ fn apply_accepted(
     classes: &[ClassRow],
     members: &[MemberRow],
     pool: &[u8],
-) -> Applied
+) -> Result<u32, ApplyError>
     requires { AcceptReady classes.now members.now tree.now out.old }
     ensures { let room = length out.old in
         let m = mapping_in classes.now members.now pool.now in
@@ -28,12 +27,12 @@ fn apply_accepted(
         (result ≡ fitting_answer room file) × (out.new ≡ fitting_output room file) }
 {
     let room = lesser(out.len(), MOST_TREE);
-    let Wrote::Done(end) = fill_output(&mut out[..room], class, tree, classes, members, pool) else {
+    let Ok(end) = fill_output(&mut out[..room], class, tree, classes, members, pool) else {
         // only that part was written
         zero_bytes(&mut out[..room]);
-        return Applied::NoRoom;
+        return Err(ApplyError::NoRoom);
     };
-    Applied::Done(end as u32)
+    Ok(end as u32)
 }
 
 // Applies a mapping to a tree file, for a class by its raw descriptor.
@@ -45,7 +44,7 @@ pub fn apply_to_smali(
     class: &[u8],
     tree: &[u8],
     out: &mut [u8],
-) -> Applied
+) -> Result<u32, ApplyError>
     ensures { let lent = tables classes.now members.now pool.now in
         let given = class.now in
         let file = tree.now in
@@ -56,13 +55,13 @@ pub fn apply_to_smali(
 {
     zero_bytes(out);
     if !well_formed(classes, members, pool, used) {
-        return Applied::Malformed;
+        return Err(ApplyError::Malformed);
     }
     if MOST_TREE < tree.len() {
-        return Applied::TooLong;
+        return Err(ApplyError::TooLong);
     }
     if !well_formed_tree(tree) {
-        return Applied::BadTree;
+        return Err(ApplyError::BadTree);
     }
     let class_count = used.classes as usize;
     let member_count = used.members as usize;

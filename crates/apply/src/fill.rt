@@ -9,10 +9,10 @@ ghost use Rattle.apply.specs.Inner.Filled.{PassReady, FillReady, OutputFilledBy}
 
 use apply_output::write_output;
 use apply_pieces::note_names;
-use apply_plans::{Planned, plan_nodes};
+use apply_plans::plan_nodes;
 use name_index::{MEMBER_INDEX, index_members};
 use table_index::{INDEX, index_classes};
-use table_pool::Wrote;
+use table_pool::NoRoom;
 use table_rows::{ClassRow, MemberRow};
 use tables::Side;
 use tree_rule::TreeCounts;
@@ -29,7 +29,7 @@ fn pass(
     classes: &[ClassRow],
     members: &[MemberRow],
     pool: &[u8],
-) -> Wrote
+) -> Result<usize, NoRoom>
     requires { PassReady classes.now members.now counts tree.now out.old
         × IndexBy Raw classes.now pool.now index.now
         × Chained classes.now pool.now members.now chains.now (length members.now) }
@@ -38,11 +38,9 @@ fn pass(
         OutputFilledBy result (laid_out counts f cs) out.old out.new }
 {
     note_names(out, tree, counts, index, classes, pool);
-    let Planned::Done(count) = plan_nodes(
+    let count = plan_nodes(
         out, tree, counts, class, index, chains, classes, members, pool,
-    ) else {
-        return Wrote::NoRoom;
-    };
+    )?;
     write_output(out, tree, counts, index, classes, pool, count)
 }
 
@@ -54,13 +52,13 @@ pub fn fill_output(
     classes: &[ClassRow],
     members: &[MemberRow],
     pool: &[u8],
-) -> Wrote
+) -> Result<usize, NoRoom>
     requires { FillReady classes.now members.now tree.now out.old }
     ensures { let m = mapping_in classes.now members.now pool.now in
         OutputFilledBy result (applied_file m class.now tree.now) out.old out.new }
 {
     if out.len() < tree.len() {
-        return Wrote::NoRoom;
+        return Err(NoRoom);
     }
     let counts = counts_in(tree);
     let mut index = [0u16; INDEX];

@@ -1,3 +1,2 @@
 -- What the program needs so that it stays within its arrays and ends.
-mod Digits
 mod Lent

@@ -1,13 +1,11 @@
 // What is written for a case.
 use crate::hex;
 use apply::apply_to_smali;
-use apply_rule::Applied;
+use apply_rule::ApplyError;
 use load::parse;
-use load_rule::Load;
 use std::io;
 use table_rows::{ClassRow, MemberRow};
 use tables::Used;
-use text_places::NextLine;
 
 fn refused(rt: &impl Print, number: usize) -> io::Result<()> {
     replay::words(rt, b"refused ")?;
@@ -34,14 +32,14 @@ fn apply_tables(
 ) -> io::Result<()> {
     let mut out = [0u8; 1024];
     match apply_to_smali(classes, members, pool, used, class, tree, &mut out) {
-        Applied::Done(length) => {
+        Ok(length) => {
             let end = length as usize;
             done(rt, &out[..end])
         }
-        Applied::Malformed => refused(rt, 14),
-        Applied::TooLong => refused(rt, 1),
-        Applied::BadTree => refused(rt, 12),
-        Applied::NoRoom => refused(rt, 13),
+        Err(ApplyError::Malformed) => refused(rt, 14),
+        Err(ApplyError::TooLong) => refused(rt, 1),
+        Err(ApplyError::BadTree) => refused(rt, 12),
+        Err(ApplyError::NoRoom) => refused(rt, 13),
     }
 }
 
@@ -50,7 +48,7 @@ fn apply_mapping(rt: &impl Print, mapping: &[u8], class: &[u8], tree: &[u8]) -> 
     let mut classes = [[0u32; 4]; 16];
     let mut members = [[0u32; 15]; 16];
     let mut pool = [0u8; 512];
-    let Load::Loaded { fates, names } = parse(mapping, &mut classes, &mut members, &mut pool) else {
+    let Ok(loaded) = parse(mapping, &mut classes, &mut members, &mut pool) else {
         let none = Used {
             classes: 0,
             members: 0,
@@ -59,9 +57,9 @@ fn apply_mapping(rt: &impl Print, mapping: &[u8], class: &[u8], tree: &[u8]) -> 
         return apply_tables(rt, &classes, &members, &pool, none, class, tree);
     };
     let used = Used {
-        classes: fates.class,
-        members: fates.field + fates.method,
-        pool: names,
+        classes: loaded.fates.class,
+        members: loaded.fates.field + loaded.fates.method,
+        pool: loaded.names,
     };
     apply_tables(rt, &classes, &members, &pool, used, class, tree)
 }
@@ -69,32 +67,22 @@ fn apply_mapping(rt: &impl Print, mapping: &[u8], class: &[u8], tree: &[u8]) -> 
 // A tree file in digits, of at most 1,100 bytes.
 fn apply_digits(rt: &impl Print, mapping: &[u8], class: &[u8], digits: &[u8]) -> io::Result<()> {
     let mut tree = [0u8; 1100];
-    let size = hex::read_bytes(digits, &mut tree);
+    let size = replay::read_bytes(digits, 0, &mut tree);
     apply_mapping(rt, mapping, class, &tree[..size])
 }
 
 // The class given, the tree file, and the mapping.
 pub fn answer(rt: &impl Print, asked: &[u8]) -> io::Result<()> {
-    let NextLine::Line {
-        start: _,
-        end: class_end,
-        next: file,
-    } = text_places::next_line(asked, 0)
-    else {
+    let Some(class) = text_places::next_line(asked, 0) else {
         return Ok(());
     };
-    let NextLine::Line {
-        start: _,
-        end: file_end,
-        next: mapping,
-    } = text_places::next_line(asked, file)
-    else {
+    let Some(file) = text_places::next_line(asked, class.next) else {
         return Ok(());
     };
     apply_digits(
         rt,
-        &asked[mapping..],
-        &asked[..class_end],
-        &asked[file..file_end],
+        &asked[file.next..],
+        &asked[..class.end],
+        &asked[class.next..file.end],
     )
 }

@@ -1,4 +1,5 @@
 -- The raw name of a token by its number, and the class row of a name by the note about it. Assumes nothing.
+use Rattle.std.specs.Prelude.{Some}
 use mathlib.Core.Path.{◌≡◌, refl, sym, ◌∙◌, ap}
 use mathlib.Core.Bool.{Bool, true, false}
 use mathlib.Core.List.{List}
@@ -11,7 +12,6 @@ use borrow.Author.Rules.{rules}
 use Rattle.ground.specs.Choice.{pick}
 use Rattle.ground.specs.Put.{between}
 use Rattle.ground.proofs.Cases.{clash}
-use Rattle.tables.specs.declared.search.Found.TheVariants.{Row}
 use Rattle.tables.specs.Search.{last_raw}
 use Rattle.tree_rule.specs.declared.TreeCounts.{TreeCounts}
 use Rattle.tree_rule.specs.declared.Token.TheVariants.{Other, MemberName, Descriptor, SourceLine}
@@ -78,7 +78,7 @@ module _ (classes : List (List ℕ)) (pool : List ℕ) (c : TreeCounts) (out : L
     pub note_row : row < length classes
     note_row = starts.inside
 
-    pub note_whole : {n : ℕ} → n ≡ length (raw_of classes pool row) → n ≡ length owner → Row row ≡ last_raw classes pool owner
+    pub note_whole : {n : ℕ} → n ≡ length (raw_of classes pool row) → n ≡ length owner → Some row ≡ last_raw classes pool owner
     note_whole p q =
         let size : length owner ≤ 0 + length (raw_of classes pool row) - 0 = omega arith in
         let whole : between owner 0 (0 + length (raw_of classes pool row)) ≡ owner =

@@ -1,4 +1,5 @@
 -- What the mapping says of a member. Assumes nothing.
+use Rattle.std.specs.Prelude.{Option, Some, None}
 use mathlib.Core.Path.{◌≡◌, refl, sym, ◌∙◌, ap}
 use mathlib.Core.Bool.{Bool, true, false, not}
 use mathlib.Core.List.{List, []}
@@ -18,8 +19,6 @@ use Rattle.text_places.proofs.PlaceLaws.{same_equal, same_refl}
 use Rattle.table_rows.specs.declared.rows.Member.{Member}
 use Rattle.table_rows.specs.Classes.{Pair, shown}
 use Rattle.table_rows.specs.Rows.{unpack_class, unpack_member, most_members}
-use Rattle.tables.specs.declared.search.Found.{Found}
-use Rattle.tables.specs.declared.search.Found.TheVariants.{Row, Unknown}
 use Rattle.tables.specs.Back.{text_in, read_back}
 use Rattle.tables.specs.Search.{or_row, last_raw}
 use Rattle.tables.proofs.Searching.{raw_found, raw_unknown}
@@ -49,7 +48,7 @@ use Rattle.apply_members.specs.Inner.Notes.{
 }
 
 -- The number of a row.
-module _ (o : Found) {i : ℕ} (e : o ≡ Row i) where
+module _ (o : Option ℕ) {i : ℕ} (e : o ≡ Some i) where
   pub number_of : i + 1 ≡ noted_row o
   number_of = let z : i + 1 ≡ suc i = omega arith in z ∙ sym (ap noted_row e)
 
@@ -60,7 +59,7 @@ module _ (o : Found) {i : ℕ} (e : o ≡ Row i) where
     pub number_fits : Fits w32 (i + 1)
     number_fits = let z : suc i ≤ 32768 = rw e at h in omega arith
 
-pub no_number : (o : Found) → o ≡ Unknown → 0 ≡ noted_row o
+pub no_number : (o : Option ℕ) → o ≡ None → 0 ≡ noted_row o
 no_number o e = sym (ap noted_row e)
 
 pub ruleset row_numbers = (number_of, row_fits, number_fits, no_number, rules)
@@ -90,10 +89,10 @@ own_told pool r {d} {display} e {m} f g = g ∙ ap (λ x. owned_by (known x) (ki
 pub ruleset own_asking = (own_told, rules)
 
 -- A method of the class of a class row, by the row that names it.
-pub found_few : (rows : List (List ℕ)) (z : Found) → noted_row z ≤ length rows → length rows ≤ most_members → noted_row z ≤ most_members
+pub found_few : (rows : List (List ℕ)) (z : Option ℕ) → noted_row z ≤ length rows → length rows ≤ most_members → noted_row z ≤ most_members
 found_few rows z h g = omega arith
 
-pub found_inside : (rows : List (List ℕ)) (z : Found) {i : ℕ} → noted_row z ≤ length rows → z ≡ Row i → i < length rows
+pub found_inside : (rows : List (List ℕ)) (z : Option ℕ) {i : ℕ} → noted_row z ≤ length rows → z ≡ Some i → i < length rows
 found_inside rows z {i} h e = let y : suc i ≤ length rows = rw e at h in omega arith
 
 away : (c : Bool) (x : ℕ) → not c ≡ true → 0 ≡ pick c x 0
@@ -104,11 +103,11 @@ here : (c : Bool) (x : ℕ) → not c ≡ false → x ≡ pick c x 0
 here true x q = refl
 here false x q = clash refl q
 
-module _ (classes rows : List (List ℕ)) (pool : List ℕ) (class : ℕ) (z : Found) {n : ℕ} (f : n ≡ noted_row z) (home : Bool) where
-  pub found_none : z ≡ Unknown → note n (not home) 0 ≡ found_note classes rows pool class z home
+module _ (classes rows : List (List ℕ)) (pool : List ℕ) (class : ℕ) (z : Option ℕ) {n : ℕ} (f : n ≡ noted_row z) (home : Bool) where
+  pub found_none : z ≡ None → note n (not home) 0 ≡ found_note classes rows pool class z home
   found_none h = ap (λ m. note m (not home) 0) (f ∙ ap noted_row h) ∙ sym (ap (λ x. found_note classes rows pool class x home) h)
 
-  module _ {i : ℕ} (h : z ≡ Row i) where
+  module _ {i : ℕ} (h : z ≡ Some i) where
     abbrev lines : Bool → ℕ → ℕ
     lines b m = pick home (pick b m 0) 0
 
@@ -136,27 +135,27 @@ module _ (classes rows : List (List ℕ)) (pool : List ℕ) where
   abbrev cs : List Pair
   cs = read_back classes pool
 
-  pub answer_inside : (k : Key) (b : Bool) {z : Found} → z ≡ pick b (field_row cs k rows pool) (method_row cs k rows pool) →
+  pub answer_inside : (k : Key) (b : Bool) {z : Option ℕ} → z ≡ pick b (field_row cs k rows pool) (method_row cs k rows pool) →
       noted_row z ≤ length rows
   answer_inside k b {z} e = go b z e
     where
-      few : (x : Found) → ((i : ℕ) → x ≡ Row i → i < length rows) → noted_row x ≤ length rows
-      few (Row i) found = let h = found i refl in omega arith
-      few Unknown found = omega arith
+      few : (x : Option ℕ) → ((i : ℕ) → x ≡ Some i → i < length rows) → noted_row x ≤ length rows
+      few (Some i) found = let h = found i refl in omega arith
+      few None found = omega arith
 
-      go : (c : Bool) (x : Found) → x ≡ pick c (field_row cs k rows pool) (method_row cs k rows pool) → noted_row x ≤ length rows
+      go : (c : Bool) (x : Option ℕ) → x ≡ pick c (field_row cs k rows pool) (method_row cs k rows pool) → noted_row x ≤ length rows
       go true x q = few x (λ i f. (field_found cs k rows pool (sym q ∙ f)).0)
       go false x q = few x (λ i f. (method_found cs k rows pool (sym q ∙ f)).0)
 
   pub rows_few : {chains : List ℕ} → Chained classes pool rows chains (length rows) → length rows ≤ most_members
   rows_few x = x.few
 
-  module _ (k : Key) {z : Found} (e : z ≡ method_row cs k rows pool) where
-    first_none : (a b : Found) → or_row a b ≡ Unknown → a ≡ Unknown
-    first_none (Row i) b h = absurd (let y : ◌≡◌ {A = ℕ} 0 1 = cc in omega arith)
-    first_none Unknown b h = refl
+  module _ (k : Key) {z : Option ℕ} (e : z ≡ method_row cs k rows pool) where
+    first_none : (a b : Option ℕ) → or_row a b ≡ None → a ≡ None
+    first_none (Some i) b h = absurd (let y : ◌≡◌ {A = ℕ} 0 1 = cc in omega arith)
+    first_none None b h = refl
 
-    module _ (class i : ℕ) (h : z ≡ Row i) (look : shown cs k.owner ≡ known (text_in pool (unpack_class (get_or classes class [])).display))
+    module _ (class i : ℕ) (h : z ≡ Some i) (look : shown cs k.owner ≡ known (text_in pool (unpack_class (get_or classes class [])).display))
         {b : Bool} (g : b ≡ owns_row classes rows pool class i) where
       at_row : owned_by (shown cs k.owner) (kind_back pool (unpack_member (get_or rows i []))) ≡ b
       at_row = ap (λ l. owned_by l (kind_back pool (unpack_member (get_or rows i [])))) look ∙ sym g
@@ -165,13 +164,13 @@ module _ (classes rows : List (List ℕ)) (pool : List ℕ) where
       method_inside = (method_found cs k rows pool (sym e ∙ h)).0
 
       -- the row that names a method is the last one owned, if it is owned itself
-      own_yes : b ≡ true → own_row classes rows pool k ≡ Row i
+      own_yes : b ≡ true → own_row classes rows pool k ≡ Some i
       own_yes t = go (own_row classes rows pool k) (last_member (method_matches cs k) rows pool) refl refl (sym e ∙ h)
         where
-          go : (a c : Found) → own_row classes rows pool k ≡ a → last_member (method_matches cs k) rows pool ≡ c → or_row a c ≡ Row i →
-              own_row classes rows pool k ≡ Row i
-          go (Row j) c p q r = p ∙ r
-          go Unknown c p q r =
+          go : (a c : Option ℕ) → own_row classes rows pool k ≡ a → last_member (method_matches cs k) rows pool ≡ c → or_row a c ≡ Some i →
+              own_row classes rows pool k ≡ Some i
+          go (Some j) c p q r = p ∙ r
+          go None c p q r =
               let told = last_told (λ row. method_matches cs k (entry_back pool row)) 0 rows (q ∙ r) in
               let y : i - 0 ≡ i = omega arith in
               let m : method_matches cs k (entry_back pool (get_or rows i [])) ≡ true = rw y at told.holds in
@@ -180,17 +179,17 @@ module _ (classes rows : List (List ℕ)) (pool : List ℕ) where
               let yes : owner_matches cs k (entry_back pool (get_or rows i [])) ≡ true = rw (at_row ∙ t, matched) in
               clash yes (last_none (λ row. owner_matches cs k (entry_back pool row)) 0 rows p i (let l = method_inside in l))
 
-      own_no : b ≡ false → own_row classes rows pool k ≡ Unknown
+      own_no : b ≡ false → own_row classes rows pool k ≡ None
       own_no t = go (own_row classes rows pool k) (last_member (method_matches cs k) rows pool) refl (sym e ∙ h)
         where
-          go : (a c : Found) → own_row classes rows pool k ≡ a → or_row a c ≡ Row i → a ≡ Unknown
-          go (Row j) c p r =
+          go : (a c : Option ℕ) → own_row classes rows pool k ≡ a → or_row a c ≡ Some i → a ≡ None
+          go (Some j) c p r =
               let told = last_told (λ row. owner_matches cs k (entry_back pool row)) 0 rows (p ∙ r) in
               let y : i - 0 ≡ i = omega arith in
               let m : owner_matches cs k (entry_back pool (get_or rows i [])) ≡ true = rw y at told.holds in
               clash (both_left (owned_by (shown cs k.owner) (entry_back pool (get_or rows i [])).kind) (matches cs k (entry_back pool (get_or rows i []))) m)
               (at_row ∙ t)
-          go Unknown c p r = refl
+          go None c p r = refl
 
       own_number : noted_row (own_row classes rows pool k) ≡ pick b (suc i) 0
       own_number = go b refl
@@ -203,56 +202,56 @@ module _ (classes rows : List (List ℕ)) (pool : List ℕ) where
         found_note classes rows pool class z home ≡ method_note classes rows pool k home
     found_is class home look = go z refl
       where
-        go : (x : Found) → z ≡ x → found_note classes rows pool class x home ≡ method_note classes rows pool k home
-        go (Row i) h =
+        go : (x : Option ℕ) → z ≡ x → found_note classes rows pool class x home ≡ method_note classes rows pool k home
+        go (Some i) h =
             sym (ap (λ y. note (noted_row y) (not home) (pick home (noted_row (own_row classes rows pool k)) 0)) (sym e ∙ h)
             ∙ ap (λ l. note (suc i) (not home) (pick home l 0)) (own_number class i h look refl))
-        go Unknown h =
-            let own : own_row classes rows pool k ≡ Unknown =
+        go None h =
+            let own : own_row classes rows pool k ≡ None =
             first_none (own_row classes rows pool k) (last_member (method_matches cs k) rows pool) (sym e ∙ h) in
             sym (ap (λ y. note (noted_row y) (not home) (pick home (noted_row (own_row classes rows pool k)) 0)) (sym e ∙ h)
             ∙ ap (λ y. note 0 (not home) (pick home (noted_row y) 0)) own ∙ ap (note 0 (not home)) (none_either home))
 
 -- A class row that is found, and another.
-module _ (o : Found) (row : ℕ) where
-  pub one_row : {i : ℕ} → o ≡ Row i → eqb i row ≡ is_row o row
+module _ (o : Option ℕ) (row : ℕ) where
+  pub one_row : {i : ℕ} → o ≡ Some i → eqb i row ≡ is_row o row
   one_row e = sym (ap (λ x. is_row x row) e)
 
-  pub no_row : o ≡ Unknown → false ≡ is_row o row
+  pub no_row : o ≡ None → false ≡ is_row o row
   no_row e = sym (ap (λ x. is_row x row) e)
 
 pub ruleset row_asking = (one_row, no_row, rules)
 
 -- classes have the same row where they have the same raw descriptor
-same_rows : (classes : List (List ℕ)) (pool class owner : List ℕ) {i : ℕ} → last_raw classes pool owner ≡ Row i →
+same_rows : (classes : List (List ℕ)) (pool class owner : List ℕ) {i : ℕ} → last_raw classes pool owner ≡ Some i →
     is_row (last_raw classes pool class) i ≡ same owner class
 same_rows classes pool class owner {i} e = go (last_raw classes pool class) (same owner class) refl refl
   where
-    alike : same owner class ≡ true → last_raw classes pool class ≡ Row i
+    alike : same owner class ≡ true → last_raw classes pool class ≡ Some i
     alike h = ap (last_raw classes pool) (sym (same_equal owner class h)) ∙ e
 
-    go : (x : Found) (b : Bool) → last_raw classes pool class ≡ x → same owner class ≡ b → is_row x i ≡ b
-    go (Row j) true f h = let z : Row j ≡ Row i = sym f ∙ alike h in eq-eqb j i cc
-    go (Row j) false f h = ne_eqb j i (λ z. clash (rw (equal z) (same_refl class)) h)
+    go : (x : Option ℕ) (b : Bool) → last_raw classes pool class ≡ x → same owner class ≡ b → is_row x i ≡ b
+    go (Some j) true f h = let z : Some j ≡ Some i = sym f ∙ alike h in eq-eqb j i cc
+    go (Some j) false f h = ne_eqb j i (λ z. clash (rw (equal z) (same_refl class)) h)
       where
         equal : j ≡ i → owner ≡ class
-        equal z = sym (raw_has classes pool owner e) ∙ raw_has classes pool class (f ∙ ap Row z)
-    go Unknown true f h = absurd (let z : Unknown ≡ Row i = sym f ∙ alike h in let y : ◌≡◌ {A = ℕ} 0 1 = cc in omega arith)
-    go Unknown false f h = refl
+        equal z = sym (raw_has classes pool owner e) ∙ raw_has classes pool class (f ∙ ap Some z)
+    go None true f h = absurd (let z : None ≡ Some i = sym f ∙ alike h in let y : ◌≡◌ {A = ℕ} 0 1 = cc in omega arith)
+    go None false f h = refl
 
 -- A member of the class of a class row.
 module _ (classes rows : List (List ℕ)) (pool : List ℕ) (i : ℕ) (name descriptor : List ℕ)
-    (l : last_raw classes pool (text_in pool (unpack_class (get_or classes i [])).raw) ≡ Row i) where
+    (l : last_raw classes pool (text_in pool (unpack_class (get_or classes i [])).raw) ≡ Some i) where
   pub class_there : i < length classes
   class_there = (raw_found classes pool (text_in pool (unpack_class (get_or classes i [])).raw) l).0
 
   abbrev k : Key
   k = key (text_in pool (unpack_class (get_or classes i [])).raw) name descriptor
 
-  abbrev either : Bool → Found
+  abbrev either : Bool → Option ℕ
   either b = pick b (field_row (read_back classes pool) k rows pool) (method_row (read_back classes pool) k rows pool)
 
-  module _ {b : Bool} (q : b ≡ starts_as true descriptor) {z : Found} (a : z ≡ either (not b)) where
+  module _ {b : Bool} (q : b ≡ starts_as true descriptor) {z : Option ℕ} (a : z ≡ either (not b)) where
     test : opens descriptor ≡ b
     test = sym (as_opens descriptor) ∙ sym q
 
@@ -262,7 +261,7 @@ module _ (classes rows : List (List ℕ)) (pool : List ℕ) (i : ℕ) (name desc
     look : shown (read_back classes pool) k.owner ≡ known (text_in pool (unpack_class (get_or classes i [])).display)
     look = (raw_found classes pool (text_in pool (unpack_class (get_or classes i [])).raw) l).1
 
-    pub as_method : b ≡ true → (x : Found) {h : Bool} → h ≡ is_row x i → {r : MemberNote} →
+    pub as_method : b ≡ true → (x : Option ℕ) {h : Bool} → h ≡ is_row x i → {r : MemberNote} →
         r ≡ found_note classes rows pool i z h → r ≡ row_note classes rows pool k (is_row x i)
     as_method t x {h} w s =
         s ∙ found_is classes rows pool k (answer t) i h look ∙ ap (method_note classes rows pool k) w ∙ sym (rw (test ∙ t))
@@ -274,20 +273,20 @@ pub ruleset member_noting = (class_there, answer_inside, rows_few, found_few, as
 
 -- A member, by its class.
 module _ (classes rows : List (List ℕ)) (pool class owner name descriptor : List ℕ) where
-  pub owner_unknown : last_raw classes pool owner ≡ Unknown → {h : Bool} → h ≡ is_home class owner descriptor →
+  pub owner_unknown : last_raw classes pool owner ≡ None → {h : Bool} → h ≡ is_home class owner descriptor →
       note 0 (not h) 0 ≡ member_note classes rows pool class (key owner name descriptor)
   owner_unknown e g = ap (λ x. note 0 (not x) 0) g ∙ go (opens descriptor) refl
     where
       u : shown (read_back classes pool) owner ≡ unknown
       u = raw_unknown classes pool owner e
 
-      own : own_row classes rows pool (key owner name descriptor) ≡ Unknown
+      own : own_row classes rows pool (key owner name descriptor) ≡ None
       own = none_found (read_back classes pool) (key owner name descriptor) (λ x. owned_by (shown (read_back classes pool) owner) x.kind) rows pool u
 
-      method : method_row (read_back classes pool) (key owner name descriptor) rows pool ≡ Unknown
+      method : method_row (read_back classes pool) (key owner name descriptor) rows pool ≡ None
       method = sym (asked_none classes rows pool owner name descriptor (sym e) asked.Method refl)
 
-      field : field_row (read_back classes pool) (key owner name descriptor) rows pool ≡ Unknown
+      field : field_row (read_back classes pool) (key owner name descriptor) rows pool ≡ None
       field = sym (asked_none classes rows pool owner name descriptor (sym e) asked.Field refl)
 
       go : (b : Bool) → opens descriptor ≡ b →
@@ -295,7 +294,7 @@ module _ (classes rows : List (List ℕ)) (pool class owner name descriptor : Li
       go true t = sym (rw (t, method, own) (ap (note 0 (not (same owner class))) (none_either (same owner class))))
       go false t = sym (rw (t, field))
 
-  pub owner_noted : {i : ℕ} → last_raw classes pool owner ≡ Row i →
+  pub owner_noted : {i : ℕ} → last_raw classes pool owner ≡ Some i →
       row_note classes rows pool (key (text_in pool (unpack_class (get_or classes i [])).raw) name descriptor) (is_row (last_raw classes pool class) i)
       ≡ member_note classes rows pool class (key owner name descriptor)
   owner_noted {i} e =

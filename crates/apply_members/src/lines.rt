@@ -5,7 +5,7 @@ ghost use Rattle.name_index.specs.Inner.Chains.{Chained};
 ghost use Rattle.apply_members.specs.Inner.Notes.{MeantBy, line_by};
 
 use name_index::line_by_row;
-use name_lines::{LineName, RawLine};
+use name_lines::{DisplayLine, RawLine};
 use table_rows::{ClassRow, MemberRow};
 
 // What the mapping says of a raw line.
@@ -17,13 +17,13 @@ pub fn context_line(
     home: usize,
     context: u32,
     raw: u32,
-) -> LineName
+) -> Option<DisplayLine>
     requires { Chained classes.now pool.now members.now chains.now (length members.now)
         × MeantBy classes.now members.now pool.now home context }
     ensures { result ≡ line_by classes.now members.now pool.now home context (raw_line raw) }
 {
     if context == 0 {
-        return LineName::Unknown;
+        return None;
     }
     let row = context as usize - 1;
     line_by_row(chains, classes, members, pool, home, row, RawLine(raw))

@@ -1,8 +1,7 @@
 // What the mapping says of a member: the number of its row, its place and one more, or 0 where there is none.
-ghost use Rattle.std.specs.Prelude.{◌≡◌, [], ◌≤◌, ◌<◌, length, get_or};
+ghost use Rattle.std.specs.Prelude.{◌≡◌, [], ◌≤◌, ◌<◌, length, get_or, Some};
 ghost use Rattle.ground.specs.Look.{known};
 ghost use Rattle.table_rows.specs.Rows.{unpack_class, unpack_member, most_members};
-ghost use Rattle.tables.specs.declared.search.Found.TheVariants.{Row};
 ghost use Rattle.tables.specs.Back.{text_in};
 ghost use Rattle.tables.specs.Search.{last_raw};
 ghost use Rattle.name_rule.specs.Mappings.{kind_back};
@@ -13,7 +12,6 @@ ghost use Rattle.apply_members.specs.Inner.Notes.{noted_row, is_home, is_row, fo
 use name_index::chained_row;
 use name_members::{Sought, display_of, is_sought};
 use table_rows::{ClassRow, MemberRow, unpack_member};
-use tables::Found;
 use text_places::same_text;
 use tree_signature::starts_as;
 
@@ -27,13 +25,13 @@ pub struct MemberNote {
     pub lines: u32,
 }
 
-fn row_number(found: Found) -> u32
+fn row_number(found: Option<usize>) -> u32
     requires { noted_row found ≤ most_members }
     ensures { result ≡ noted_row found }
 {
     match found {
-        Found::Row(row) => row as u32 + 1,
-        Found::Unknown => 0,
+        Some(row) => row as u32 + 1,
+        None => 0,
     }
 }
 
@@ -70,14 +68,14 @@ fn method_note(
     members: &[MemberRow],
     pool: &[u8],
     class: usize,
-    found: Found,
+    found: Option<usize>,
     home: bool,
 ) -> MemberNote
     requires { (class < length classes.now) × (noted_row found ≤ length members.now) × (length members.now ≤ most_members) }
     ensures { result ≡ found_note classes.now members.now pool.now class found home }
 {
     let named = row_number(found);
-    let Found::Row(row) = found else {
+    let Some(row) = found else {
         return MemberNote {
             named,
             inherits: !home,
@@ -106,12 +104,12 @@ fn method_note(
 }
 
 // Whether a class row is the one that is found.
-fn is_row(found: Found, row: usize) -> bool
+fn is_row(found: Option<usize>, row: usize) -> bool
     ensures { result ≡ is_row found row }
 {
     match found {
-        Found::Row(known) => known == row,
-        Found::Unknown => false,
+        Some(known) => known == row,
+        None => false,
     }
 }
 
@@ -122,13 +120,13 @@ pub fn member_note(
     classes: &[ClassRow],
     members: &[MemberRow],
     pool: &[u8],
-    given: Found,
+    given: Option<usize>,
     class: usize,
     name: &[u8],
     descriptor: &[u8],
 ) -> MemberNote
     requires { Chained classes.now pool.now members.now chains.now (length members.now)
-        × (last_raw classes.now pool.now (text_in pool.now (unpack_class (get_or classes.now class [])).raw) ≡ Row class) }
+        × (last_raw classes.now pool.now (text_in pool.now (unpack_class (get_or classes.now class [])).raw) ≡ Some class) }
     ensures { let p = pool.now in
         let k = key (text_in p (unpack_class (get_or classes.now class [])).raw) name.now descriptor.now in
         result ≡ row_note classes.now members.now p k (is_row given class) }

@@ -18,7 +18,6 @@ use crate::member::{MemberNote, is_home, member_note};
 use apply_pieces::raw_length;
 use table_index::last_raw;
 use table_rows::{ClassRow, MemberRow};
-use tables::Found;
 use tree_rule::{NodeSignature, Owner, TreeCounts};
 use tree_signature::node_signature;
 use tree_words::{name_text, names_start, tokens_start, word_at};
@@ -60,7 +59,7 @@ fn owner_row(
     pool: &[u8],
     name: usize,
     owner: &[u8],
-) -> Found
+) -> Option<usize>
     requires { IndexBy Raw classes.now pool.now index.now
         × NoteOf classes.now pool.now counts out.now name owner.now }
     ensures { result ≡ last_raw classes.now pool.now owner.now }
@@ -69,7 +68,7 @@ fn owner_row(
     if word_at(out, note) == 1 {
         let row = word_at(out, note + 4) as usize;
         if raw_length(classes, pool, row) == owner.len() {
-            return Found::Row(row);
+            return Some(row);
         }
     }
     last_raw(index, classes, pool, owner)
@@ -81,11 +80,11 @@ fn owner_found(
     index: &[u16],
     classes: &[ClassRow],
     pool: &[u8],
-    given: Found,
+    given: Option<usize>,
     tree: &[u8],
     counts: TreeCounts,
     owner: Owner,
-) -> Found
+) -> Option<usize>
     requires { IndexBy Raw classes.now pool.now index.now
         × FormedBy counts tree.now
         × OwnerNamed counts tree.now owner
@@ -125,7 +124,7 @@ fn named_note(
     members: &[MemberRow],
     pool: &[u8],
     class: &[u8],
-    given: Found,
+    given: Option<usize>,
     tree: &[u8],
     counts: TreeCounts,
     member: usize,
@@ -149,7 +148,7 @@ fn named_note(
     let name = raw_name(tree, counts, member);
     let types = raw_name(tree, counts, descriptor);
     let found = owner_found(out, index, classes, pool, given, tree, counts, owner);
-    let Found::Row(row) = found else {
+    let Some(row) = found else {
         let home = is_given(class, tree, counts, owner, types);
         return MemberNote {
             named: 0,
@@ -170,7 +169,7 @@ pub fn node_note(
     members: &[MemberRow],
     pool: &[u8],
     class: &[u8],
-    given: Found,
+    given: Option<usize>,
     tree: &[u8],
     counts: TreeCounts,
     first: usize,
@@ -187,17 +186,19 @@ pub fn node_note(
         result ≡ note_signed classes.now members.now pool.now class.now first s }
 {
     match node_signature(tree, counts, first, count) {
-        NodeSignature::Absent => NodeNote {
+        None => NodeNote {
             member: 0,
             named: 0,
             inherits: true,
             lines: 0,
         },
-        NodeSignature::Present {
-            member,
-            descriptor,
-            owner,
-        } => {
+        Some(
+            NodeSignature {
+                member,
+                descriptor,
+                owner,
+            },
+        ) => {
             let note = named_note(
                 out, index, chains, classes, members, pool, class, given, tree, counts, member,
                 descriptor, owner,

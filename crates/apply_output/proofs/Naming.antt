@@ -1,4 +1,5 @@
 -- The texts and the rows of the new names, one after the other. Assumes nothing.
+use Rattle.std.specs.Prelude.{Result, Ok, Err}
 use mathlib.Core.Path.{◌≡◌, refl, sym, ◌∙◌, ap}
 use mathlib.Core.List.{List, ◌++◌, map}
 use Prim.Native.Nat.{ℕ, ◌+◌, ◌*◌, ◌-◌, ◌≤◌, ◌<◌}
@@ -12,8 +13,6 @@ use Rattle.ground.specs.Join.{join}
 use Rattle.ground.specs.Put.{between}
 use Rattle.ground.proofs.Parts.{between_length}
 use Rattle.table_rows.specs.Rows.{text}
-use Rattle.table_pool.specs.declared.write.Wrote.{Wrote}
-use Rattle.table_pool.specs.declared.write.Wrote.TheVariants.{Done, NoRoom}
 use Rattle.tree_rule.specs.declared.TreeCounts.{TreeCounts}
 use Rattle.tree_rule.specs.Words.{word_at, list_from}
 use Rattle.tree_rule.specs.Files.{tokens_start, names_start, bytes_start, text_at, name_row_bytes}
@@ -26,6 +25,8 @@ use Rattle.apply_output.specs.Inner.Output.{Ready, output_from, texts_start, Nam
 use Rattle.apply_output.proofs.Listing.{laid_length}
 use Rattle.apply_output.proofs.Placing.{two, two_size, two_front, two_back, two_before, two_word, two_behind}
 use Rattle.apply_output.proofs.Below.{texts_more, rows_more, texts_left, note_kept, entry_kept}
+use Rattle.table_pool.specs.declared.write.NoRoom.{NoRoom}
+use Rattle.table_pool.specs.Inner.Wrote.{no_room}
 
 -- how long the output is
 pub output_length : {index : List ℕ} {classes : List (List ℕ)} {pool : List ℕ} {c : TreeCounts} {f : List ℕ} {count : ℕ} {out : List ℕ} →
@@ -131,16 +132,16 @@ module _
     same_text = rw (first_same, second_same)
 
     module _
-        {s : ℕ} (e : s ≡ bytes_start c) (r : Wrote) (out : List ℕ)
+        {s : ℕ} (e : s ≡ bytes_start c) (r : Result ℕ NoRoom) (out : List ℕ)
         (w : NameBy r classes pool c f (s + 8 * count) name «end» new out) where
-      pub naming_over : r ≡ NoRoom → OutputOver classes pool c f count old
+      pub naming_over : r ≡ Err no_room → OutputOver classes pool c f count old
       naming_over g =
           let none : NameOver classes pool c f name «end» new = rw g at w in
           let full : length new < «end» + length body = rw same_text at none.full in
           let left = texts_left classes pool c f old name count h in
           record { over = omega (arith, output_length k.ready.ready, left, k.done.size, k.done.past) }
 
-      module _ {past : ℕ} (g : r ≡ Done past) where
+      module _ {past : ℕ} (g : r ≡ Ok past) where
         turn : NamePut past classes pool c f (bytes_start c + 8 * count) name «end» new out
         turn = rw (g, e) at w
 

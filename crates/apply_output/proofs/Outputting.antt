@@ -1,4 +1,5 @@
 -- The whole output, or no room for it. Assumes nothing.
+use Rattle.std.specs.Prelude.{Result, Ok, Err}
 use mathlib.Core.Path.{◌≡◌, sym, ◌∙◌, ap}
 use mathlib.Core.List.{List, ◌++◌, map, append_assoc}
 use Prim.Native.Nat.{ℕ, ◌+◌, ◌*◌, ◌-◌, ◌≤◌, ◌<◌}
@@ -11,8 +12,6 @@ use borrow.Author.Rules.{rules}
 use Rattle.ground.specs.Join.{join}
 use Rattle.ground.specs.Put.{between}
 use Rattle.ground.proofs.Parts.{drop_take}
-use Rattle.table_pool.specs.declared.write.Wrote.{Wrote}
-use Rattle.table_pool.specs.declared.write.Wrote.TheVariants.{Done, NoRoom}
 use Rattle.tree_rule.specs.declared.TreeCounts.{TreeCounts}
 use Rattle.tree_rule.specs.Files.{
   tree_counts,
@@ -43,6 +42,8 @@ use Rattle.apply_output.specs.Inner.Output.{
 }
 use Rattle.apply_output.proofs.Naming.{output_length}
 use Rattle.apply_output.proofs.Finishing.{cut, stretches}
+use Rattle.table_pool.specs.declared.write.NoRoom.{NoRoom}
+use Rattle.table_pool.specs.Inner.Wrote.{no_room}
 
 seven : (a b c d e g h t : List ℕ) →
     a ++ (b ++ (c ++ (d ++ (e ++ (g ++ (h ++ t)))))) ≡ (a ++ (b ++ (c ++ (d ++ (e ++ (g ++ h)))))) ++ t
@@ -77,11 +78,11 @@ module _
       pub output_ready : NamesReady index classes pool c f count out
       output_ready = record { ready = k; rows_room = omega arith }
 
-      module _ (r : Wrote) (out₁ : List ℕ) (w : NamesBy r classes pool c f count out out₁) where
-        pub output_none : r ≡ NoRoom → OutputOver classes pool c f count out
+      module _ (r : Result ℕ NoRoom) (out₁ : List ℕ) (w : NamesBy r classes pool c f count out out₁) where
+        pub output_none : r ≡ Err no_room → OutputOver classes pool c f count out
         output_none i = rw i at w
 
-        module _ {«end» : ℕ} (i : r ≡ Done «end») where
+        module _ {«end» : ℕ} (i : r ≡ Ok «end») where
           put_there : NamesBelow count classes pool c f count «end» out out₁
           put_there = rw i at w
 

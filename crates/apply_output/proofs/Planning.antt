@@ -1,4 +1,5 @@
 -- The plan of a new name, read in the output, the text that it means, and the row that takes its place. Assumes nothing.
+use Rattle.std.specs.Prelude.{Result, Ok, Err}
 use mathlib.Core.Path.{◌≡◌, refl, ◌∙◌, ap}
 use mathlib.Core.List.{List}
 use Prim.Native.Nat.{ℕ, zero, suc, ◌+◌, ◌*◌, ◌-◌, ◌≤◌, ◌<◌}
@@ -9,9 +10,7 @@ use mir.Syntax.{w32}
 use borrow.Author.Rules.{rules}
 use Rattle.ground.specs.Put.{put}
 use Rattle.table_rows.specs.Rows.{text}
-use Rattle.table_pool.specs.declared.write.Wrote.{Wrote}
-use Rattle.table_pool.specs.declared.write.Wrote.TheVariants.{Done, NoRoom}
-use Rattle.table_pool.specs.Inner.Wrote.{Written, WroteBy}
+use Rattle.table_pool.specs.Inner.Wrote.{Written, WroteBy, no_room}
 use Rattle.table_pool.proofs.Writes.{wrote_told, wrote_none, wrote_as, written_length}
 use Rattle.tables.specs.Back.{text_in}
 use Rattle.tree_rule.specs.declared.TreeCounts.{TreeCounts}
@@ -24,6 +23,7 @@ use Rattle.apply_output.specs.declared.plan.Plan.{Plan}
 use Rattle.apply_output.specs.declared.plan.Plan.TheVariants.{InPool, Shown}
 use Rattle.apply_output.specs.Inner.Plan.{PlanReady, plan_by, plan_at}
 use Rattle.apply_output.specs.Inner.NewName.{BodyReady, NameReady, NameOver, NamePut}
+use Rattle.table_pool.specs.declared.write.NoRoom.{NoRoom}
 
 -- The two numbers.
 module _ {c : TreeCounts} {out : List ℕ} {k : ℕ} (r : PlanReady c out k) {s : ℕ} (e : s ≡ bytes_start c) where
@@ -99,7 +99,7 @@ module _
   means = rw e (read r)
 
   pub body_in_pool : {place size : ℕ} → p ≡ InPool place size → {s : List ℕ} → s ≡ text_in pool (text place size) →
-      (a : Wrote) (at : ℕ) (d : List ℕ) → WroteBy a out at s d → WroteBy a out at (planned_text classes pool c f out k) d
+      (a : Result ℕ NoRoom) (at : ℕ) (d : List ℕ) → WroteBy a out at s d → WroteBy a out at (planned_text classes pool c f out k) d
   body_in_pool g h a at d w = wrote_as a out at d (h ∙ (rw g at means)) w
 
   module _ {name start row : ℕ} (g : p ≡ Shown name start row) where
@@ -113,7 +113,7 @@ module _
       pub shown_known : KnownAt classes pool s 0 start row
       shown_known = rw h here.1
 
-      pub body_shown : (a : Wrote) (at : ℕ) (d : List ℕ) → WroteBy a out at (all_shown classes pool s) d →
+      pub body_shown : (a : Result ℕ NoRoom) (at : ℕ) (d : List ℕ) → WroteBy a out at (all_shown classes pool s) d →
           WroteBy a out at (planned_text classes pool c f out k) d
       body_shown a at d w = wrote_as a out at d (ap (all_shown classes pool) h ∙ here.2) w
 
@@ -123,11 +123,11 @@ pub ruleset bodies = (body_in_pool, shown_inside, shown_known, body_shown, rules
 module _
     {index : List ℕ} {classes : List (List ℕ)} {pool : List ℕ} {c : TreeCounts} {f : List ℕ} {bytes k «end» : ℕ} {out : List ℕ}
     (n : NameReady index classes pool c f bytes k «end» out)
-    (r : Wrote) (out₁ : List ℕ) (w : WroteBy r out «end» (planned_text classes pool c f out k) out₁) where
-  pub new_none : r ≡ NoRoom → NameOver classes pool c f k «end» out
+    (r : Result ℕ NoRoom) (out₁ : List ℕ) (w : WroteBy r out «end» (planned_text classes pool c f out k) out₁) where
+  pub new_none : r ≡ Err no_room → NameOver classes pool c f k «end» out
   new_none e = record { full = wrote_none r out «end» (planned_text classes pool c f out k) out₁ w e }
 
-  module _ {past : ℕ} (e : r ≡ Done past) where
+  module _ {past : ℕ} (e : r ≡ Ok past) where
     wrote : Written past out «end» (planned_text classes pool c f out k) out₁
     wrote = wrote_told r out «end» (planned_text classes pool c f out k) out₁ w e
 

@@ -1,4 +1,5 @@
 -- Numbers put one after the other are a row. Assumes nothing.
+use Rattle.std.specs.Prelude.{Result, Ok, Err}
 use mathlib.Core.Path.{◌≡◌, ◌∙◌, ap}
 use mathlib.Core.List.{List, ◌++◌, append_assoc}
 use Prim.Native.Nat.{ℕ, ◌+◌, ◌-◌, ◌≤◌}
@@ -9,8 +10,6 @@ use borrow.Author.Rules.{rules}
 use Rattle.ground.specs.Put.{put, between}
 use Rattle.ground.proofs.PutLaws.{length_put}
 use Rattle.table_rows.specs.Rows.{text}
-use Rattle.table_pool.specs.declared.write.Wrote.{Wrote}
-use Rattle.table_pool.specs.declared.write.Wrote.TheVariants.{Done, NoRoom}
 use Rattle.table_pool.specs.Inner.Wrote.{WroteBy}
 use Rattle.tree_rule.specs.declared.TreeCounts.{TreeCounts}
 use Rattle.tree_rule.specs.Words.{word_bytes}
@@ -18,6 +17,7 @@ use Rattle.tree_rule.specs.Files.{three_words, name_row_bytes, count_bytes}
 use Rattle.tree_rule.proofs.WordLaws.{bytes_length}
 use Rattle.tree_rule.proofs.ReadWritten.{three_length}
 use Rattle.apply_plans.proofs.Rowing.{word_more, three_put}
+use Rattle.table_pool.specs.declared.write.NoRoom.{NoRoom}
 
 -- The row of a name.
 module _ (d : List ℕ) (at : ℕ) (h : at + 8 ≤ length d) (place size : ℕ) where
@@ -52,10 +52,10 @@ pub ruleset count_rows = (counts_put, rules)
 
 -- A part of the tree.
 pub part_put : (d : List ℕ) (at : ℕ) (f : List ℕ) (start «end» : ℕ) → start ≤ «end» → «end» ≤ length f →
-    at + («end» - start) ≤ length d → (r : Wrote) (e : List ℕ) → WroteBy r d at (between f start «end») e →
+    at + («end» - start) ≤ length d → (r : Result ℕ NoRoom) (e : List ℕ) → WroteBy r d at (between f start «end») e →
     e ≡ put d at (between f start «end»)
-part_put d at f start «end» i j h (Done q) e w = w.is
-part_put d at f start «end» i j h NoRoom e w =
+part_put d at f start «end» i j h (Ok q) e w = w.is
+part_put d at f start «end» i j h (Err _) e w =
     let size = length-take-le («end» - start) (drop start f) (omega (arith, length-drop start f)) in
     absurd (omega arith)
 

@@ -8,7 +8,7 @@ ghost use Rattle.apply_output.specs.Inner.Output.{NamesReady, NamesBy};
 use crate::plan::{Plan, plan_at};
 use crate::rows::put_name;
 use apply_pieces::put_shown;
-use table_pool::{Wrote, put_text};
+use table_pool::{NoRoom, put_text};
 use table_rows::{ClassRow, Text};
 use tables::text_in;
 use tree_rule::TreeCounts;
@@ -24,7 +24,7 @@ fn put_body(
     index: &[u16],
     classes: &[ClassRow],
     pool: &[u8],
-) -> Wrote
+) -> Result<usize, NoRoom>
     requires { (at ≤ length out.old) × BodyReady index.now classes.now pool.now counts tree.now number out.old }
     ensures { let body = planned_text classes.now pool.now counts tree.now out.old number in
         WroteBy result out.old at body out.new }
@@ -52,19 +52,17 @@ fn put_new(
     bytes: usize,
     number: usize,
     end: usize,
-) -> Wrote
+) -> Result<usize, NoRoom>
     requires { NameReady index.now classes.now pool.now counts tree.now bytes number «end» out.old }
     ensures { NameBy result classes.now pool.now counts tree.now bytes number «end»
         out.old out.new }
 {
-    let Wrote::Done(past) = put_body(out, end, number, tree, counts, index, classes, pool) else {
-        return Wrote::NoRoom;
-    };
+    let past = put_body(out, end, number, tree, counts, index, classes, pool)?;
     let place = end - bytes;
     let size = past - end;
     let at = bytes_start(counts) + 8 * number;
     put_name(out, at, place as u32, size as u32);
-    Wrote::Done(past)
+    Ok(past)
 }
 
 // The texts and the rows of the `count` new names: a row takes the place of the plan that was read there. Texts come last: where there is
@@ -77,20 +75,15 @@ pub fn put_names(
     classes: &[ClassRow],
     pool: &[u8],
     count: usize,
-) -> Wrote
+) -> Result<usize, NoRoom>
     requires { NamesReady index.now classes.now pool.now counts tree.now count out.old }
     ensures { NamesBy result classes.now pool.now counts tree.now count out.old out.new }
 {
     let bytes = bytes_start(counts) + 8 * count;
     let mut end = bytes + counts.bytes as usize;
-    let mut name = 0;
-    while name < count {
-        let Wrote::Done(past) = put_new(out, tree, counts, index, classes, pool, bytes, name, end)
-        else {
-            return Wrote::NoRoom;
-        };
+    for name in 0..count {
+        let past = put_new(out, tree, counts, index, classes, pool, bytes, name, end)?;
         end = past;
-        name += 1;
     }
-    Wrote::Done(end)
+    Ok(end)
 }

@@ -4,7 +4,7 @@ ghost use Rattle.apply_output.specs.Inner.Output.{Ready, FinishReady, finished, 
 
 use crate::names::put_names;
 use crate::rows::{put_counts, put_part};
-use table_pool::Wrote;
+use table_pool::NoRoom;
 use table_rows::ClassRow;
 use tree_rule::TreeCounts;
 use tree_words::{bytes_start, file_length, names_start, tokens_start};
@@ -30,7 +30,7 @@ fn finish(out: &mut [u8], tree: &[u8], counts: TreeCounts, count: usize, size: u
     put_part(out, bytes + 8 * count, tree, bytes, end);
 }
 
-// Writes the output, to which `count` names are new; `Done` holds its length.
+// Writes the output, to which `count` names are new; `Ok` holds its length.
 pub fn write_output(
     out: &mut [u8],
     tree: &[u8],
@@ -39,18 +39,16 @@ pub fn write_output(
     classes: &[ClassRow],
     pool: &[u8],
     count: usize,
-) -> Wrote
+) -> Result<usize, NoRoom>
     requires { Ready index.now classes.now pool.now counts tree.now count out.old }
     ensures { OutputBy result classes.now pool.now counts tree.now count out.old out.new }
 {
     let texts = file_length(counts) + 8 * count;
     if out.len() < texts {
-        return Wrote::NoRoom;
+        return Err(NoRoom);
     }
-    let Wrote::Done(end) = put_names(out, tree, counts, index, classes, pool, count) else {
-        return Wrote::NoRoom;
-    };
+    let end = put_names(out, tree, counts, index, classes, pool, count)?;
     let size = end - texts;
     finish(out, tree, counts, count, size);
-    Wrote::Done(end)
+    Ok(end)
 }

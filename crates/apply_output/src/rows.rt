@@ -28,10 +28,10 @@ pub fn put_counts(out: &mut [u8], counts: TreeCounts)
     put_word(out, 12, counts.bytes);
 }
 
-// A part of the tree.
+// A part of the tree. There is room for it, so that it is written.
 pub fn put_part(out: &mut [u8], at: usize, tree: &[u8], start: usize, end: usize)
     requires { (start ≤ «end») × («end» ≤ length tree.now) × (at + («end» - start) ≤ length out.old) }
     ensures { out.new ≡ put out.old at (between tree.now start «end») }
 {
-    put_text(out, at, &tree[start..end]);
+    let _ = put_text(out, at, &tree[start..end]);
 }

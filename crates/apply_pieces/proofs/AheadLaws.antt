@@ -1,4 +1,5 @@
 -- The first known piece from a place on, by what stands ahead of a later one. Assumes nothing.
+use Rattle.std.specs.Prelude.{Option, Some, None}
 use mathlib.Core.Path.{◌≡◌, sym, ◌∙◌, ap}
 use mathlib.Core.List.{List}
 use mathlib.Core.Logic.{◌⊎◌, inl, inr}
@@ -11,13 +12,9 @@ use mir.Syntax.{w32, w64}
 use borrow.Author.Rules.{rules}
 use Rattle.ground.specs.Put.{between}
 use Rattle.ground.proofs.Cases.{le_or_lt}
-use Rattle.text_places.specs.declared.find.Place.{Place}
-use Rattle.text_places.specs.declared.find.Place.TheVariants as places
 use Rattle.text_places.specs.Places.{first_where, starts}
 use Rattle.text_places.specs.Inner.Blocks.{Without}
 use Rattle.table_rows.specs.Rows.{most_classes}
-use Rattle.tables.specs.declared.search.Found.{Found}
-use Rattle.tables.specs.declared.search.Found.TheVariants.{Row, Unknown}
 use Rattle.tables.specs.Search.{last_raw}
 use Rattle.apply_rule.specs.Applying.{most_tree}
 use Rattle.apply_pieces.specs.declared.note.Note.{Note}
@@ -63,7 +60,7 @@ module _
 module _
     {index : List ℕ} {classes : List (List ℕ)} {pool : List ℕ} {longest : ℕ} {text : List ℕ}
     (k : Seekable index classes pool longest text) {start «end» : ℕ} (l : get_or text start 0 ≡ 0x4C)
-    (h : start < «end») (f : FirstAt 0x3B text start («end» - 1)) {r : Found}
+    (h : start < «end») (f : FirstAt 0x3B text start («end» - 1)) {r : Option ℕ}
     (w : r ≡ last_raw classes pool (between text start «end»)) where
   whole : «end» - 1 + 1 ≡ «end»
   whole = omega arith
@@ -71,10 +68,10 @@ module _
   same : last_raw classes pool (between text start («end» - 1 + 1)) ≡ r
   same = ap (λ e. last_raw classes pool (between text start e)) whole ∙ sym w
 
-  looked_up : {row : ℕ} → r ≡ Row row → FirstKnown classes pool text start start row
+  looked_up : {row : ℕ} → r ≡ Some row → FirstKnown classes pool text start start row
   looked_up u = first_piece classes pool text start l («end» - 1) f (same ∙ u)
 
-  looked_past : r ≡ Unknown → Passed classes pool text start «end»
+  looked_past : r ≡ None → Passed classes pool text start «end»
   looked_past u = rw whole at (passed_piece classes pool text start l («end» - 1) f (same ∙ u))
 
 -- From an `L` with no `;` before the place that `ahead` tells of.
@@ -116,8 +113,8 @@ module _
         let t = there in
         omega arith
 
-    module _ {r : Found} (w : r ≡ last_raw classes pool (between text start ahead.past)) where
-      module _ {row : ℕ} (u : r ≡ Row row) where
+    module _ {r : Option ℕ} (w : r ≡ last_raw classes pool (between text start ahead.past)) where
+      module _ {row : ℕ} (u : r ≡ Some row) where
         here : FirstKnown classes pool text start start row
         here = looked_up k o.there some closes w u
 
@@ -130,7 +127,7 @@ module _
         pub open_found : {note : Note} → note ≡ note_at start row → Sought note classes pool text start
         open_found e = first_sought_lem k here e
 
-      pub open_after : r ≡ Unknown → Sought ahead.after classes pool text start
+      pub open_after : r ≡ None → Sought ahead.after classes pool text start
       open_after u = record {
         says = passed_says (looked_past k o.there some closes w u) ahead.after.start ahead.after.row (g.after there);
         start_small = g.start_small;
@@ -195,12 +192,12 @@ module _
     sought_less = omega (arith, closed.inside, closed.some, closed.plain.before.goes)
 
     module _
-        {index : List ℕ} {longest : ℕ} (k : Seekable index classes pool longest text) {r : Found}
+        {index : List ℕ} {longest : ℕ} (k : Seekable index classes pool longest text) {r : Option ℕ}
         (w : r ≡ last_raw classes pool (between text start «end»)) where
       plain : Passed classes pool text at start
       plain = passed_plain classes pool text at start closed.plain.before
 
-      module _ {row : ℕ} (u : r ≡ Row row) where
+      module _ {row : ℕ} (u : r ≡ Some row) where
         found : FirstKnown classes pool text start start row
         found = looked_up k closed.plain.there closed.some closed.closes w u
 
@@ -213,7 +210,7 @@ module _
         pub sought_found : {note : Note} → note ≡ note_at start row → Sought note classes pool text «from»
         sought_found q = carried plain (first_sought_lem k found q)
 
-      pub sought_on : r ≡ Unknown → SoughtTo classes pool text «from» «end» stop
+      pub sought_on : r ≡ None → SoughtTo classes pool text «from» «end» stop
       sought_on u = record {
         before = closed.inside;
         passes = λ s row y.
@@ -242,8 +239,8 @@ module _
     {index : List ℕ} {classes : List (List ℕ)} {pool : List ℕ} {longest : ℕ} {text : List ℕ}
     (k : Seekable index classes pool longest text) {«from» stop : ℕ} (i : «from» ≤ stop)
     {ahead : Ahead} (g : AheadBy ahead classes pool text stop) {known : Note} (s : Sought known classes pool text «from»)
-    {p : Place} (e : p ≡ first_where (starts 0x3B) (between text «from» stop)) where
-  pub ahead_same : p ≡ places.Nowhere →
+    {p : Option ℕ} (e : p ≡ first_where (starts 0x3B) (between text «from» stop)) where
+  pub ahead_same : p ≡ None →
       AheadBy (record { known = known; past = ahead.past; after = ahead.after }) classes pool text «from»
   ahead_same f =
       let w = told_none 0x3B text «from» stop i g.inside e f in
@@ -260,7 +257,7 @@ module _
         row_small = g.row_small;
       }
 
-  module _ {n : ℕ} (f : p ≡ places.At n) where
+  module _ {n : ℕ} (f : p ≡ Some n) where
     near : «from» + n < stop
     near = told_within 0x3B text «from» stop i g.inside e f
 

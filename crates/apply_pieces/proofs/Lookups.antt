@@ -1,4 +1,5 @@
 -- Rows by their raw descriptors, and the next piece up to a place. Assumes nothing.
+use Rattle.std.specs.Prelude.{Option, Some, None}
 use mathlib.Core.Path.{◌≡◌, refl, ap}
 use mathlib.Core.List.{List}
 use mathlib.Core.Logic.{◌⊎◌, inl, inr}
@@ -10,11 +11,7 @@ use mir.Syntax.{w64}
 use borrow.Author.Rules.{rules}
 use Rattle.ground.specs.Put.{between}
 use Rattle.ground.proofs.Cases.{le_or_lt}
-use Rattle.text_places.specs.declared.find.Place.{Place}
-use Rattle.text_places.specs.declared.find.Place.TheVariants.{At, Nowhere}
 use Rattle.text_places.specs.Places.{first_where, starts}
-use Rattle.tables.specs.declared.search.Found.{Found}
-use Rattle.tables.specs.declared.search.Found.TheVariants.{Row, Unknown}
 use Rattle.tables.specs.Search.{last_raw}
 use Rattle.apply_pieces.specs.Inner.Known.{raw_of}
 use Rattle.apply_pieces.specs.Inner.Sought.{RawsTo}
@@ -24,15 +21,15 @@ use Rattle.apply_pieces.proofs.Cuts.{told_none, told_within, told_first}
 
 -- A piece that is longer than each of them is none of them.
 pub too_long : (classes : List (List ℕ)) (pool : List ℕ) (longest : ℕ) → RawsTo (length classes) classes pool longest →
-    (piece : List ℕ) → longest < length piece → Unknown ≡ last_raw classes pool piece
+    (piece : List ℕ) → longest < length piece → None ≡ last_raw classes pool piece
 too_long classes pool longest t piece h = go (last_raw classes pool piece) refl
   where
-    go : (r : Found) → last_raw classes pool piece ≡ r → Unknown ≡ r
-    go (Row i) e =
+    go : (r : Option ℕ) → last_raw classes pool piece ≡ r → None ≡ r
+    go (Some i) e =
         let a = t.each i (row_says classes pool piece e).0 in
         let b = ap length (row_has classes pool piece e) in
         absurd (omega arith)
-    go Unknown e = refl
+    go None e = refl
 
 pub ruleset rows_by_raw = (too_long, rules)
 
@@ -66,8 +63,8 @@ pub ruleset measuring = (measuring_starts, measuring_ends, measuring_longer, mea
 
 -- The next piece up to a place.
 module _
-    (text : List ℕ) («from» stop : ℕ) (i : «from» ≤ stop) (j : stop ≤ length text) {p : Place}
-    (e : p ≡ first_where (starts 0x4C) (between text «from» stop)) {n : ℕ} (f : p ≡ At n) where
+    (text : List ℕ) («from» stop : ℕ) (i : «from» ≤ stop) (j : stop ≤ length text) {p : Option ℕ}
+    (e : p ≡ first_where (starts 0x4C) (between text «from» stop)) {n : ℕ} (f : p ≡ Some n) where
   pub within_order : «from» + n ≤ stop
   within_order = let a = told_within 0x4C text «from» stop i j e f in omega arith
 
@@ -77,8 +74,8 @@ module _
   opens : FirstAt 0x4C text «from» («from» + n)
   opens = told_first 0x4C text «from» stop i j e f
 
-  module _ {q : Place} (g : q ≡ first_where (starts 0x3B) (between text («from» + n) stop)) where
-    pub within_open : q ≡ Nowhere → OpenFrom text «from» («from» + n) stop
+  module _ {q : Option ℕ} (g : q ≡ first_where (starts 0x3B) (between text («from» + n) stop)) where
+    pub within_open : q ≡ None → OpenFrom text «from» («from» + n) stop
     within_open h = record {
       plain = opens;
       unclosed = record {
@@ -88,7 +85,7 @@ module _
       };
     }
 
-    module _ {m : ℕ} (h : q ≡ At m) where
+    module _ {m : ℕ} (h : q ≡ Some m) where
       ends : «from» + n + m < stop
       ends = told_within 0x3B text («from» + n) stop within_order j g h
 

@@ -1,4 +1,5 @@
 -- A note about each name of a tree. Assumes nothing.
+use Rattle.std.specs.Prelude.{Option, Some, None}
 use mathlib.Core.Path.{◌≡◌, refl, ◌∙◌, ap}
 use mathlib.Core.List.{List}
 use mathlib.Core.Logic.{◌⊎◌, inl, inr}
@@ -19,39 +20,38 @@ use Rattle.tree_rule.specs.Files.{names_start, bytes_start, file_length, name_at
 use Rattle.tree_rule.proofs.WordLaws.{bytes_length}
 use Rattle.tree_rule.proofs.PutWords.{take_put, drop_put, word_before, word_put}
 use Rattle.apply_rule.specs.Applying.{most_tree}
-use Rattle.apply_pieces.specs.declared.known.KnownPiece.{KnownPiece}
-use Rattle.apply_pieces.specs.declared.known.KnownPiece.TheVariants.{At, Nowhere}
 use Rattle.apply_pieces.specs.declared.note.Note.{Note}
-use Rattle.apply_pieces.specs.Inner.Known.{KnownAt, KnownBy}
+use Rattle.apply_pieces.specs.Inner.Known.{KnownAt, KnownBy, piece_of_row}
 use Rattle.apply_pieces.specs.Inner.Notes.{NoteSays, NoteBy, NotedBelow}
+use Rattle.apply_pieces.specs.declared.known.KnownPiece.{KnownPiece}
 
 -- The note about one text.
-module _ (classes : List (List ℕ)) (pool text : List ℕ) (p : KnownPiece) (k : KnownBy p classes pool text 0) where
-  pub note_none : p ≡ Nowhere → NoteBy (record { start = 0; row = 0 }) classes pool text
+module _ (classes : List (List ℕ)) (pool text : List ℕ) (p : Option KnownPiece) (k : KnownBy p classes pool text 0) where
+  pub note_none : p ≡ None → NoteBy (record { start = 0; row = 0 }) classes pool text
   note_none e = record { says = rw e at k; start_small = omega arith; row_small = omega arith }
 
-  module _ (short : length text ≤ most_tree) (few : length classes ≤ most_classes) {start row : ℕ} (e : p ≡ At start row) where
-    found : KnownAt classes pool text 0 start row
+  module _ (short : length text ≤ most_tree) (few : length classes ≤ most_classes) {x : KnownPiece} (e : p ≡ Some x) where
+    found : KnownAt classes pool text 0 x.start x.row
     found = rw e at k
 
-    small : start + 1 ≤ most_tree
+    small : x.start + 1 ≤ most_tree
     small =
         let a = found.filled in
         let b = found.ends in
         omega arith
 
-    pub note_place_fits : Fits w64 (start + 1)
+    pub note_place_fits : Fits w64 (x.start + 1)
     note_place_fits = let a = small in omega arith
 
-    pub note_place_narrow : Fits w32 (start + 1)
+    pub note_place_narrow : Fits w32 (x.start + 1)
     note_place_narrow = let a = small in omega arith
 
-    pub note_row_narrow : Fits w32 row
+    pub note_row_narrow : Fits w32 x.row
     note_row_narrow = let a = found.inside in omega arith
 
-    pub note_found : NoteBy (record { start = start + 1; row = row }) classes pool text
+    pub note_found : NoteBy (record { start = x.start + 1; row = x.row }) classes pool text
     note_found = record {
-      says = rw (add-one start) found;
+      says = rw (add-one x.start) found;
       start_small = let a = small in omega arith;
       row_small = let a = found.inside in omega arith;
     }

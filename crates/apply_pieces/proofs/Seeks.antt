@@ -1,4 +1,5 @@
 -- The first known piece from a place on, however the text is cut: from piece to piece. Assumes nothing.
+use Rattle.std.specs.Prelude.{Some, None}
 use mathlib.Core.Path.{◌≡◌, refl, sym, ◌∙◌, ap}
 use mathlib.Core.Bool.{Bool, true, false}
 use mathlib.Core.List.{List, [], ◌∷◌, ◌++◌, append_assoc}
@@ -14,19 +15,16 @@ use Rattle.ground.specs.Look.{Look}
 use Rattle.ground.specs.Put.{between}
 use Rattle.ground.proofs.Cases.{le_or_lt}
 use Rattle.ground.proofs.Parts.{drop_take, parts_join}
-use Rattle.text_places.specs.declared.find.Place.TheVariants.{At, Nowhere}
 use Rattle.text_places.specs.Places.{first_from, first_where, starts}
 use Rattle.text_places.specs.Inner.Blocks.{Without}
 use Rattle.text_places.proofs.PlaceLaws.{byte_here}
 use Rattle.table_rows.specs.Classes.{shown}
-use Rattle.tables.specs.declared.search.Found.TheVariants.{Row, Unknown}
 use Rattle.tables.specs.Back.{read_back}
 use Rattle.tables.specs.Search.{last_raw}
 use Rattle.descriptor.specs.Pieces.{parts_from, turn}
 use Rattle.apply_rule.specs.Changes.{piece_known}
 use Rattle.apply_rule.proofs.Pieces.{unknown_without_l}
-use Rattle.apply_pieces.specs.declared.known.NextPiece.TheVariants as pieces
-use Rattle.apply_pieces.specs.Inner.Known.{PieceAt, raw_of, one_known, all_shown, KnownAt}
+use Rattle.apply_pieces.specs.Inner.Known.{PieceAt, raw_of, one_known, all_shown, KnownAt, piece_between}
 use Rattle.apply_pieces.specs.Inner.Within.{FirstAt}
 use Rattle.apply_pieces.specs.Inner.Sought.{NeverKnown, FirstKnown, SoughtSays}
 use Rattle.apply_pieces.proofs.Knowing.{unclosed, closed_known, closed_turns}
@@ -35,26 +33,26 @@ use Rattle.apply_pieces.proofs.Cuts.{found_none, found_first, without_cut, witho
 
 -- Bytes without an `L` stay, and hold no piece.
 module _ (look : List ℕ → Look) where
-  plain_known : (k : ℕ) (a l : List ℕ) → first_from (starts 0x4C) k a ≡ Nowhere →
+  plain_known : (k : ℕ) (a l : List ℕ) → first_from (starts 0x4C) k a ≡ None →
       piece_known look (parts_from [] (a ++ l)) ≡ piece_known look (parts_from [] l)
   unfolding first_from parts_from piece_known
   plain_known k [] l e = refl
   plain_known k (x ∷ a) l e = go (eqb x 0x4C) refl (plain_known (suc k) a l) e
     where
       go : (t : Bool) → eqb x 0x4C ≡ t →
-          (first_from (starts 0x4C) (suc k) a ≡ Nowhere → piece_known look (parts_from [] (a ++ l)) ≡ piece_known look (parts_from [] l)) →
-          pick t (At k) (first_from (starts 0x4C) (suc k) a) ≡ Nowhere →
+          (first_from (starts 0x4C) (suc k) a ≡ None → piece_known look (parts_from [] (a ++ l)) ≡ piece_known look (parts_from [] l)) →
+          pick t (Some k) (first_from (starts 0x4C) (suc k) a) ≡ None →
           piece_known look (parts_from [] (x ∷ (a ++ l))) ≡ piece_known look (parts_from [] l)
       go true q again f = absurd (let z : ◌≡◌ {A = ℕ} 0 1 = cc in omega arith)
       go false q again f = rw q (again f)
 
-  plain_turns : (k : ℕ) (a l : List ℕ) → first_from (starts 0x4C) k a ≡ Nowhere → turn look (a ++ l) ≡ a ++ turn look l
+  plain_turns : (k : ℕ) (a l : List ℕ) → first_from (starts 0x4C) k a ≡ None → turn look (a ++ l) ≡ a ++ turn look l
   unfolding first_from parts_from join
   plain_turns k [] l e = refl
   plain_turns k (x ∷ a) l e = go (eqb x 0x4C) refl (plain_turns (suc k) a l) e
     where
-      go : (t : Bool) → eqb x 0x4C ≡ t → (first_from (starts 0x4C) (suc k) a ≡ Nowhere → turn look (a ++ l) ≡ a ++ turn look l) →
-          pick t (At k) (first_from (starts 0x4C) (suc k) a) ≡ Nowhere → turn look (x ∷ (a ++ l)) ≡ x ∷ (a ++ turn look l)
+      go : (t : Bool) → eqb x 0x4C ≡ t → (first_from (starts 0x4C) (suc k) a ≡ None → turn look (a ++ l) ≡ a ++ turn look l) →
+          pick t (Some k) (first_from (starts 0x4C) (suc k) a) ≡ None → turn look (x ∷ (a ++ l)) ≡ x ∷ (a ++ turn look l)
       go true q again f = absurd (let z : ◌≡◌ {A = ℕ} 0 1 = cc in omega arith)
       go false q again f = rw q (ap (λ m. x ∷ m) (again f))
 
@@ -67,7 +65,7 @@ module _ (classes : List (List ℕ)) (pool text : List ℕ) where
   no_l a w = unknown_without_l look (drop a text) (found_none w)
 
   module _ (a i : ℕ) (w : Without 0x4C text a i) where
-    no_l_there : first_where (starts 0x4C) (between text a i) ≡ Nowhere
+    no_l_there : first_where (starts 0x4C) (between text a i) ≡ None
     no_l_there = ap (first_where (starts 0x4C)) (sym (drop_take a i text)) ∙ found_none (without_up_to w i w.goes (omega arith))
 
     split : drop a text ≡ between text a i ++ drop i text
@@ -221,7 +219,7 @@ module _
     nothing : (e : ℕ) → e ≤ length text → start ≤ e → Unknowing classes pool (take e text) start start
     nothing e i h = unknowing_starts classes pool (take e text) start (omega (arith, length-take-le e text i))
 
-    pub passed_piece : last_raw classes pool (between text start (semi + 1)) ≡ Unknown → Passed classes pool text start (semi + 1)
+    pub passed_piece : last_raw classes pool (between text start (semi + 1)) ≡ None → Passed classes pool text start (semi + 1)
     passed_piece u =
         let s = some in
         record {
@@ -229,21 +227,21 @@ module _
           inside = omega (arith, f.inside);
           short = λ e h i. open_short f.before e h (omega arith);
           long = λ e h i.
-              seek_on (nothing e i (omega arith)) (pieces.At start (semi + 1)) (closed e (omega arith) i) refl
+              seek_on (nothing e i (omega arith)) (Some (piece_between start (semi + 1))) (closed e (omega arith) i) refl
               (ap (last_raw classes pool) (sym (same_piece e (omega arith)))) u;
         }
 
-    pub first_piece : {row : ℕ} → last_raw classes pool (between text start (semi + 1)) ≡ Row row →
+    pub first_piece : {row : ℕ} → last_raw classes pool (between text start (semi + 1)) ≡ Some row →
         FirstKnown classes pool text start start row
     first_piece {row} u =
         let s = some in
         let whole : start + length (raw_of classes pool row) ≡ semi + 1 =
-        piece_long (unknowing_starts classes pool text start (omega (arith, f.inside))) (pieces.At start (semi + 1))
+        piece_long (unknowing_starts classes pool text start (omega (arith, f.inside))) (Some (piece_between start (semi + 1)))
         (at_piece classes pool text start (omega (arith, f.inside)) l semi f) refl refl u in
         record {
           ends = omega (arith, f.inside, whole);
           short = λ e h i. open_short f.before e h (omega (arith, whole));
           long = λ e h i.
-              seek_found (nothing e i (omega (arith, whole))) (pieces.At start (semi + 1)) (closed e (omega (arith, whole)) i) refl
+              seek_found (nothing e i (omega (arith, whole))) (Some (piece_between start (semi + 1))) (closed e (omega (arith, whole)) i) refl
               (ap (last_raw classes pool) (sym (same_piece e (omega (arith, whole))))) u;
         }

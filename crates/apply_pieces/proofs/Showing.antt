@@ -1,4 +1,5 @@
 -- A descriptor written with its known pieces shown, from one that is known to the next. Assumes nothing.
+use Rattle.std.specs.Prelude.{Result, Ok, Err, Option, Some, None}
 use mathlib.Core.Path.{◌≡◌, refl, sym, ◌∙◌, ap}
 use mathlib.Core.Bool.{false}
 use mathlib.Core.List.{List, [], ◌++◌, append_assoc}
@@ -14,17 +15,15 @@ use Rattle.ground.proofs.PutLaws.{put_nothing}
 use Rattle.table_rows.specs.declared.rows.Class.{Class}
 use Rattle.table_rows.specs.Rows.{unpack_class}
 use Rattle.table_rows.specs.Classes.{shown}
-use Rattle.table_pool.specs.declared.write.Wrote.{Wrote}
-use Rattle.table_pool.specs.declared.write.Wrote.TheVariants.{Done, NoRoom}
-use Rattle.table_pool.specs.Inner.Wrote.{Written, WroteBy}
+use Rattle.table_pool.specs.Inner.Wrote.{Written, WroteBy, no_room}
 use Rattle.table_pool.proofs.Writes.{wrote_told, wrote_none, wrote_as, wrote_then, none_then, written_length, two_no_first}
 use Rattle.tables.specs.Back.{text_in, read_back}
 use Rattle.descriptor.specs.Pieces.{parts_from}
 use Rattle.apply_rule.specs.Changes.{piece_known}
 use Rattle.apply_rule.proofs.Pieces.{unknown_stays}
+use Rattle.apply_pieces.specs.Inner.Known.{raw_of, display_of, one_known, all_shown, KnownAt, KnownBy, piece_of_row}
+use Rattle.table_pool.specs.declared.write.NoRoom.{NoRoom}
 use Rattle.apply_pieces.specs.declared.known.KnownPiece.{KnownPiece}
-use Rattle.apply_pieces.specs.declared.known.KnownPiece.TheVariants.{At, Nowhere}
-use Rattle.apply_pieces.specs.Inner.Known.{raw_of, display_of, one_known, all_shown, KnownAt, KnownBy}
 
 -- The texts of a row.
 module _ (classes : List (List ℕ)) (pool : List ℕ) (row : ℕ) {c : Class} (e : c ≡ unpack_class (get_or classes row [])) where
@@ -37,10 +36,10 @@ module _ (classes : List (List ℕ)) (pool : List ℕ) (row : ℕ) {c : Class} (
 pub ruleset raw_lengths = (raw_told, rules)
 
 -- What stands before a piece, and the piece.
-module _ (d : List ℕ) (at : ℕ) (a : List ℕ) (r : Wrote) (d₁ : List ℕ) (w : WroteBy r d at a d₁) where
-  pub one_shown : {m : ℕ} → r ≡ Done m → (classes : List (List ℕ)) (pool : List ℕ) (row : ℕ) →
+module _ (d : List ℕ) (at : ℕ) (a : List ℕ) (r : Result ℕ NoRoom) (d₁ : List ℕ) (w : WroteBy r d at a d₁) where
+  pub one_shown : {m : ℕ} → r ≡ Ok m → (classes : List (List ℕ)) (pool : List ℕ) (row : ℕ) →
       {c : Class} → c ≡ unpack_class (get_or classes row []) → {s : List ℕ} → s ≡ text_in pool c.display →
-      (v : Wrote) (d₂ : List ℕ) → WroteBy v d₁ m s d₂ → WroteBy v d at (a ++ display_of classes pool row) d₂
+      (v : Result ℕ NoRoom) (d₂ : List ℕ) → WroteBy v d₁ m s d₂ → WroteBy v d at (a ++ display_of classes pool row) d₂
   one_shown {m} e classes pool row f {s} g v d₂ u =
       wrote_then v (display_of classes pool row) d₂ (wrote_told r d at a d₁ w e) (wrote_as v d₁ m d₂ (display_told classes pool row f g) u)
 
@@ -50,7 +49,7 @@ pub ruleset showing_one = (two_no_first, one_shown, rules)
 -- the row `row`.
 pub record Showing (classes : List (List ℕ)) (pool text out₀ : List ℕ) (at : ℕ) (out : List ℕ) («from» piece row next : ℕ) : Type 0 where
   pub size : length out ≡ length out₀
-  pub left : (r : Wrote) (d : List ℕ) → WroteBy r out next (all_shown classes pool (drop «from» text)) d →
+  pub left : (r : Result ℕ NoRoom) (d : List ℕ) → WroteBy r out next (all_shown classes pool (drop «from» text)) d →
       WroteBy r out₀ at (all_shown classes pool text) d
   pub first : KnownAt classes pool text «from» piece row
 
@@ -79,10 +78,10 @@ module _
       append_assoc (between text «from» piece) (display_of classes pool row) (all_shown classes pool (drop behind text))
       ∙ sym k.first.turns
 
-  module _ (r : Wrote) (d : List ℕ) (w : WroteBy r out next (between text «from» piece ++ display_of classes pool row) d) where
-    pub showing_full : r ≡ NoRoom → length out₀ < at + length (all_shown classes pool text)
+  module _ (r : Result ℕ NoRoom) (d : List ℕ) (w : WroteBy r out next (between text «from» piece ++ display_of classes pool row) d) where
+    pub showing_full : r ≡ Err no_room → length out₀ < at + length (all_shown classes pool text)
     showing_full e =
-        k.left NoRoom d (wrote_as NoRoom out next d here
+        k.left (Err no_room) d (wrote_as (Err no_room) out next d here
         (none_then out next (between text «from» piece ++ display_of classes pool row) (all_shown classes pool (drop behind text))
         (wrote_none r out next (between text «from» piece ++ display_of classes pool row) d w e)))
 
@@ -100,18 +99,18 @@ module _
           let c = k.first.ends in
           omega arith
 
-      module _ {m : ℕ} (e : r ≡ Done m) where
+      module _ {m : ℕ} (e : r ≡ Ok m) where
         wrote : Written m out next (between text «from» piece ++ display_of classes pool row) d
         wrote = wrote_told r out next (between text «from» piece ++ display_of classes pool row) d w e
 
-        then : (v : Wrote) (d₁ : List ℕ) → WroteBy v d m (all_shown classes pool (drop (piece + n) text)) d₁ →
+        then : (v : Result ℕ NoRoom) (d₁ : List ℕ) → WroteBy v d m (all_shown classes pool (drop (piece + n) text)) d₁ →
             WroteBy v out₀ at (all_shown classes pool text) d₁
         then v d₁ u =
             let same : WroteBy v d m (all_shown classes pool (drop behind text)) d₁ = rw f at u in
             k.left v d₁ (wrote_as v out next d₁ here (wrote_then v (all_shown classes pool (drop behind text)) d₁ wrote same))
 
         -- nothing is left
-        pub showing_all : length text ≤ piece + n → WroteBy (Done m) out₀ at (all_shown classes pool text) d
+        pub showing_all : length text ≤ piece + n → WroteBy (Ok m) out₀ at (all_shown classes pool text) d
         unfolding parts_from piece_known
         showing_all h =
             let none : drop (piece + n) text ≡ [] = drop_of_length-le text h in
@@ -119,10 +118,10 @@ module _
             let nothing : all_shown classes pool (drop (piece + n) text) ≡ [] = ap (all_shown classes pool) none ∙ stays in
             let size : length d ≡ length out = written_length wrote in
             let room : m ≤ length d = let a = wrote.past in let b = wrote.room in omega arith in
-            then (Done m) d (rw nothing (record { past = omega arith; room = omega arith; is = sym (put_nothing d m) }))
+            then (Ok m) d (rw nothing (record { past = omega arith; room = omega arith; is = sym (put_nothing d m) }))
 
-        module _ (p : KnownPiece) (g : KnownBy p classes pool text (piece + n)) where
-          pub showing_rest : p ≡ Nowhere → (v : Wrote) (d₁ : List ℕ) → WroteBy v d m (between text (piece + n) (length text)) d₁ →
+        module _ (p : Option KnownPiece) (g : KnownBy p classes pool text (piece + n)) where
+          pub showing_rest : p ≡ None → (v : Result ℕ NoRoom) (d₁ : List ℕ) → WroteBy v d m (between text (piece + n) (length text)) d₁ →
               WroteBy v out₀ at (all_shown classes pool text) d₁
           showing_rest h v d₁ u =
               let none : one_known classes pool (drop (piece + n) text) ≡ false = rw h at g in
@@ -130,7 +129,7 @@ module _
               take_rest text (piece + n) ∙ sym (unknown_stays (shown (read_back classes pool)) (drop (piece + n) text) none) in
               then v d₁ (wrote_as v d m d₁ is u)
 
-          pub showing_more : {start i : ℕ} → p ≡ At start i → Showing classes pool text out₀ at d (piece + n) start i m
+          pub showing_more : {x : KnownPiece} → p ≡ Some x → Showing classes pool text out₀ at d (piece + n) x.start x.row m
           showing_more h = record { size = written_length wrote ∙ k.size; left = then; first = rw h at g }
 
 pub ruleset showing = (

@@ -10,8 +10,7 @@ use crate::note::Note;
 use crate::rows::row_of;
 use crate::within::{Within, next_within};
 use table_rows::ClassRow;
-use tables::Found;
-use text_places::{Place, first_byte};
+use text_places::first_byte;
 
 // What stands ahead of a place: the first known piece, the place behind the first `;`, or 0, and the first known piece behind that `;`.
 #[derive(Clone, Copy)]
@@ -65,8 +64,8 @@ fn open_known(
     }
     let end = ahead.past as usize;
     match row_of(index, classes, pool, longest, &text[start..end]) {
-        Found::Row(row) => found_note(start, row),
-        Found::Unknown => ahead.after,
+        Some(row) => found_note(start, row),
+        None => ahead.after,
     }
 }
 
@@ -97,10 +96,10 @@ pub fn seek_known(
             }
             Within::Closed { start, end } => {
                 match row_of(index, classes, pool, longest, &text[start..end]) {
-                    Found::Row(row) => {
+                    Some(row) => {
                         return found_note(start, row);
                     }
-                    Found::Unknown => {
+                    None => {
                         at = end;
                     }
                 }
@@ -126,7 +125,7 @@ pub fn ahead_of(
     ensures { AheadBy result classes.now pool.now text.now «from» }
 {
     let known = seek_known(index, classes, pool, longest, text, from, stop, ahead);
-    let Place::At(gap) = first_byte(&text[from..stop], b';') else {
+    let Some(gap) = first_byte(&text[from..stop], b';') else {
         let after = ahead.after;
         return Ahead {
             known,

@@ -6,37 +6,32 @@ ghost use Rattle.apply_pieces.specs.Inner.Known.{PieceBy, KnownBy};
 
 use table_index::last_raw;
 use table_rows::ClassRow;
-use tables::Found;
-use text_places::{Place, first_byte};
+use text_places::first_byte;
 
 // A class piece by where it starts, and the last class row that has it as its raw descriptor.
 #[derive(Clone, Copy)]
-pub enum KnownPiece {
-    At { start: usize, row: usize },
-    Nowhere,
+pub struct KnownPiece {
+    pub start: usize,
+    pub row: usize,
 }
 
 // A class piece by where it starts, and the place behind it.
 #[derive(Clone, Copy)]
-pub enum NextPiece {
-    At { start: usize, end: usize },
-    Nowhere,
+pub struct NextPiece {
+    pub start: usize,
+    pub end: usize,
 }
 
 // The first class piece of a descriptor, from a place on: it runs from an `L` to the next `;`.
-fn next_piece(text: &[u8], from: usize) -> NextPiece
+fn next_piece(text: &[u8], from: usize) -> Option<NextPiece>
     requires { «from» ≤ length text.now }
     ensures { PieceBy result text.now «from» }
 {
-    let Place::At(plain) = first_byte(&text[from..], b'L') else {
-        return NextPiece::Nowhere;
-    };
+    let plain = first_byte(&text[from..], b'L')?;
     let start = from + plain;
-    let Place::At(gap) = first_byte(&text[start..], b';') else {
-        return NextPiece::Nowhere;
-    };
+    let gap = first_byte(&text[start..], b';')?;
     let end = start + gap + 1;
-    NextPiece::At { start, end }
+    Some(NextPiece { start, end })
 }
 
 // The first class piece of a descriptor, from a place on, that is known.
@@ -46,20 +41,18 @@ pub fn first_known(
     pool: &[u8],
     text: &[u8],
     from: usize,
-) -> KnownPiece
+) -> Option<KnownPiece>
     requires { («from» ≤ length text.now) × IndexBy Raw classes.now pool.now index.now }
     ensures { KnownBy result classes.now pool.now text.now «from» }
 {
     let mut at = from;
     loop {
-        let NextPiece::At { start, end } = next_piece(text, at) else {
-            return KnownPiece::Nowhere;
-        };
+        let NextPiece { start, end } = next_piece(text, at)?;
         match last_raw(index, classes, pool, &text[start..end]) {
-            Found::Row(row) => {
-                return KnownPiece::At { start, row };
+            Some(row) => {
+                return Some(KnownPiece { start, row });
             }
-            Found::Unknown => {
+            None => {
                 at = end;
             }
         }

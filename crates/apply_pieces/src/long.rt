@@ -87,10 +87,8 @@ pub fn note_by_groups(
 {
     let start = names_start(counts);
     let count = counts.names as usize;
-    let mut n = 0;
-    while n < count {
+    for n in 0..count {
         let note = name_note(out, tree, counts, index, classes, pool, longest, n);
         put_note(out, start + 8 * n, note);
-        n += 1;
     }
 }

@@ -25,7 +25,7 @@ pub fn note_of(index: &[u16], classes: &[ClassRow], pool: &[u8], text: &[u8]) ->
         × IndexBy Raw classes.now pool.now index.now }
     ensures { NoteBy result classes.now pool.now text.now }
 {
-    let KnownPiece::At { start, row } = first_known(index, classes, pool, text, 0) else {
+    let Some(KnownPiece { start, row }) = first_known(index, classes, pool, text, 0) else {
         return Note { start: 0, row: 0 };
     };
     let place = start + 1;

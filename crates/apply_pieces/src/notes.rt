@@ -33,11 +33,9 @@ fn note_each(
 {
     let start = names_start(counts);
     let count = counts.names as usize;
-    let mut n = 0;
-    while n < count {
+    for n in 0..count {
         let note = note_of(index, classes, pool, name_text(tree, counts, n));
         put_note(out, start + 8 * n, note);
-        n += 1;
     }
 }
 

@@ -8,7 +8,7 @@ ghost use Rattle.apply_pieces.specs.Inner.Sought.{RawsTo};
 
 use table_index::last_raw;
 use table_rows::{ClassRow, unpack_class};
-use tables::{Found, text_in};
+use tables::text_in;
 
 // How long the raw descriptor of a class row is.
 pub fn raw_length(classes: &[ClassRow], pool: &[u8], row: usize) -> usize
@@ -25,15 +25,11 @@ pub fn longest_raw(classes: &[ClassRow], pool: &[u8]) -> usize
     ensures { RawsTo (length classes.now) classes.now pool.now result }
 {
     let mut longest = 0;
-    let mut row = 0;
-    while row < classes.len() {
+    for row in 0..classes.len() {
         let length = raw_length(classes, pool, row);
-        row += 1;
         if longest < length {
             longest = length;
-            continue;
         }
-        continue;
     }
     longest
 }
@@ -46,12 +42,12 @@ pub fn row_of(
     pool: &[u8],
     longest: usize,
     piece: &[u8],
-) -> Found
+) -> Option<usize>
     requires { RawsTo (length classes.now) classes.now pool.now longest × IndexBy Raw classes.now pool.now index.now }
     ensures { result ≡ last_raw classes.now pool.now piece.now }
 {
     if longest < piece.len() {
-        return Found::Unknown;
+        return None;
     }
     last_raw(index, classes, pool, piece)
 }

@@ -8,7 +8,7 @@ ghost use Rattle.apply_pieces.specs.Inner.Known.{display_of, all_shown, KnownAt}
 
 use crate::known::{KnownPiece, first_known};
 use crate::rows::raw_length;
-use table_pool::{Wrote, put_text};
+use table_pool::{NoRoom, put_text};
 use table_rows::{ClassRow, unpack_class};
 use tables::text_in;
 
@@ -22,14 +22,12 @@ fn put_one(
     row: usize,
     classes: &[ClassRow],
     pool: &[u8],
-) -> Wrote
+) -> Result<usize, NoRoom>
     requires { («from» ≤ start) × (start ≤ length text.now) × (row < length classes.now) }
     ensures { WroteBy result out.old at
         (between text.now «from» start ++ display_of classes.now pool.now row) out.new }
 {
-    let Wrote::Done(plain) = put_text(out, at, &text[from..start]) else {
-        return Wrote::NoRoom;
-    };
+    let plain = put_text(out, at, &text[from..start])?;
     let class = unpack_class(classes[row]);
     let display = text_in(pool, class.display);
     put_text(out, plain, display)
@@ -45,7 +43,7 @@ pub fn put_shown(
     index: &[u16],
     classes: &[ClassRow],
     pool: &[u8],
-) -> Wrote
+) -> Result<usize, NoRoom>
     requires { IndexBy Raw classes.now pool.now index.now × KnownAt classes.now pool.now text.now 0 start row }
     ensures { WroteBy result out.old at (all_shown classes.now pool.now text.now) out.new }
 {
@@ -54,18 +52,16 @@ pub fn put_shown(
     let mut known = row;
     let mut next = at;
     loop {
-        let Wrote::Done(after) = put_one(out, next, text, from, piece, known, classes, pool) else {
-            return Wrote::NoRoom;
-        };
+        let after = put_one(out, next, text, from, piece, known, classes, pool)?;
         from = piece + raw_length(classes, pool, known);
         if text.len() <= from {
-            return Wrote::Done(after);
+            return Ok(after);
         }
         match first_known(index, classes, pool, text, from) {
-            KnownPiece::Nowhere => {
+            None => {
                 return put_text(out, after, &text[from..]);
             }
-            KnownPiece::At { start, row } => {
+            Some(KnownPiece { start, row }) => {
                 next = after;
                 piece = start;
                 known = row;

@@ -2,7 +2,7 @@
 ghost use Rattle.std.specs.Prelude.{◌≤◌, length};
 ghost use Rattle.apply_pieces.specs.Inner.Within.{WithinBy};
 
-use text_places::{Place, first_byte};
+use text_places::first_byte;
 
 #[derive(Clone, Copy)]
 pub enum Within {
@@ -17,11 +17,11 @@ pub fn next_within(text: &[u8], from: usize, stop: usize) -> Within
     requires { («from» ≤ stop) × (stop ≤ length text.now) }
     ensures { WithinBy result text.now «from» stop }
 {
-    let Place::At(plain) = first_byte(&text[from..stop], b'L') else {
+    let Some(plain) = first_byte(&text[from..stop], b'L') else {
         return Within::Nowhere;
     };
     let start = from + plain;
-    let Place::At(gap) = first_byte(&text[start..stop], b';') else {
+    let Some(gap) = first_byte(&text[start..stop], b';') else {
         return Within::Open { start };
     };
     let end = start + gap + 1;

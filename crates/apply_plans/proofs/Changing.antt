@@ -1,4 +1,5 @@
 -- What becomes of a token, by its plan and by the rule. Assumes nothing.
+use Rattle.std.specs.Prelude.{Option, Some, None}
 use mathlib.Core.Path.{◌≡◌, refl, sym, ◌∙◌, ap}
 use mathlib.Core.Bool.{Bool, true, false}
 use mathlib.Core.List.{List, []}
@@ -9,8 +10,6 @@ use lib.ListN.{length, get_or}
 use borrow.Author.Tests.{eqb-true, eqb-false}
 use Rattle.ground.specs.Choice.{pick}
 use Rattle.table_rows.specs.Rows.{unpack_class}
-use Rattle.name_lines.specs.declared.lines.LineName.{LineName}
-use Rattle.name_lines.specs.declared.lines.LineName.TheVariants as line
 use Rattle.name_lines.specs.LineNames.{raw_line}
 use Rattle.tree_rule.specs.declared.TreeCounts.{TreeCounts}
 use Rattle.tree_rule.specs.declared.Token.{Token}
@@ -25,6 +24,7 @@ use Rattle.apply_members.specs.Inner.Notes.{line_by}
 use Rattle.apply_plans.specs.declared.plan.Plan.{Plan}
 use Rattle.apply_plans.specs.declared.plan.Plan.TheVariants as plan
 use Rattle.apply_plans.specs.Inner.Plan.{text_plan, member_plan, noted_plan, line_plan, plan_by, plan_at, plan_change, added, display_by, row_by, PlanLow, TextsLow}
+use Rattle.name_lines.specs.declared.lines.DisplayLine.{DisplayLine}
 
 -- what a token shows
 abbrev display : Token → ℕ
@@ -100,9 +100,9 @@ module _ (classes rows : List (List ℕ)) (pool : List ℕ) (c : TreeCounts) (f 
         go true = low.displays row k.inside
         go false = omega arith
 
-    line_low : (l : LineName) → PlanLow (line_plan l)
-    line_low (line.Line n) = omega arith
-    line_low line.Unknown = omega arith
+    line_low : (l : Option DisplayLine) → PlanLow (line_plan l)
+    line_low (Some n) = omega arith
+    line_low None = omega arith
 
     by_low : (t : Token) → NamesBelow c.names t → PlanLow (plan_by classes rows pool c f out home context number t)
     by_low (Other a b) h = omega arith
@@ -134,9 +134,9 @@ module _ (classes rows : List (List ℕ)) (pool : List ℕ) (c : TreeCounts) (f 
   member_fits zero = omega arith
   member_fits (suc row) = omega arith
 
-  line_fits : (l : LineName) → ShownFits (line_plan l)
-  line_fits (line.Line n) = omega arith
-  line_fits line.Unknown = omega arith
+  line_fits : (l : Option DisplayLine) → ShownFits (line_plan l)
+  line_fits (Some n) = omega arith
+  line_fits None = omega arith
 
   by_fits : (t : Token) → NamesBelow c.names t → ShownFits (plan_by classes rows pool c f out home context number t)
   by_fits (Other a b) h = omega arith

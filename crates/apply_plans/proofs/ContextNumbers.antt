@@ -1,4 +1,5 @@
 -- What the number of a line context stands for. Assumes nothing.
+use Rattle.std.specs.Prelude.{Option, Some, None}
 use mathlib.Core.Path.{◌≡◌, refl, sym, ◌∙◌, ap}
 use mathlib.Core.Bool.{Bool, true, false}
 use mathlib.Core.List.{List, []}
@@ -11,14 +12,11 @@ use Rattle.text_places.specs.Places.{same}
 use Rattle.text_places.proofs.PlaceLaws.{same_equal}
 use Rattle.table_rows.specs.Classes.{Pair, shown}
 use Rattle.table_rows.specs.Rows.{unpack_class}
-use Rattle.tables.specs.declared.search.Found.{Found}
-use Rattle.tables.specs.declared.search.Found.TheVariants.{Row, Unknown}
 use Rattle.tables.specs.Back.{text_in, read_back}
 use Rattle.tables.specs.Search.{last_raw}
 use Rattle.tables.proofs.Searching.{raw_unknown, scanning_from, scanning_ends}
 use Rattle.load_rule.specs.Members.{Entry}
 use Rattle.name_lines.specs.declared.lines.RawLine.{RawLine}
-use Rattle.name_lines.specs.declared.lines.LineName.TheVariants as line
 use Rattle.name_rule.specs.Mappings.{entry_back}
 use Rattle.name_rule.specs.MemberNames.{Key, key, raw_of_row, is_text, matches, owned_by, owner_matches, line_of_method}
 use Rattle.name_rule.specs.MemberRows.{kind_holds, line_matches}
@@ -36,7 +34,7 @@ module _ (classes rows : List (List ℕ)) (pool class : List ℕ) where
   cs = read_back classes pool
 
   -- The own row of a method of the class given.
-  module _ (n d : List ℕ) {row : ℕ} (own : own_row classes rows pool (key class n d) ≡ Row row) {home : ℕ}
+  module _ (n d : List ℕ) {row : ℕ} (own : own_row classes rows pool (key class n d) ≡ Some row) {home : ℕ}
       (h : home ≡ home_row (last_raw classes pool class)) where
     abbrev e : Entry
     e = entry_back pool (get_or rows row [])
@@ -58,12 +56,12 @@ module _ (classes rows : List (List ℕ)) (pool class : List ℕ) where
     descriptor_is : e.descriptor ≡ d
     descriptor_is = same_equal e.descriptor d (both_right (same e.raw_name n) (same e.descriptor d) texts)
 
-    known_class : last_raw classes pool class ≡ Row home
+    known_class : last_raw classes pool class ≡ Some home
     known_class = go (last_raw classes pool class) refl
       where
-        go : (o : Found) → last_raw classes pool class ≡ o → last_raw classes pool class ≡ Row home
-        go (Row i) f = f ∙ ap Row (sym (h ∙ ap home_row f))
-        go Unknown f = clash matched (none_matches cs (key class n d) e (raw_unknown classes pool class f))
+        go : (o : Option ℕ) → last_raw classes pool class ≡ o → last_raw classes pool class ≡ Some home
+        go (Some i) f = f ∙ ap Some (sym (h ∙ ap home_row f))
+        go None f = clash matched (none_matches cs (key class n d) e (raw_unknown classes pool class f))
 
     raw_is : text_in pool (unpack_class (get_or classes home [])).raw ≡ class
     raw_is = raw_has classes pool class known_class
@@ -83,14 +81,14 @@ module _ (classes rows : List (List ℕ)) (pool class : List ℕ) where
     number_meant no_method e = record { meant = λ l. absurd (omega arith) }
     number_meant (in_method n d) {w} e = record { meant = λ l. go (own_row classes rows pool (key class n d)) refl l }
       where
-        go : (o : Found) → own_row classes rows pool (key class n d) ≡ o → 0 < w → Meant classes rows pool home (w - 1)
-        go (Row i) f l =
+        go : (o : Option ℕ) → own_row classes rows pool (key class n d) ≡ o → 0 < w → Meant classes rows pool home (w - 1)
+        go (Some i) f l =
             let z : w - 1 ≡ i = let y : w ≡ suc i = e ∙ ap noted_row f in omega arith in
             rw z (own_meant n d f h)
-        go Unknown f l = absurd (let y : w ≡ 0 = e ∙ ap noted_row f in omega arith)
+        go None f l = absurd (let y : w ≡ 0 = e ∙ ap noted_row f in omega arith)
 
     -- no row is owned: no line is known
-    no_lines : (k : Key) → own_row classes rows pool k ≡ Unknown → (n : RawLine) → line_of_method (mapping_in classes rows pool) k n ≡ line.Unknown
+    no_lines : (k : Key) → own_row classes rows pool k ≡ None → (n : RawLine) → line_of_method (mapping_in classes rows pool) k n ≡ None
     no_lines k f n = line_unknown cs k rows pool n (sym (scanning_ends (scanning_from holds rows 0 (omega arith) none) (omega arith)))
       where
         holds : List ℕ → Bool
@@ -107,12 +105,12 @@ module _ (classes rows : List (List ℕ)) (pool class : List ℕ) where
     number_line no_method e n = ap (λ v. line_by classes rows pool home v n) e
     number_line (in_method a d) {w} e n = go (own_row classes rows pool (key class a d)) refl
       where
-        go : (o : Found) → own_row classes rows pool (key class a d) ≡ o →
+        go : (o : Option ℕ) → own_row classes rows pool (key class a d) ≡ o →
             line_by classes rows pool home w n ≡ context_line (mapping_in classes rows pool) class (in_method a d) n.0
-        go (Row i) f =
+        go (Some i) f =
             ap (λ v. line_by classes rows pool home v n) (e ∙ ap noted_row f)
             ∙ ap (λ k. line_of_method (mapping_in classes rows pool) k n) (key_is a d f h)
-        go Unknown f = ap (λ v. line_by classes rows pool home v n) (e ∙ ap noted_row f) ∙ sym (no_lines (key class a d) f n)
+        go None f = ap (λ v. line_by classes rows pool home v n) (e ∙ ap noted_row f) ∙ sym (no_lines (key class a d) f n)
 
   -- The number that a node's note and its parent's number give.
   pub noted_context : (first : ℕ) (s : Signed) (above : Context) {w : ℕ} → w ≡ context_number classes rows pool class above → {note : NodeNote} →

@@ -1,4 +1,5 @@
 -- Numbers of line contexts. Assumes nothing.
+use Rattle.std.specs.Prelude.{Option, Some, None}
 use mathlib.Core.Path.{◌≡◌, refl, sym, ◌∙◌, ap}
 use mathlib.Core.Bool.{Bool, true, false}
 use mathlib.Core.List.{List}
@@ -9,8 +10,6 @@ use mir.Val.{Fits}
 use mir.Syntax.{w64}
 use borrow.Author.Rules.{rules}
 use Rattle.ground.specs.Choice.{pick}
-use Rattle.tables.specs.declared.search.Found.{Found}
-use Rattle.tables.specs.declared.search.Found.TheVariants.{Row, Unknown}
 use Rattle.tree_rule.specs.Words.{word_at}
 use Rattle.tree_rule.specs.Files.{nodes_start, parent_at}
 use Rattle.apply_members.specs.Inner.Notes.{home_row}
@@ -50,11 +49,11 @@ pub ruleset above_reading = (none_above, above, above_inside, above_fits, rules)
 
 pub ruleset context_choosing = (inherited, own_context, rules)
 
-module _ (given : Found) where
-  pub home_found : {i : ℕ} → given ≡ Row i → i ≡ home_row given
+module _ (given : Option ℕ) where
+  pub home_found : {i : ℕ} → given ≡ Some i → i ≡ home_row given
   home_found e = sym (ap home_row e)
 
-  pub home_unknown : given ≡ Unknown → 0 ≡ home_row given
+  pub home_unknown : given ≡ None → 0 ≡ home_row given
   home_unknown e = sym (ap home_row e)
 
 pub ruleset home_finding = (home_found, home_unknown, rules)

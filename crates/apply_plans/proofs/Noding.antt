@@ -1,4 +1,5 @@
 -- One node: its line context, then its tokens. Assumes nothing.
+use Rattle.std.specs.Prelude.{Result, Ok, Err}
 use mathlib.Core.Path.{◌≡◌, sym, ◌∙◌, ap, subst}
 use mathlib.Core.List.{List, map}
 use Prim.Native.Nat.{ℕ, ◌+◌, ◌*◌, ◌≤◌}
@@ -24,8 +25,6 @@ use Rattle.apply_rule.specs.Applying.{new_names, numbered}
 use Rattle.apply_pieces.specs.Inner.Notes.{NotesTold}
 use Rattle.apply_members.specs.declared.node.NodeNote.{NodeNote}
 use Rattle.apply_members.specs.Inner.Notes.{MeantBy}
-use Rattle.apply_plans.specs.declared.rows.Planned.{Planned}
-use Rattle.apply_plans.specs.declared.rows.Planned.TheVariants.{Done, NoRoom}
 use Rattle.apply_plans.specs.Inner.Entries.{entry_at, planned_text}
 use Rattle.apply_plans.specs.Inner.Noted.{ParentBelow, context_noted}
 use Rattle.apply_plans.specs.Inner.Passed.{NodeReady, node_planned, NodeBy}
@@ -33,6 +32,7 @@ use Rattle.apply_plans.specs.Inner.Plan.{plan_change}
 use Rattle.apply_plans.specs.Inner.Put.{NoRow}
 use Rattle.apply_plans.specs.Inner.Tokens.{TokensReady, planned_from, TokensBy}
 use Rattle.apply_plans.proofs.Changing.{plan_kept}
+use Rattle.table_pool.specs.declared.write.NoRoom.{NoRoom}
 
 -- words before a place, by what is taken
 pub word_front : (a b : List ℕ) (e : ℕ) → take e a ≡ take e b → (p : ℕ) → p + 4 ≤ e → word_at a p ≡ word_at b p
@@ -104,10 +104,10 @@ module _ (classes rows : List (List ℕ)) (pool : List ℕ) (c : TreeCounts) (f 
           (first + j) (omega (arith, k.inside))))
           ∙ ap (λ v. by v out) e
 
-      pub node_done : (r : Planned) (new : List ℕ) →
+      pub node_done : (r : Result ℕ NoRoom) (new : List ℕ) →
           TokensBy r classes rows pool c f home w note.member note.named first count names mid new →
           NodeBy r classes rows pool c f home node first count note names out new
-      node_done (Done more) new t = record {
+      node_done (Ok more) new t = record {
         size = t.size ∙ mid_size;
         counted = t.counted ∙ ap (λ v. names + length (new_names v)) part_is;
         room = omega (arith, t.room, mid_size);
@@ -129,7 +129,7 @@ module _ (classes rows : List (List ℕ)) (pool : List ℕ) (c : TreeCounts) (f 
         where
           front : (p : ℕ) → p + 4 ≤ tokens_start c → word_at new p ≡ word_at mid p
           front p h = word_front new mid (tokens_start c + 12 * first) t.before p (omega arith)
-      node_done NoRoom new t =
+      node_done (Err _) new t =
           let over : NoRow c (names + length (new_names (node_planned classes rows pool c f out home node first count note))) mid =
           subst (λ v. NoRow c (names + length (new_names v)) mid) part_is t in
           record { over = omega (arith, over.over, mid_size) }

@@ -1,4 +1,5 @@
 -- All nodes planned, one after the other. Assumes nothing.
+use Rattle.std.specs.Prelude.{Option, Some, None, Result, Ok, Err, IsErr}
 use mathlib.Core.Path.{◌≡◌, refl, sym, ◌∙◌, ap}
 use mathlib.Core.Bool.{Bool, true, false}
 use mathlib.Core.List.{List, [], ◌∷◌, ◌++◌, map, append_assoc}
@@ -15,11 +16,9 @@ use borrow.Author.Tests.{ne_eqb}
 use Rattle.ground.specs.Choice.{pick}
 use Rattle.ground.specs.Join.{join}
 use Rattle.ground.specs.Put.{between}
-use Rattle.ground.proofs.Cases.{le_or_lt}
+use Rattle.ground.proofs.Cases.{le_or_lt, clash}
 use Rattle.ground.proofs.Joins.{join_append}
 use Rattle.ground.proofs.Parts.{parts_join}
-use Rattle.tables.specs.declared.search.Found.{Found}
-use Rattle.tables.specs.declared.search.Found.TheVariants.{Row, Unknown}
 use Rattle.tables.specs.Back.{read_back}
 use Rattle.tables.specs.Search.{last_raw}
 use Rattle.name_rule.specs.MemberNames.{Key, key}
@@ -27,8 +26,6 @@ use Rattle.name_rule.specs.MemberRows.{field_row, method_row}
 use Rattle.name_rule.proofs.Rows.{field_found, method_found}
 use Rattle.tree_rule.specs.declared.TreeCounts.{TreeCounts}
 use Rattle.tree_rule.specs.declared.Token.{Token}
-use Rattle.tree_rule.specs.declared.NodeSignature.{NodeSignature}
-use Rattle.tree_rule.specs.declared.NodeSignature.TheVariants.{Absent, Present}
 use Rattle.tree_rule.specs.Words.{word_at, list_from, sum_from}
 use Rattle.tree_rule.specs.Trees.{no_parent, parent_row, name_in}
 use Rattle.tree_rule.specs.Files.{
@@ -55,16 +52,17 @@ use Rattle.apply_rule.proofs.NodeChanges.{contextFrom, changesFrom, nodes_step}
 use Rattle.apply_pieces.specs.Inner.Notes.{NotesTold}
 use Rattle.apply_members.specs.declared.node.NodeNote.{NodeNote}
 use Rattle.apply_members.specs.Inner.Notes.{noted_row, member_note, note_signed, context_number, home_row, MeantBy}
-use Rattle.apply_plans.specs.declared.rows.Planned.{Planned}
-use Rattle.apply_plans.specs.declared.rows.Planned.TheVariants.{Done, NoRoom}
 use Rattle.apply_plans.specs.Inner.Entries.{entry_at, planned_text, planned_names, EntryFits}
 use Rattle.apply_plans.specs.Inner.Noted.{word_above, context_noted}
-use Rattle.apply_plans.specs.Inner.Passed.{NodeReady, node_planned, NodeTo, NodeBy, PlansReady, PlansMade, NodesTo}
+use Rattle.apply_plans.specs.Inner.Passed.{NodeReady, node_planned, NodeTo, NodeBy, PlansReady, PlansMade, NodesTo, PlansBy}
 use Rattle.apply_plans.specs.Inner.Plan.{plan_at}
 use Rattle.apply_plans.specs.Inner.Put.{NoRow}
 use Rattle.apply_plans.specs.Inner.Tokens.{planned}
 use Rattle.apply_plans.proofs.ContextNumbers.{number_meant, noted_context}
 use Rattle.apply_plans.proofs.TokenPlans.{token_change}
+use Rattle.table_pool.specs.declared.write.NoRoom.{NoRoom}
+use Rattle.table_pool.specs.Inner.Wrote.{no_room}
+use Rattle.tree_rule.specs.declared.NodeSignature.{NodeSignature}
 
 sum_more : (f : List ℕ) (i : ℕ) → sum_from (token_count_at f) 0 (i + 1) ≡ sum_from (token_count_at f) 0 i + token_count_at f i
 unfolding sum_from
@@ -173,18 +171,18 @@ module _ (classes rows : List (List ℕ)) (pool class : List ℕ) (c : TreeCount
           member_few : (q : Key) → (member_note classes rows pool class q).named ≤ length rows
           member_few q = go (opens q.descriptor) refl
             where
-              few : (o : Found) → ((j : ℕ) → o ≡ Row j → j < length rows) → noted_row o ≤ length rows
-              few (Row j) l = let y = l j refl in omega arith
-              few Unknown l = omega arith
+              few : (o : Option ℕ) → ((j : ℕ) → o ≡ Some j → j < length rows) → noted_row o ≤ length rows
+              few (Some j) l = let y = l j refl in omega arith
+              few None l = omega arith
 
               go : (b : Bool) → opens q.descriptor ≡ b → (member_note classes rows pool class q).named ≤ length rows
               go true y = rw y (few (method_row (read_back classes pool) q rows pool) (λ j l. (method_found (read_back classes pool) q rows pool l).0))
               go false y = rw y (few (field_row (read_back classes pool) q rows pool) (λ j l. (field_found (read_back classes pool) q rows pool l).0))
 
-          named_few : (y : NodeSignature) → (note_signed classes rows pool class first (signed_by class name ts y)).named ≤ length rows
-          named_few Absent = omega arith
-          named_few (Present m d o) =
-              member_few (key (owner_name class name ts o) (raw_name_at name ts m) (raw_name_at name ts d))
+          named_few : (y : Option NodeSignature) → (note_signed classes rows pool class first (signed_by class name ts y)).named ≤ length rows
+          named_few None = omega arith
+          named_few (Some r) =
+              member_few (key (owner_name class name ts r.owner) (raw_name_at name ts r.member) (raw_name_at name ts r.descriptor))
 
           pub node_ready : NodeReady classes rows pool c f i first n note names new
           node_ready = record {
@@ -219,7 +217,7 @@ module _ (classes rows : List (List ℕ)) (pool class : List ℕ) (c : TreeCount
               noted_context classes rows pool class first s (context_above p.contexts (parent_by (parent_at f i))) above_is g
               ∙ ap (λ v. context_number classes rows pool class (context_by class (signed_of class name (list_from (token_at c f) first v)) (context_above p.contexts (parent_by (parent_at f i))))) e
 
-          module _ {given : Found} (v : given ≡ last_raw classes pool class) {home : ℕ} (u : home ≡ home_row given) where
+          module _ {given : Option ℕ} (v : given ≡ last_raw classes pool class) {home : ℕ} (u : home ≡ home_row given) where
             w : home ≡ home_row (last_raw classes pool class)
             w = u ∙ ap home_row v
 
@@ -278,9 +276,9 @@ module _ (classes rows : List (List ℕ)) (pool class : List ℕ) (c : TreeCount
             names_length : length (new_names (p.changed ++ part)) ≡ names + length (new_names part)
             names_length = ap length names_more ∙ length-append (new_names p.changed) (new_names part) ∙ ap (λ v. v + length (new_names part)) (sym p.counted)
 
-            module _ (r : Planned) (next : List ℕ) (d : NodeBy r classes rows pool c f home i first n note names new next) where
+            module _ (r : Result ℕ NoRoom) (next : List ℕ) (d : NodeBy r classes rows pool c f home i first n note names new next) where
               -- no room for a plan of this node: all nodes do not add less
-              pub plans_over : r ≡ NoRoom → NoRow c (length (new_names all)) old
+              pub plans_over : r ≡ Err no_room → NoRow c (length (new_names all)) old
               plans_over y =
                   let none : NoRow c (names + length (new_names (node_planned classes rows pool c f new home i first n note))) new = rw y at d in
                   let same = ap (λ l. length (new_names l)) part_is in
@@ -288,7 +286,7 @@ module _ (classes rows : List (List ℕ)) (pool class : List ℕ) (c : TreeCount
                   ∙ length-append (new_names (p.changed ++ part)) (new_names later) in
                   record { over = omega (arith, none.over, same, whole, names_length, p.size) }
 
-              module _ {more : ℕ} (y : r ≡ Done more) where
+              module _ {more : ℕ} (y : r ≡ Ok more) where
                 done : NodeTo more classes rows pool c f home i first n note names new next
                 done = rw y at d
 
@@ -375,5 +373,11 @@ module _ (classes rows : List (List ℕ)) (pool class : List ℕ) (c : TreeCount
                   fits = record { fits = fits_more };
                   behind = rest_kept;
                 }
+
+-- An answer that `?` hands on: there is no room.
+pub refused_by : (classes rows : List (List ℕ)) (pool class : List ℕ) (c : TreeCounts) (f old new : List ℕ) (r : Result ℕ NoRoom) → IsErr r →
+    NoRow c (length (new_names (changes_in classes rows pool class c f))) old → PlansBy r classes rows pool class c f old new
+refused_by classes rows pool class c f old new (Ok n) e k = clash e refl
+refused_by classes rows pool class c f old new (Err _) e k = k
 
 pub ruleset passing = (plans_start, plans_end, now_told, node_row, node_inside, first_fits, node_ready, node_meant, plans_over, plans_more, rules)

@@ -1,4 +1,5 @@
 -- What becomes of a token. Assumes nothing.
+use Rattle.std.specs.Prelude.{Option, Some, None}
 use mathlib.Core.Path.{◌≡◌, refl, sym, ◌∙◌, ap}
 use mathlib.Core.List.{List, []}
 use Prim.Native.Nat.{ℕ, zero, suc, ◌+◌, ◌*◌, ◌-◌, ◌≤◌, ◌<◌}
@@ -11,8 +12,6 @@ use Rattle.table_rows.specs.declared.rows.Member.{Member}
 use Rattle.table_rows.specs.declared.rows.Class.{Class}
 use Rattle.table_rows.specs.Rows.{unpack_class, unpack_member}
 use Rattle.name_lines.specs.declared.lines.DisplayLine.{DisplayLine}
-use Rattle.name_lines.specs.declared.lines.LineName.{LineName}
-use Rattle.name_lines.specs.declared.lines.LineName.TheVariants as line
 use Rattle.name_lines.specs.LineNames.{raw_line}
 use Rattle.tree_rule.specs.declared.TreeCounts.{TreeCounts}
 use Rattle.tree_rule.specs.declared.Token.{Token}
@@ -99,10 +98,10 @@ file_there k = omega (arith, k.size)
 pub ruleset name_plans = (note_inside, no_note, note_row, whole_note, part_note, file_there, rules)
 
 -- A line.
-pub line_some : (l : LineName) {d : DisplayLine} → l ≡ line.Line d → plan.Line d.0 ≡ line_plan l
+pub line_some : (l : Option DisplayLine) {d : DisplayLine} → l ≡ Some d → plan.Line d.0 ≡ line_plan l
 line_some l e = rw e
 
-pub line_none : (l : LineName) → l ≡ line.Unknown → plan.Stays ≡ line_plan l
+pub line_none : (l : Option DisplayLine) → l ≡ None → plan.Stays ≡ line_plan l
 line_none l e = rw e
 
 pub ruleset line_plans = (line_some, line_none, rules)
@@ -130,7 +129,7 @@ module _ (c : TreeCounts) (f : List ℕ) (i : ℕ) {s : ℕ} (e : s ≡ tokens_s
     pub plan_member : kind ≡ 1 → {p : Plan} → p ≡ member_plan rows number → p ≡ plan_at classes rows pool c f out home context number i
     plan_member k j = j ∙ there {t = MemberName raw b} (rw k)
 
-    pub plan_line : kind ≡ 3 → {l : LineName} → l ≡ line_by classes rows pool home context (raw_line raw) → {p : Plan} → p ≡ line_plan l →
+    pub plan_line : kind ≡ 3 → {l : Option DisplayLine} → l ≡ line_by classes rows pool home context (raw_line raw) → {p : Plan} → p ≡ line_plan l →
         p ≡ plan_at classes rows pool c f out home context number i
     plan_line k j m = m ∙ ap line_plan j ∙ there {t = SourceLine raw b} (rw k)
 

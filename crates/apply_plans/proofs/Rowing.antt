@@ -1,4 +1,5 @@
 -- The row of a token, and the plan of a name. Assumes nothing.
+use Rattle.std.specs.Prelude.{Result, Ok, Err}
 use mathlib.Core.Path.{◌≡◌, refl, sym, ◌∙◌, ap}
 use mathlib.Core.List.{List, ◌++◌, append_assoc}
 use Prim.Native.Nat.{ℕ, ◌+◌, ◌*◌, ◌≤◌, ◌<◌}
@@ -16,11 +17,10 @@ use Rattle.tree_rule.proofs.WordLaws.{bytes_length}
 use Rattle.tree_rule.proofs.ReadWritten.{two_length, three_length}
 use Rattle.apply_plans.specs.declared.plan.Plan.{Plan}
 use Rattle.apply_plans.specs.declared.plan.Plan.TheVariants as plan
-use Rattle.apply_plans.specs.declared.rows.Planned.{Planned}
-use Rattle.apply_plans.specs.declared.rows.Planned.TheVariants.{Done, NoRoom}
 use Rattle.apply_plans.specs.Inner.Entries.{entry_at}
 use Rattle.apply_plans.specs.Inner.Plan.{added, display_by, row_by, entry_by}
 use Rattle.apply_plans.specs.Inner.Put.{NameReady, NamePut, NoRow, NamePutBy, PutReady, PlanPut, PutBy}
+use Rattle.table_pool.specs.declared.write.NoRoom.{NoRoom}
 
 -- one number more behind what was put
 pub word_more : (d : List ℕ) (at : ℕ) (a : List ℕ) (x n : ℕ) → length a ≡ n → at + n ≤ length d →
@@ -157,8 +157,8 @@ module _ (c : TreeCounts) (f : List ℕ) (token : ℕ) (p : Plan) (names : ℕ) 
   -- a token that adds one
   module _ (x y : ℕ) (a : added p ≡ 1) (b : entry_by p ≡ word_bytes x ++ word_bytes y)
       (d : display_by p (c.names + names) (word_at f (tokens_start c + 12 * token + 8)) ≡ c.names + names) where
-    adds : (r : Planned) (new : List ℕ) → NamePutBy r c f (s + 12 * token) x y names out new → PutBy r c f token p names out new
-    adds (Done more) new w = record {
+    adds : (r : Result ℕ NoRoom) (new : List ℕ) → NamePutBy r c f (s + 12 * token) x y names out new → PutBy r c f token p names out new
+    adds (Ok more) new w = record {
       count = w.count ∙ ap (λ n. names + n) (sym a);
       room = rw a w.room;
       is = w.is
@@ -167,13 +167,13 @@ module _ (c : TreeCounts) (f : List ℕ) (token : ℕ) (p : Plan) (names : ℕ) 
           (word_bytes x ++ word_bytes y)) (sym d)
           ∙ ap (put (put out (tokens_start c + 12 * token) (row_by p (c.names + names) f (tokens_start c + 12 * token))) (entry_at c names)) (sym b);
     }
-    adds NoRoom new w = rw a w
+    adds (Err _) new w = rw a w
 
-  pub put_text : {place size : ℕ} → p ≡ plan.Text place size → (r : Planned) (new : List ℕ) →
+  pub put_text : {place size : ℕ} → p ≡ plan.Text place size → (r : Result ℕ NoRoom) (new : List ℕ) →
       NamePutBy r c f (s + 12 * token) (place + 1) size names out new → PutBy r c f token p names out new
   put_text {place} {size} g = adds (place + 1) size (rw g) (rw g) (rw g)
 
-  pub put_shown : {name : ℕ} → p ≡ plan.Shown name → (r : Planned) (new : List ℕ) →
+  pub put_shown : {name : ℕ} → p ≡ plan.Shown name → (r : Result ℕ NoRoom) (new : List ℕ) →
       NamePutBy r c f (s + 12 * token) 0 name names out new → PutBy r c f token p names out new
   put_shown {name} g = adds 0 name (rw g) (rw g) (rw g)
 

@@ -1,4 +1,5 @@
 -- The tokens of a node, one after the other. Assumes nothing.
+use Rattle.std.specs.Prelude.{Result, Ok, Err}
 use mathlib.Core.Path.{◌≡◌, refl, sym, ◌∙◌, ap, subst}
 use mathlib.Core.Bool.{Bool, true, false}
 use mathlib.Core.List.{List, [], ◌∷◌, ◌++◌, map, append-nil, append_assoc}
@@ -33,13 +34,13 @@ use Rattle.apply_rule.proofs.Numbering.{new_append, numbered_append}
 use Rattle.apply_pieces.specs.Inner.Notes.{NotesTold}
 use Rattle.apply_plans.specs.declared.plan.Plan.{Plan}
 use Rattle.apply_plans.specs.declared.plan.Plan.TheVariants as plan
-use Rattle.apply_plans.specs.declared.rows.Planned.{Planned}
-use Rattle.apply_plans.specs.declared.rows.Planned.TheVariants.{Done, NoRoom}
 use Rattle.apply_plans.specs.Inner.Entries.{entry_text, entry_at, planned_text, EntryFits}
 use Rattle.apply_plans.specs.Inner.Plan.{plan_at, plan_change, added, row_by, entry_by, PlanLow}
 use Rattle.apply_plans.specs.Inner.Put.{NoRow, PutReady, PlanPut, PutBy}
 use Rattle.apply_plans.specs.Inner.Tokens.{TurnReady, TokensReady, node_plan, planned, planned_from, TokensTo}
 use Rattle.apply_plans.proofs.Changing.{plan_row, plan_count, plan_low, shown_fits, plan_kept}
+use Rattle.table_pool.specs.declared.write.NoRoom.{NoRoom}
+use Rattle.table_pool.specs.Inner.Wrote.{no_room}
 
 -- One token.
 module _ (classes rows : List (List ℕ)) (pool : List ℕ) (c : TreeCounts) (f : List ℕ) (home context number token names : ℕ) (out : List ℕ)
@@ -57,7 +58,7 @@ module _ (classes rows : List (List ℕ)) (pool : List ℕ) (c : TreeCounts) (f 
       low = rw e (plan_low classes rows pool c f out home context number k.low k.told k.few names_small k.formed token k.inside);
     }
 
-    pub turn_done : (r : Planned) (new : List ℕ) → PutBy r c f token p names out new →
+    pub turn_done : (r : Result ℕ NoRoom) (new : List ℕ) → PutBy r c f token p names out new →
         PutBy r c f token (plan_at classes rows pool c f out home context number token) names out new
     turn_done r new = subst (λ x. PutBy r c f token x names out new) e
 
@@ -252,14 +253,14 @@ module _ {classes rows : List (List ℕ)} {pool : List ℕ} {c : TreeCounts} {f 
         (append-nil (token_row_bytes t) ∙ plan_row classes pool c f k.ready.formed p next (first + n) there
         ∙ ap (λ m. row_by p m f (tokens_start c + 12 * (first + n))) y)
 
-    module _ {w : ℕ} (e : w ≡ own) (r : Planned) (out : List ℕ)
+    module _ {w : ℕ} (e : w ≡ own) (r : Result ℕ NoRoom) (out : List ℕ)
         (g : PutBy r c f (first + n) (plan_at classes rows pool c f new home context w (first + n)) more new out) where
       put_by : PutBy r c f (first + n) p more new out
       put_by = subst (λ x. PutBy r c f (first + n) x more new out) same_plan
           (subst (λ x. PutBy r c f (first + n) (plan_at classes rows pool c f new home context x (first + n)) more new out) e g)
 
       -- there is no room for the plan of a name: what all tokens add is not less
-      pub step_over : r ≡ NoRoom → NoRow c (names + length (new_names (part count))) old
+      pub step_over : r ≡ Err no_room → NoRow c (names + length (new_names (part count))) old
       step_over i =
           let none : NoRow c (more + added p) new = rw i at put_by in
           let z : n + 1 + (count - (n + 1)) ≡ count = omega arith in
@@ -269,7 +270,7 @@ module _ {classes rows : List (List ℕ)} {pool : List ℕ} {c : TreeCounts} {f 
           let all = ap (λ l. length (new_names l)) split ∙ ap length (new_append (part (n + 1)) rest) ∙ length-append (new_names (part (n + 1))) (new_names rest) in
           record { over = omega (arith, none.over, k.to.size, k.to.counted, names_length, all) }
 
-      module _ {next : ℕ} (i : r ≡ Done next) where
+      module _ {next : ℕ} (i : r ≡ Ok next) where
         done : PlanPut next c f (first + n) p more new out
         done = rw i at put_by
 

@@ -1,4 +1,5 @@
 -- The plan of a token stands for its change. Assumes nothing.
+use Rattle.std.specs.Prelude.{Option, Some, None}
 use mathlib.Core.Path.{◌≡◌, refl, sym, ◌∙◌, ap}
 use mathlib.Core.Bool.{Bool, true, false}
 use mathlib.Core.List.{List, [], ◌++◌, append-nil}
@@ -13,13 +14,9 @@ use Rattle.ground.specs.Put.{between}
 use Rattle.ground.proofs.Cases.{clash, none_either}
 use Rattle.table_rows.specs.Classes.{shown}
 use Rattle.table_rows.specs.Rows.{unpack_member}
-use Rattle.tables.specs.declared.search.Found.{Found}
-use Rattle.tables.specs.declared.search.Found.TheVariants.{Row, Unknown}
 use Rattle.tables.specs.Back.{text_in, read_back}
 use Rattle.tables.specs.Search.{last_raw}
 use Rattle.descriptor.proofs.Turning.{turn_end}
-use Rattle.name_lines.specs.declared.lines.LineName.{LineName}
-use Rattle.name_lines.specs.declared.lines.LineName.TheVariants as line
 use Rattle.name_lines.specs.LineNames.{raw_line}
 use Rattle.name_rule.specs.MemberNames.{Key, field_name, method_name}
 use Rattle.name_rule.specs.MemberRows.{field_row, method_row}
@@ -55,13 +52,14 @@ use Rattle.apply_members.specs.declared.node.NodeNote.{NodeNote}
 use Rattle.apply_members.specs.Inner.Notes.{noted_row, member_note, note_signed, context_number, home_row}
 use Rattle.apply_plans.specs.Inner.Plan.{member_plan, noted_plan, line_plan, plan_by, plan_change}
 use Rattle.apply_plans.proofs.ContextNumbers.{number_line}
+use Rattle.name_lines.specs.declared.lines.DisplayLine.{DisplayLine}
 
 module _ (classes rows : List (List ℕ)) (pool class : List ℕ) (c : TreeCounts) (f out : List ℕ) where
   -- A member name shows the name of the row that answers for it.
-  found_change : (o : Found) (l : Look) → ((i : ℕ) → o ≡ Row i → (i < length rows) × (l ≡ known (text_in pool (unpack_member (get_or rows i [])).name))) →
-      (o ≡ Unknown → l ≡ unknown) → plan_change classes pool c f (member_plan rows (noted_row o)) ≡ name_change l
-  found_change (Row i) l h g = ap name_change (sym (h i refl).1)
-  found_change Unknown l h g = ap name_change (sym (g refl))
+  found_change : (o : Option ℕ) (l : Look) → ((i : ℕ) → o ≡ Some i → (i < length rows) × (l ≡ known (text_in pool (unpack_member (get_or rows i [])).name))) →
+      (o ≡ None → l ≡ unknown) → plan_change classes pool c f (member_plan rows (noted_row o)) ≡ name_change l
+  found_change (Some i) l h g = ap name_change (sym (h i refl).1)
+  found_change None l h g = ap name_change (sym (g refl))
 
   named_change : (k : Key) →
       plan_change classes pool c f (member_plan rows (member_note classes rows pool class k).named) ≡ name_change (member_name (mapping_in classes rows pool) k)
@@ -121,9 +119,9 @@ module _ (classes rows : List (List ℕ)) (pool class : List ℕ) (c : TreeCount
       go false e = rw e
 
   -- A source line shows its line.
-  line_change_lem : (l : LineName) → plan_change classes pool c f (line_plan l) ≡ line_change l
-  line_change_lem (line.Line n) = refl
-  line_change_lem line.Unknown = refl
+  line_change_lem : (l : Option DisplayLine) → plan_change classes pool c f (line_plan l) ≡ line_change l
+  line_change_lem (Some n) = refl
+  line_change_lem None = refl
 
   module _ (told : NotesTold classes pool c f out) {home : ℕ} (h : home ≡ home_row (last_raw classes pool class)) (first : ℕ) (s : Signed) (x : Context)
       {note : NodeNote} (e : note ≡ note_signed classes rows pool class first s) {w : ℕ} (g : w ≡ context_number classes rows pool class x) where

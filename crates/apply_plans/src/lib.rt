@@ -11,4 +11,3 @@ mod rows;
 mod tokens;
 
 pub use nodes::plan_nodes;
-pub use rows::Planned;

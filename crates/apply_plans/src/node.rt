@@ -6,9 +6,9 @@ ghost use Rattle.apply_plans.specs.Inner.Noted.{context_noted};
 ghost use Rattle.apply_plans.specs.Inner.Passed.{NodeReady, NodeBy};
 
 use crate::context::node_context;
-use crate::rows::Planned;
 use crate::tokens::plan_tokens;
 use apply_members::NodeNote;
+use table_pool::NoRoom;
 use table_rows::{ClassRow, MemberRow};
 use tree_rule::TreeCounts;
 use tree_words::put_word;
@@ -28,7 +28,7 @@ pub fn plan_node(
     members: &[MemberRow],
     pool: &[u8],
     names: usize,
-) -> Planned
+) -> Result<usize, NoRoom>
     requires { NodeReady classes.now members.now pool.now counts tree.now node first count note names out.old
         × MeantBy classes.now members.now pool.now home (context_noted tree.now out.old node note)
         × Chained classes.now pool.now members.now chains.now (length members.now) }

@@ -7,21 +7,20 @@ ghost use Rattle.apply_members.specs.Inner.Notes.{home_row};
 ghost use Rattle.apply_plans.specs.Inner.Passed.{PlansReady, PlansBy};
 
 use crate::node::plan_node;
-use crate::rows::Planned;
 use apply_members::node_note;
 use table_index::last_raw;
+use table_pool::NoRoom;
 use table_rows::{ClassRow, MemberRow};
-use tables::Found;
 use tree_rule::TreeCounts;
 use tree_words::token_count_at;
 
 // The class row of the class given, if it has one.
-fn home_row(given: Found) -> usize
+fn home_row(given: Option<usize>) -> usize
     ensures { result ≡ home_row given }
 {
     match given {
-        Found::Row(row) => row,
-        Found::Unknown => 0,
+        Some(row) => row,
+        None => 0,
     }
 }
 
@@ -36,7 +35,7 @@ pub fn plan_nodes(
     classes: &[ClassRow],
     members: &[MemberRow],
     pool: &[u8],
-) -> Planned
+) -> Result<usize, NoRoom>
     requires { PlansReady classes.now members.now pool.now counts tree.now out.old
         × IndexBy Raw classes.now pool.now index.now
         × Chained classes.now pool.now members.now chains.now (length members.now) }
@@ -48,21 +47,17 @@ pub fn plan_nodes(
     let nodes = counts.nodes as usize;
     let mut names = 0;
     let mut first = 0;
-    let mut node = 0;
-    while node < nodes {
+    for node in 0..nodes {
         let count = token_count_at(tree, node) as usize;
         let note = node_note(
             out, index, chains, classes, members, pool, class, given, tree, counts, first, count,
         );
-        let Planned::Done(more) = plan_node(
+        let more = plan_node(
             out, tree, counts, node, first, count, note, home, chains, classes, members, pool,
             names,
-        ) else {
-            return Planned::NoRoom;
-        };
+        )?;
         names = more;
         first += count;
-        node += 1;
     }
-    Planned::Done(names)
+    Ok(names)
 }

@@ -8,7 +8,7 @@ ghost use Rattle.apply_plans.specs.Inner.Plan.{member_plan, name_plan, line_plan
 
 use apply_members::context_line;
 use apply_pieces::raw_length;
-use name_lines::LineName;
+use name_lines::DisplayLine;
 use table_rows::{ClassRow, MemberRow, unpack_class, unpack_member};
 use tree_rule::TreeCounts;
 use tree_words::{name_text, names_start, tokens_start, word_at};
@@ -70,12 +70,12 @@ fn name_plan(
     Plan::Shown(raw)
 }
 
-fn line_plan(line: LineName) -> Plan
+fn line_plan(line: Option<DisplayLine>) -> Plan
     ensures { result ≡ line_plan line }
 {
     match line {
-        LineName::Line(shown) => Plan::Line(shown.0),
-        LineName::Unknown => Plan::Stays,
+        Some(shown) => Plan::Line(shown.0),
+        None => Plan::Stays,
     }
 }
 

@@ -6,15 +6,9 @@ ghost use Rattle.tree_rule.specs.Files.{three_words};
 ghost use Rattle.apply_plans.specs.Inner.Put.{NameReady, NamePutBy, PutReady, PutBy};
 
 use crate::plan::Plan;
+use table_pool::NoRoom;
 use tree_rule::TreeCounts;
 use tree_words::{bytes_start, put_word, tokens_start, word_at};
-
-// How many names are planned, or that there is no room for their rows.
-#[derive(Clone, Copy)]
-pub enum Planned {
-    Done(usize),
-    NoRoom,
-}
 
 // The row of the token at a place, with what it shows.
 fn put_row(out: &mut [u8], tree: &[u8], at: usize, shown: u32)
@@ -36,18 +30,18 @@ fn plan_name(
     a: u32,
     b: u32,
     names: usize,
-) -> Planned
+) -> Result<usize, NoRoom>
     requires { NameReady counts tree.now at names out.old }
     ensures { NamePutBy result counts tree.now at a b names out.old out.new }
 {
     let place = bytes_start(counts) + 8 * names;
     if out.len() < place + 8 {
-        return Planned::NoRoom;
+        return Err(NoRoom);
     }
     put_row(out, tree, at, counts.names + names as u32);
     put_word(out, place, a);
     put_word(out, place + 4, b);
-    Planned::Done(names + 1)
+    Ok(names + 1)
 }
 
 // The row of a token by its plan, where `names` are planned before.
@@ -58,7 +52,7 @@ pub fn put_planned(
     token: usize,
     plan: Plan,
     names: usize,
-) -> Planned
+) -> Result<usize, NoRoom>
     requires { PutReady counts tree.now token plan names out.old }
     ensures { PutBy result counts tree.now token plan names out.old out.new }
 {
@@ -67,11 +61,11 @@ pub fn put_planned(
         Plan::Stays => {
             let shown = word_at(tree, at + 8);
             put_row(out, tree, at, shown);
-            Planned::Done(names)
+            Ok(names)
         }
         Plan::Line(line) => {
             put_row(out, tree, at, line);
-            Planned::Done(names)
+            Ok(names)
         }
         Plan::Text { place, length } => plan_name(out, tree, counts, at, place + 1, length, names),
         Plan::Shown(name) => plan_name(out, tree, counts, at, 0, name, names),

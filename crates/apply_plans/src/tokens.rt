@@ -7,7 +7,8 @@ ghost use Rattle.apply_plans.specs.Inner.Put.{PutBy};
 ghost use Rattle.apply_plans.specs.Inner.Tokens.{TurnReady, TokensReady, TokensBy};
 
 use crate::plan::token_plan;
-use crate::rows::{Planned, put_planned};
+use crate::rows::put_planned;
+use table_pool::NoRoom;
 use table_rows::{ClassRow, MemberRow};
 use tree_rule::TreeCounts;
 
@@ -25,7 +26,7 @@ fn plan_token(
     members: &[MemberRow],
     pool: &[u8],
     names: usize,
-) -> Planned
+) -> Result<usize, NoRoom>
     requires { TurnReady classes.now members.now pool.now counts tree.now home context named token names out.old
         × Chained classes.now pool.now members.now chains.now (length members.now) }
     ensures { let f = tree.now in
@@ -65,24 +66,20 @@ pub fn plan_tokens(
     members: &[MemberRow],
     pool: &[u8],
     names: usize,
-) -> Planned
+) -> Result<usize, NoRoom>
     requires { TokensReady classes.now members.now pool.now counts tree.now home context named first count names out.old
         × Chained classes.now pool.now members.now chains.now (length members.now) }
     ensures { TokensBy result classes.now members.now pool.now counts tree.now home context member named
         first count names out.old out.new }
 {
     let mut planned = names;
-    let mut token = 0;
-    while token < count {
+    for token in 0..count {
         let at = first + token;
         let own = own_number(at, member, named);
-        let Planned::Done(more) = plan_token(
+        let more = plan_token(
             out, tree, counts, at, own, context, home, chains, classes, members, pool, planned,
-        ) else {
-            return Planned::NoRoom;
-        };
+        )?;
         planned = more;
-        token += 1;
     }
-    Planned::Done(planned)
+    Ok(planned)
 }

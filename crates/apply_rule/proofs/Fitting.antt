@@ -1,4 +1,5 @@
 -- What a mapping shows is UTF-8 and fits 32 bits; so are the changes that it makes. Assumes nothing.
+use Rattle.std.specs.Prelude.{Option, Some, None}
 use mathlib.Core.Path.{◌≡◌}
 use mathlib.Core.Bool.{Bool, true, false}
 use mathlib.Core.List.{List, [], ◌∷◌, ◌++◌}
@@ -8,7 +9,7 @@ use lib.Dec.{eqb}
 use Rattle.ground.specs.Choice.{pick, within}
 use Rattle.ground.specs.Look.{Look, known, unknown, or_look, look_or}
 use Rattle.table_rows.specs.declared.rows.Ranges.{Ranges}
-use Rattle.table_rows.specs.declared.rows.Ranges.TheVariants.{None, Display, Both}
+use Rattle.table_rows.specs.declared.rows.Ranges.TheVariants as ranges
 use Rattle.text_places.specs.Places.{same}
 use Rattle.text_utf8.specs.Grammar.{Utf8Octets}
 use Rattle.text_utf8.specs.Utf8.{is_utf8}
@@ -18,8 +19,6 @@ use Rattle.descriptor.specs.Pieces.{parts_from, turn}
 use Rattle.descriptor.proofs.Octets.{turn_octets}
 use Rattle.load_rule.specs.Members.{MemberKind, field, method, Entry}
 use Rattle.name_lines.specs.declared.lines.RawLine.{RawLine}
-use Rattle.name_lines.specs.declared.lines.LineName.{LineName}
-use Rattle.name_lines.specs.declared.lines.LineName.TheVariants.{Line, Unknown}
 use Rattle.name_lines.specs.LineNames.{raw_line, line_name}
 use Rattle.name_rule.specs.Mappings.{Mapping}
 use Rattle.name_rule.specs.MemberNames.{
@@ -67,6 +66,7 @@ use Rattle.apply_rule.specs.Changes.{
 }
 use Rattle.apply_rule.specs.Applying.{name_of, new_names, all_changed}
 use Rattle.apply_rule.specs.Theorems.{RangesFit, KindFits, ShowsWell}
+use Rattle.name_lines.specs.declared.lines.DisplayLine.{DisplayLine}
 
 -- Texts, by the check and by the grammar.
 pub every_append : {A : Type 0} {P : A → Type 0} (a b : List A) → Every P a → Every P b → Every P (a ++ b)
@@ -78,9 +78,9 @@ abbrev LookFine : Look → Type 0
 LookFine (known s) = is_utf8 s ≡ true
 LookFine unknown = 0 ≤ 0
 
-abbrev LineFits : LineName → Type 0
-LineFits (Line n) = Word n.0
-LineFits Unknown = 0 ≤ 0
+abbrev LineFits : Option DisplayLine → Type 0
+LineFits (Some n) = Word n.0
+LineFits None = 0 ≤ 0
 
 -- A change that can be written: a name is UTF-8, a line fits.
 abbrev pub ChangeFits : Change → Type 0
@@ -92,15 +92,15 @@ or_fine : (a b : Look) → LookFine a → LookFine b → LookFine (or_look a b)
 or_fine (known s) b p q = p
 or_fine unknown b p q = q
 
-or_fits : (a b : LineName) → LineFits a → LineFits b → LineFits (or_line a b)
-or_fits (Line n) b p q = p
-or_fits Unknown b p q = q
+or_fits : (a b : Option DisplayLine) → LineFits a → LineFits b → LineFits (or_line a b)
+or_fits (Some n) b p q = p
+or_fits None b p q = q
 
 pick_fine : (b : Bool) (x y : Look) → LookFine x → LookFine y → LookFine (pick b x y)
 pick_fine true x y p q = p
 pick_fine false x y p q = q
 
-pick_fits : (b : Bool) (x y : LineName) → LineFits x → LineFits y → LineFits (pick b x y)
+pick_fits : (b : Bool) (x y : Option DisplayLine) → LineFits x → LineFits y → LineFits (pick b x y)
 pick_fits true x y p q = p
 pick_fits false x y p q = q
 
@@ -132,11 +132,11 @@ named_fine p (x ∷ es) (every_one u e) =
 
 -- Lines. The line shown is at most the end of the display range, or is its start.
 shown_fits : (g : Ranges) (n : RawLine) → RangesFit g → LineFits (line_name g n)
-shown_fits None n f = omega arith
-shown_fits (Display a e) n f = omega arith
-shown_fits (Both p q a e) n f =
+shown_fits ranges.None n f = omega arith
+shown_fits (ranges.Display a e) n f = omega arith
+shown_fits (ranges.Both p q a e) n f =
     let small : Word (a + min (n.0 - p) (e - a)) = omega (arith, f.0, f.1) in
-    pick_fits (within p q n.0) _ Unknown small (omega arith)
+    pick_fits (within p q n.0) _ None small (omega arith)
 
 kind_line_fits : (k : MemberKind) (n : RawLine) → KindFits k → LineFits (line_of_kind k n)
 kind_line_fits field n f = omega arith
@@ -147,16 +147,16 @@ translated_fits : (p : Entry → Bool) (n : RawLine) (es : List Entry) → Every
 unfolding last_translated
 translated_fits p n [] e = omega arith
 translated_fits p n (x ∷ es) (every_one f e) =
-    or_fits (last_translated p n es) (pick (p x) (line_of_kind x.kind n) Unknown) (translated_fits p n es e)
-    (pick_fits (p x) (line_of_kind x.kind n) Unknown (kind_line_fits x.kind n f) (omega arith))
+    or_fits (last_translated p n es) (pick (p x) (line_of_kind x.kind n) None) (translated_fits p n es e)
+    (pick_fits (p x) (line_of_kind x.kind n) None (kind_line_fits x.kind n f) (omega arith))
 
 name_change_fits : (l : Look) → LookFine l → ChangeFits (name_change l)
 name_change_fits (known s) f = f
 name_change_fits unknown f = omega arith
 
-line_change_fits : (l : LineName) → LineFits l → ChangeFits (line_change l)
-line_change_fits (Line n) f = f
-line_change_fits Unknown f = omega arith
+line_change_fits : (l : Option DisplayLine) → LineFits l → ChangeFits (line_change l)
+line_change_fits (Some n) f = f
+line_change_fits None f = omega arith
 
 pick_change_fits : (b : Bool) (x y : Change) → ChangeFits x → ChangeFits y → ChangeFits (pick b x y)
 pick_change_fits true x y p q = p

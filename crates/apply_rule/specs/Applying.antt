@@ -1,6 +1,6 @@
 -- Document 01 "Tree file (added)": "Output: same rows; for each replaced name, in token order, one name row and body appended, even if
 -- equal, its number put in b; a replaced line goes into b. An accepted apply returns the output's length."
-use Rattle.std.specs.Prelude.{Bool, List, [], ◌∷◌, ◌++◌, ℕ, ◌+◌, ◌-◌, leb, length, replicate}
+use Rattle.std.specs.Prelude.{Bool, List, [], ◌∷◌, ◌++◌, ℕ, ◌+◌, ◌-◌, leb, length, replicate, Result, Ok, Err}
 use Rattle.ground.specs.Choice.{pick, both}
 use Rattle.ground.specs.Join.{join}
 use Rattle.table_rows.specs.declared.rows.Text.{Text}
@@ -14,9 +14,9 @@ use Rattle.tree_rule.specs.declared.Token.TheVariants.{Other, MemberName, Descri
 use Rattle.tree_rule.specs.Trees.{Node, Tree, name_in}
 use Rattle.tree_rule.specs.Files.{read_tree, written_tree}
 use Rattle.tree_rule.specs.Checks.{well_formed_file}
-use Rattle.apply_rule.specs.declared.Applied.{Applied}
-use Rattle.apply_rule.specs.declared.Applied.TheVariants.{Done, Malformed, TooLong, BadTree, NoRoom}
 use Rattle.apply_rule.specs.Changes.{Change, stays, named, lined, Changed, ChangedNode, changed_nodes}
+use Rattle.apply_rule.specs.declared.ApplyError.{ApplyError}
+use Rattle.apply_rule.specs.declared.ApplyError.TheVariants.{Malformed, TooLong, BadTree, NoRoom}
 
 -- "put in b"
 abbrev pub with_display : ℕ → Token → Token
@@ -91,37 +91,37 @@ abbrev pub output_in : ℕ → List ℕ → List ℕ
 output_in room written = written ++ replicate (room - length written) 0
 
 -- "Apply: 14, 1, 12, 13. Each is given exactly when stated." One of five ways: `done` where nothing is refused
-abbrev pub applied : {A : Type 0} → Tables → Used → List ℕ → List ℕ → ℕ → (Applied → A) → (List ℕ → A) → A
+abbrev pub applied : {A : Type 0} → Tables → Used → List ℕ → List ℕ → ℕ → (Result ℕ ApplyError → A) → (List ℕ → A) → A
 applied t used class file room refused done =
     let written : List ℕ = applied_file (mapping_of t used) class file in
     pick (well_formed t.classes t.members t.pool used)
     (pick (leb (length file) most_tree)
-    (pick (well_formed_file file) (pick (fits_in room (length written)) (done written) (refused NoRoom)) (refused BadTree)) (refused TooLong))
-    (refused Malformed)
+    (pick (well_formed_file file) (pick (fits_in room (length written)) (done written) (refused (Err NoRoom))) (refused (Err BadTree))) (refused (Err TooLong)))
+    (refused (Err Malformed))
 
-abbrev pub apply_answer : Tables → Used → List ℕ → List ℕ → ℕ → Applied
-apply_answer t used class file room = applied t used class file room (λ a. a) (λ written. Done (length written))
+abbrev pub apply_answer : Tables → Used → List ℕ → List ℕ → ℕ → Result ℕ ApplyError
+apply_answer t used class file room = applied t used class file room (λ a. a) (λ written. Ok (length written))
 
 -- "Apply treats its output likewise": refused, it is zero; accepted, what is not used is zero
 abbrev pub apply_output : Tables → Used → List ℕ → List ℕ → ℕ → List ℕ
 apply_output t used class file room = applied t used class file room (λ a. replicate room 0) (output_in room)
 
 -- document 01's number and value of each answer
-abbrev pub applied_number : Applied → ℕ
-applied_number (Done n) = 0
-applied_number Malformed = 14
-applied_number TooLong = 1
-applied_number BadTree = 12
-applied_number NoRoom = 13
+abbrev pub applied_number : Result ℕ ApplyError → ℕ
+applied_number (Ok n) = 0
+applied_number (Err Malformed) = 14
+applied_number (Err TooLong) = 1
+applied_number (Err BadTree) = 12
+applied_number (Err NoRoom) = 13
 
-abbrev pub applied_length : Applied → ℕ
-applied_length (Done n) = n
-applied_length Malformed = 0
-applied_length TooLong = 0
-applied_length BadTree = 0
-applied_length NoRoom = 0
+abbrev pub applied_length : Result ℕ ApplyError → ℕ
+applied_length (Ok n) = n
+applied_length (Err Malformed) = 0
+applied_length (Err TooLong) = 0
+applied_length (Err BadTree) = 0
+applied_length (Err NoRoom) = 0
 
-abbrev pub applied_numbers : Applied → List ℕ
+abbrev pub applied_numbers : Result ℕ ApplyError → List ℕ
 applied_numbers a = applied_number a ∷ applied_length a ∷ []
 
 -- and what is answered in these: "number, the output's length"

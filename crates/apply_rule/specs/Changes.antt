@@ -1,13 +1,11 @@
 -- Document 01 "Tree file (added)": what a mapping makes of each token of a tree. `name` gives the text of a name by its number; a class is
 -- its raw descriptor.
-use Rattle.std.specs.Prelude.{Bool, false, List, [], ◌∷◌, ◌++◌, ℕ, suc, eqb, get_or}
+use Rattle.std.specs.Prelude.{Bool, false, List, [], ◌∷◌, ◌++◌, ℕ, suc, eqb, get_or, Option, Some, None}
 use Rattle.ground.specs.Choice.{pick, both, either}
 use Rattle.ground.specs.Look.{Look, known, unknown, is_known}
 use Rattle.text_places.specs.Places.{same}
 use Rattle.table_rows.specs.Classes.{shown}
 use Rattle.descriptor.specs.Pieces.{Part, byte, piece, parts_from, turn}
-use Rattle.name_lines.specs.declared.lines.LineName.{LineName}
-use Rattle.name_lines.specs.declared.lines.LineName.TheVariants.{Line, Unknown}
 use Rattle.name_lines.specs.LineNames.{raw_line}
 use Rattle.name_rule.specs.Mappings.{Mapping}
 use Rattle.name_rule.specs.MemberNames.{Key, key, field_name, method_name, line_of_method}
@@ -15,10 +13,10 @@ use Rattle.tree_rule.specs.declared.Token.{Token}
 use Rattle.tree_rule.specs.declared.Token.TheVariants.{Other, MemberName, Descriptor, SourceLine}
 use Rattle.tree_rule.specs.declared.Owner.{Owner}
 use Rattle.tree_rule.specs.declared.Owner.TheVariants.{Given, At}
-use Rattle.tree_rule.specs.declared.NodeSignature.{NodeSignature}
-use Rattle.tree_rule.specs.declared.NodeSignature.TheVariants.{Absent, Present}
 use Rattle.tree_rule.specs.Trees.{Parent, no_parent, parent_row, Node}
 use Rattle.tree_rule.specs.Signatures.{opens, node_signature}
+use Rattle.name_lines.specs.declared.lines.DisplayLine.{DisplayLine}
+use Rattle.tree_rule.specs.declared.NodeSignature.{NodeSignature}
 
 -- What becomes of a token's `b`.
 pub data Change : Type 0 where
@@ -32,9 +30,9 @@ abbrev pub name_change : Look → Change
 name_change (known s) = named s
 name_change unknown = stays
 
-abbrev pub line_change : LineName → Change
-line_change (Line n) = lined n.0
-line_change Unknown = stays
+abbrev pub line_change : Option DisplayLine → Change
+line_change (Some n) = lined n.0
+line_change None = stays
 
 -- Descriptors.
 
@@ -70,10 +68,10 @@ pub data Signed : Type 0 where
   unsigned : Signed
   signed : ℕ → Key → Signed
 
-abbrev pub signed_by : List ℕ → (ℕ → List ℕ) → List Token → NodeSignature → Signed
-signed_by class name ts Absent = unsigned
-signed_by class name ts (Present member descriptor owner) =
-    signed member (key (owner_name class name ts owner) (raw_name_at name ts member) (raw_name_at name ts descriptor))
+abbrev pub signed_by : List ℕ → (ℕ → List ℕ) → List Token → Option NodeSignature → Signed
+signed_by class name ts None = unsigned
+signed_by class name ts (Some r) =
+    signed r.member (key (owner_name class name ts r.owner) (raw_name_at name ts r.member) (raw_name_at name ts r.descriptor))
 
 abbrev pub signed_of : List ℕ → (ℕ → List ℕ) → List Token → Signed
 signed_of class name ts = signed_by class name ts (node_signature name ts)
@@ -102,8 +100,8 @@ context_above done (parent_row p) = get_or done p no_method
 abbrev pub context_of : List ℕ → (ℕ → List ℕ) → List Context → Node → Context
 context_of class name done n = context_by class (signed_of class name n.tokens) (context_above done n.parent)
 
-abbrev pub context_line : Mapping → List ℕ → Context → ℕ → LineName
-context_line m class no_method line = Unknown
+abbrev pub context_line : Mapping → List ℕ → Context → ℕ → Option DisplayLine
+context_line m class no_method line = None
 context_line m class (in_method n d) line = line_of_method m (key class n d) (raw_line line)
 
 -- Tokens.

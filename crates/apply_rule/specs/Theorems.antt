@@ -1,5 +1,5 @@
 -- The words of the theorems about applying. No rule cites them.
-use Rattle.std.specs.Prelude.{◌≡◌, true, false, List, [], ◌∷◌, ◌++◌, ◌⊎◌, ℕ, ◌≤◌, ◌<◌, length, get_or}
+use Rattle.std.specs.Prelude.{◌≡◌, true, false, List, [], ◌∷◌, ◌++◌, ◌⊎◌, ℕ, ◌≤◌, ◌<◌, length, get_or, Result, Ok, Err}
 use Rattle.table_rows.specs.declared.rows.Ranges.{Ranges}
 use Rattle.table_rows.specs.declared.rows.Ranges.TheVariants.{None, Display, Both}
 use Rattle.table_rows.specs.Tables.{Tables}
@@ -13,10 +13,10 @@ use Rattle.tree_rule.specs.declared.Token.TheVariants.{Other, MemberName, Descri
 use Rattle.tree_rule.specs.Trees.{Node}
 use Rattle.tree_rule.specs.Checks.{well_formed_file}
 use Rattle.tree_rule.specs.Theorems.{Word, Every}
-use Rattle.apply_rule.specs.declared.Applied.{Applied}
-use Rattle.apply_rule.specs.declared.Applied.TheVariants.{Done, Malformed, TooLong, BadTree, NoRoom}
 use Rattle.apply_rule.specs.Changes.{Change, stays, named, lined, Context, context_of, Changed}
 use Rattle.apply_rule.specs.Applying.{with_display, applied_file, most_tree}
+use Rattle.apply_rule.specs.declared.ApplyError.{ApplyError}
+use Rattle.apply_rule.specs.declared.ApplyError.TheVariants.{Malformed, TooLong, BadTree, NoRoom}
 
 -- What is asked of a mapping: the texts that it shows are UTF-8, and the display lines that it knows are 32-bit numbers.
 abbrev pub RangesFit : Ranges → Type 0
@@ -74,14 +74,14 @@ abbrev pub contexts_of : List ℕ → (ℕ → List ℕ) → List Node → List 
 contexts_of class name ns = contexts_from class name [] ns
 
 -- "Apply: 14, 1, 12, 13. Each is given exactly when stated", and the first that holds in that order: when each answer is given.
-pub data GivenWhen (t : Tables) (used : Used) (class f : List ℕ) (room : ℕ) : Applied → Type 0 where
-  when_malformed : well_formed t.classes t.members t.pool used ≡ false → GivenWhen t used class f room Malformed
-  when_too_long : well_formed t.classes t.members t.pool used ≡ true → most_tree < length f → GivenWhen t used class f room TooLong
+pub data GivenWhen (t : Tables) (used : Used) (class f : List ℕ) (room : ℕ) : Result ℕ ApplyError → Type 0 where
+  when_malformed : well_formed t.classes t.members t.pool used ≡ false → GivenWhen t used class f room (Err Malformed)
+  when_too_long : well_formed t.classes t.members t.pool used ≡ true → most_tree < length f → GivenWhen t used class f room (Err TooLong)
   when_bad_tree : well_formed t.classes t.members t.pool used ≡ true → length f ≤ most_tree → well_formed_file f ≡ false →
-      GivenWhen t used class f room BadTree
+      GivenWhen t used class f room (Err BadTree)
   when_no_room : well_formed t.classes t.members t.pool used ≡ true → length f ≤ most_tree → well_formed_file f ≡ true →
       (room < length (applied_file (mapping_of t used) class f)) ⊎ (most_tree < length (applied_file (mapping_of t used) class f)) →
-      GivenWhen t used class f room NoRoom
+      GivenWhen t used class f room (Err NoRoom)
   when_done : well_formed t.classes t.members t.pool used ≡ true → length f ≤ most_tree → well_formed_file f ≡ true →
       length (applied_file (mapping_of t used) class f) ≤ room → length (applied_file (mapping_of t used) class f) ≤ most_tree →
-      GivenWhen t used class f room (Done (length (applied_file (mapping_of t used) class f)))
+      GivenWhen t used class f room (Ok (length (applied_file (mapping_of t used) class f)))

@@ -4,10 +4,9 @@
 // A tree file, and what is made of it, may have so many bytes.
 pub const MOST_TREE: usize = 4194304;
 
+// Why applying a mapping is refused.
 #[derive(Clone, Copy)]
-pub enum Applied {
-    // How long the output is.
-    Done(u32),
+pub enum ApplyError {
     // The tables are malformed.
     Malformed,
     // The tree file is too long.

@@ -5,19 +5,19 @@ ghost use Rattle.apply_rule.specs.Applying.{apply_output, applied_numbers, apply
 ghost use Rattle.tables.specs.Check.{used_by};
 
 use apply::apply_to_smali;
-use apply_rule::Applied;
+use apply_rule::ApplyError;
 use table_rows::{ClassRow, MemberRow};
 use tables::used_of;
 
-fn applied_numbers(applied: Applied) -> [u32; 2]
+fn applied_numbers(applied: Result<u32, ApplyError>) -> [u32; 2]
     ensures { result ≡ applied_numbers applied }
 {
     match applied {
-        Applied::Done(length) => [0, length],
-        Applied::Malformed => [14, 0],
-        Applied::TooLong => [1, 0],
-        Applied::BadTree => [12, 0],
-        Applied::NoRoom => [13, 0],
+        Ok(length) => [0, length],
+        Err(ApplyError::Malformed) => [14, 0],
+        Err(ApplyError::TooLong) => [1, 0],
+        Err(ApplyError::BadTree) => [12, 0],
+        Err(ApplyError::NoRoom) => [13, 0],
     }
 }
 

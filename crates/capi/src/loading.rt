@@ -4,7 +4,7 @@ ghost use Rattle.load_rule.specs.Loading.{lines_parse, lines_str, lent, answer_o
 ghost use Rattle.capi.specs.Answers.{refusal_numbers, answer_numbers};
 
 use load::{parse, parse_str};
-use load_rule::Load;
+use load_rule::{Fault, LoadError, Loaded};
 use table_rows::{ClassRow, MemberRow};
 
 // The answer of a refusal: its number, its place and a length.
@@ -16,11 +16,11 @@ fn refusal(number: u32, place: u32, length: u32) -> [u32; 24]
     ]
 }
 
-fn load_numbers(load: Load) -> [u32; 24]
+fn load_numbers(load: Result<Loaded, LoadError>) -> [u32; 24]
     ensures { result ≡ answer_numbers load }
 {
     match load {
-        Load::Loaded { fates, names } => [
+        Ok(Loaded { fates, names }) => [
             0,
             0,
             0,
@@ -46,13 +46,13 @@ fn load_numbers(load: Load) -> [u32; 24]
             0,
             0,
         ],
-        Load::TooLong => refusal(1, 0, 0),
-        Load::NotUtf8 { valid, length } => refusal(2, valid, length),
-        Load::Faulty { number, line } => refusal(number, line, 0),
-        Load::NoClasses => refusal(8, 0, 0),
-        Load::FewClassRows => refusal(9, 0, 0),
-        Load::FewMemberRows => refusal(10, 0, 0),
-        Load::ShortPool => refusal(11, 0, 0),
+        Err(LoadError::TooLong) => refusal(1, 0, 0),
+        Err(LoadError::NotUtf8 { valid, length }) => refusal(2, valid, length),
+        Err(LoadError::Faulty(Fault { number, line })) => refusal(number, line, 0),
+        Err(LoadError::NoClasses) => refusal(8, 0, 0),
+        Err(LoadError::FewClassRows) => refusal(9, 0, 0),
+        Err(LoadError::FewMemberRows) => refusal(10, 0, 0),
+        Err(LoadError::ShortPool) => refusal(11, 0, 0),
     }
 }
 

@@ -9,25 +9,25 @@ ghost use Rattle.tables.specs.Check.{used_by};
 use name_lines::RawLine;
 use name_members::{MemberLine, MemberName, display_field_name, display_line, display_method_name};
 use table_rows::{ClassRow, MemberRow};
-use tables::used_of;
+use tables::{Malformed, used_of};
 
-fn name_numbers(name: MemberName) -> [u32; 5]
+fn name_numbers(name: Result<Option<MemberName>, Malformed>) -> [u32; 5]
     ensures { result ≡ name_numbers name }
 {
     match name {
-        MemberName::Found { row, place, length } => [0, 1, row, place, length],
-        MemberName::Unknown => [0, 0, 0, 0, 0],
-        MemberName::Malformed => [14, 0, 0, 0, 0],
+        Ok(Some(MemberName { row, place, length })) => [0, 1, row, place, length],
+        Ok(None) => [0, 0, 0, 0, 0],
+        Err(Malformed) => [14, 0, 0, 0, 0],
     }
 }
 
-fn line_numbers(shown: MemberLine) -> [u32; 4]
+fn line_numbers(shown: Result<Option<MemberLine>, Malformed>) -> [u32; 4]
     ensures { result ≡ line_numbers shown }
 {
     match shown {
-        MemberLine::Found { row, line } => [0, 1, row, line.0],
-        MemberLine::Unknown => [0, 0, 0, 0],
-        MemberLine::Malformed => [14, 0, 0, 0],
+        Ok(Some(MemberLine { row, line })) => [0, 1, row, line.0],
+        Ok(None) => [0, 0, 0, 0],
+        Err(Malformed) => [14, 0, 0, 0],
     }
 }
 

@@ -5,27 +5,27 @@ ghost use Rattle.name_classes.specs.ClassNames.{display_of_class, class_name_num
 ghost use Rattle.tables.specs.Check.{used_by};
 ghost use Rattle.capi.specs.Answers.{mapped_numbers};
 
-use name_classes::{ClassName, display_class_name, raw_class_name};
-use table_rows::{ClassRow, MemberRow};
-use tables::used_of;
+use name_classes::{display_class_name, raw_class_name};
+use table_rows::{ClassRow, MemberRow, Text};
+use tables::{Malformed, used_of};
 
-fn class_numbers(name: ClassName) -> [u32; 4]
+fn class_numbers(name: Result<Option<Text>, Malformed>) -> [u32; 4]
     ensures { result ≡ class_name_numbers name }
 {
     match name {
-        ClassName::Found { place, length } => [0, 1, place, length],
-        ClassName::Unknown => [0, 0, 0, 0],
-        ClassName::Malformed => [14, 0, 0, 0],
+        Ok(Some(Text { place, length })) => [0, 1, place, length],
+        Ok(None) => [0, 0, 0, 0],
+        Err(Malformed) => [14, 0, 0, 0],
     }
 }
 
-fn mapped_numbers(name: ClassName) -> [u32; 3]
+fn mapped_numbers(name: Result<Option<Text>, Malformed>) -> [u32; 3]
     ensures { result ≡ mapped_numbers name }
 {
     match name {
-        ClassName::Found { place, length } => [1, place, length],
-        ClassName::Unknown => [0, 0, 0],
-        ClassName::Malformed => [0, 0, 0],
+        Ok(Some(Text { place, length })) => [1, place, length],
+        Ok(None) => [0, 0, 0],
+        Err(Malformed) => [0, 0, 0],
     }
 }
 

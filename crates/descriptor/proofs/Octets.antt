@@ -1,4 +1,5 @@
 -- Descriptors of well-formed texts are well formed, and stay so where their class pieces are turned. Assumes nothing.
+use Rattle.std.specs.Prelude.{Option, Some, None}
 use mathlib.Core.Path.{◌≡◌, refl, sym, ◌∙◌, ap}
 use mathlib.Core.Bool.{Bool, true, false}
 use mathlib.Core.List.{List, [], ◌∷◌, ◌++◌, map, append-nil, append_assoc}
@@ -12,8 +13,6 @@ use Rattle.ground.specs.Abnf.{none}
 use Rattle.ground.specs.Ascii.{ascii}
 use Rattle.ground.specs.Choice.{pick}
 use Rattle.ground.proofs.Cases.{both_left}
-use Rattle.text_places.specs.declared.find.Place.{Place}
-use Rattle.text_places.specs.declared.find.Place.TheVariants.{At, Nowhere}
 use Rattle.text_places.specs.Places.{last_where, starts, same}
 use Rattle.text_places.proofs.PlaceLaws.{last_inside}
 use Rattle.text_places.proofs.Holds.{last_is}
@@ -115,9 +114,9 @@ raw_type_octets {s} o = go (raw_kept s)
 close_octets : {s : List ℕ} → Utf8Octets s → Utf8Octets (after_close s (last_where (starts 0x29) s))
 close_octets {s} o = go (last_where (starts 0x29) s) refl
   where
-    go : (p : Place) → last_where (starts 0x29) s ≡ p → Utf8Octets (after_close s p)
-    go Nowhere e = o
-    go (At i) e =
+    go : (p : Option ℕ) → last_where (starts 0x29) s ≡ p → Utf8Octets (after_close s p)
+    go None e = o
+    go (Some i) e =
         let inside = last_inside (starts 0x29) s e in
         let is = last_is 0x29 s e in
         append_octets (take_octets o (i + 1) (fresh_after o i inside (omega arith))) (raw_type_octets (after_octets o i inside (omega arith)))

@@ -1,4 +1,5 @@
 -- Raw signatures, where they stand in the pool. Assumes nothing.
+use Rattle.std.specs.Prelude.{Option, Some, None, Result}
 use mathlib.Core.Path.{◌≡◌, refl, sym, ◌∙◌, ap}
 use mathlib.Core.Bool.{Bool, true, false}
 use mathlib.Core.List.{List, [], ◌∷◌}
@@ -17,17 +18,15 @@ use Rattle.ground.specs.Put.{put, between}
 use Rattle.ground.proofs.Cases.{cases}
 use Rattle.ground.proofs.Parts.{drop_take, between_length}
 use Rattle.ground.proofs.PutLaws.{put_nothing, put_one, put_put, put_same, put_before, get_or_put, length_put}
-use Rattle.text_places.specs.declared.find.Place.{Place}
-use Rattle.text_places.specs.declared.find.Place.TheVariants.{At, Nowhere}
 use Rattle.text_places.specs.Places.{last_where, starts}
 use Rattle.text_places.proofs.PlaceLaws.{last_inside}
-use Rattle.table_pool.specs.declared.write.Wrote.{Wrote}
 use Rattle.table_pool.specs.Names.{slash, slashed, class_descriptor}
 use Rattle.descriptor.specs.Types.{kept_text}
 use Rattle.descriptor.specs.Signatures.{is_letter, raw_kept, raw_type, after_close, raw_signature}
 use Rattle.table_pool.specs.Inner.Wrote.{Written, WroteBy}
 use Rattle.table_pool.proofs.Naming.{slashed_length}
 use Rattle.table_pool.proofs.Writes.{wrote_then}
+use Rattle.table_pool.specs.declared.write.NoRoom.{NoRoom}
 
 pub ruleset letters = (cases, rules)
 
@@ -172,20 +171,20 @@ module _ (d : List ℕ) (at «end» : ℕ) (i : at ≤ «end») (h : «end» ≤
     pub type_kept : b ≡ true → Written «end» d at (raw_type (between d at «end»)) d
     type_kept t = let e : raw_type (between d at «end») ≡ between d at «end» = rw (← k, t) in rw e kept_written
 
-    pub type_named : b ≡ false → (r : Wrote) (d₁ : List ℕ) → WroteBy r d at (class_descriptor (between d at «end»)) d₁ → WroteBy r d at (raw_type (between d at «end»)) d₁
+    pub type_named : b ≡ false → (r : Result ℕ NoRoom) (d₁ : List ℕ) → WroteBy r d at (class_descriptor (between d at «end»)) d₁ → WroteBy r d at (raw_type (between d at «end»)) d₁
     type_named t r d₁ w = let e : raw_type (between d at «end») ≡ class_descriptor (between d at «end») = rw (← k, t) in rw e w
 
-  pub signature_field : {m : Bool} → m ≡ false → (r : Wrote) (d₁ : List ℕ) → WroteBy r d at (raw_type (between d at «end»)) d₁ → WroteBy r d at (raw_signature m (between d at «end»)) d₁
+  pub signature_field : {m : Bool} → m ≡ false → (r : Result ℕ NoRoom) (d₁ : List ℕ) → WroteBy r d at (raw_type (between d at «end»)) d₁ → WroteBy r d at (raw_signature m (between d at «end»)) d₁
   signature_field e r d₁ w = rw e w
 
-  module _ {m : Bool} (e : m ≡ true) {p : Place} (f : p ≡ last_where (starts 0x29) (between d at «end»)) where
-    whole : {x : Place} → p ≡ x → raw_signature m (between d at «end») ≡ after_close (between d at «end») x
+  module _ {m : Bool} (e : m ≡ true) {p : Option ℕ} (f : p ≡ last_where (starts 0x29) (between d at «end»)) where
+    whole : {x : Option ℕ} → p ≡ x → raw_signature m (between d at «end») ≡ after_close (between d at «end») x
     whole g = rw e (ap (after_close (between d at «end»)) (sym f ∙ g))
 
-    pub signature_open : p ≡ Nowhere → Written «end» d at (raw_signature m (between d at «end»)) d
+    pub signature_open : p ≡ None → Written «end» d at (raw_signature m (between d at «end»)) d
     signature_open g = rw (whole g) kept_written
 
-    module _ {close : ℕ} (g : p ≡ At close) where
+    module _ {close : ℕ} (g : p ≡ Some close) where
       pub signature_after : at + close + 1 ≤ «end»
       signature_after = let n = between_length d at «end» h in let j = last_inside (starts 0x29) (between d at «end») (sym f ∙ g) in omega arith
 
@@ -196,7 +195,7 @@ module _ (d : List ℕ) (at «end» : ℕ) (i : at ≤ «end») (h : «end» ≤
       signature_fits_close z = let j = signature_after in omega arith
 
       -- the arguments stay, and what follows is a type
-      pub signature_method : (r : Wrote) (d₁ : List ℕ) → WroteBy r d (at + close + 1) (raw_type (between d (at + close + 1) «end»)) d₁ → WroteBy r d at (raw_signature m (between d at «end»)) d₁
+      pub signature_method : (r : Result ℕ NoRoom) (d₁ : List ℕ) → WroteBy r d (at + close + 1) (raw_type (between d (at + close + 1) «end»)) d₁ → WroteBy r d at (raw_signature m (between d at «end»)) d₁
       signature_method r d₁ w =
           let j = signature_after in
           let front : take (close + 1) (between d at «end») ≡ take (close + 1) (drop at d) = take-take (close + 1) («end» - at) (drop at d) (omega arith) in

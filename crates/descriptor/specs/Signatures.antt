@@ -1,8 +1,6 @@
 -- Document 01 "Descriptors": raw signatures.
-use Rattle.std.specs.Prelude.{Bool, false, List, [], ◌∷◌, ◌++◌, ℕ, ◌+◌, eqb, take, drop}
+use Rattle.std.specs.Prelude.{Bool, false, List, [], ◌∷◌, ◌++◌, ℕ, ◌+◌, eqb, take, drop, Option, Some, None}
 use Rattle.ground.specs.Choice.{pick, either}
-use Rattle.text_places.specs.declared.find.Place.{Place}
-use Rattle.text_places.specs.declared.find.Place.TheVariants.{At, Nowhere}
 use Rattle.text_places.specs.Places.{last_where, starts}
 use Rattle.table_pool.specs.Names.{class_descriptor}
 use Rattle.descriptor.specs.Types.{kept_text}
@@ -27,9 +25,9 @@ abbrev pub raw_type : List ℕ → List ℕ
 raw_type s = pick (raw_kept s) s (class_descriptor s)
 
 -- "for methods this holds for what follows the last `)`; with no `)` the text is kept"
-abbrev pub after_close : List ℕ → Place → List ℕ
-after_close s Nowhere = s
-after_close s (At i) = take (i + 1) s ++ raw_type (drop (i + 1) s)
+abbrev pub after_close : List ℕ → Option ℕ → List ℕ
+after_close s None = s
+after_close s (Some i) = take (i + 1) s ++ raw_type (drop (i + 1) s)
 
 abbrev pub raw_signature : Bool → List ℕ → List ℕ
 raw_signature method s = pick method (after_close s (last_where (starts 0x29) s)) (raw_type s)

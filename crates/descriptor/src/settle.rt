@@ -6,8 +6,8 @@ ghost use Rattle.descriptor.specs.Signatures.{is_letter, raw_kept, raw_type, raw
 ghost use Rattle.table_pool.specs.Inner.Wrote.{WroteBy};
 
 use crate::types::is_kept;
-use table_pool::{Wrote, slash_for_dot};
-use text_places::{Place, last_byte};
+use table_pool::{NoRoom, slash_for_dot};
+use text_places::last_byte;
 
 // Whether a byte is one of the nine letters.
 fn is_letter(b: u8) -> bool
@@ -57,12 +57,12 @@ fn is_descriptor(s: &[u8]) -> bool
 }
 
 // The bytes from `at` to `end` are a class name and become its descriptor: they move by one.
-fn name_in_place(pool: &mut [u8], at: usize, end: usize) -> Wrote
+fn name_in_place(pool: &mut [u8], at: usize, end: usize) -> Result<usize, NoRoom>
     requires { (at ≤ «end») × («end» ≤ length pool.old) }
     ensures { WroteBy result pool.old at (class_descriptor (between pool.old at «end»)) pool.new }
 {
     if pool.len() - end < 2 {
-        return Wrote::NoRoom;
+        return Err(NoRoom);
     }
     let mut j = end;
     while at < j {
@@ -72,28 +72,33 @@ fn name_in_place(pool: &mut [u8], at: usize, end: usize) -> Wrote
     }
     pool[at] = b'L';
     pool[end + 1] = b';';
-    Wrote::Done(end + 2)
+    Ok(end + 2)
 }
 
 // The bytes from `at` to `end` are a raw type.
-fn settle_type(pool: &mut [u8], at: usize, end: usize) -> Wrote
+fn settle_type(pool: &mut [u8], at: usize, end: usize) -> Result<usize, NoRoom>
     requires { (at ≤ «end») × («end» ≤ length pool.old) }
     ensures { WroteBy result pool.old at (raw_type (between pool.old at «end»)) pool.new }
 {
     if is_descriptor(&pool[at..end]) {
-        return Wrote::Done(end);
+        return Ok(end);
     }
     name_in_place(pool, at, end)
 }
 
 // The bytes from `at` to `end` are a raw signature, of a method or of a field.
-pub fn settle_signature(pool: &mut [u8], at: usize, end: usize, method: bool) -> Wrote
+pub fn settle_signature(
+    pool: &mut [u8],
+    at: usize,
+    end: usize,
+    method: bool,
+) -> Result<usize, NoRoom>
     requires { (at ≤ «end») × («end» ≤ length pool.old) }
     ensures { WroteBy result pool.old at (raw_signature method (between pool.old at «end»)) pool.new }
 {
     if method {
-        let Place::At(close) = last_byte(&pool[at..end], b')') else {
-            return Wrote::Done(end);
+        let Some(close) = last_byte(&pool[at..end], b')') else {
+            return Ok(end);
         };
         return settle_type(pool, at + close + 1, end);
     }

@@ -1,18 +1,17 @@
 -- The answers of the descriptors' functions as numbers.
-use Rattle.std.specs.Prelude.{◌≡◌, Bool, true, false, not, List, [], ◌∷◌, ℕ, eqb, ltb, length}
+use Rattle.std.specs.Prelude.{◌≡◌, Bool, true, false, not, List, [], ◌∷◌, ℕ, eqb, ltb, length, Result, Ok, Err}
 use Rattle.ground.specs.Choice.{either}
-use Rattle.table_pool.specs.declared.write.Wrote.{Wrote}
-use Rattle.table_pool.specs.declared.write.Wrote.TheVariants.{Done, NoRoom}
 use Rattle.descriptor.specs.declared.types.Base.{Base}
 use Rattle.descriptor.specs.declared.types.Base.TheVariants.{Letter, Kept, Named}
 use Rattle.descriptor.specs.declared.types.TypeShape.{TypeShape}
 use Rattle.ground.specs.Put.{between}
 use Rattle.descriptor.specs.Signatures.{raw_signature}
 use Rattle.table_pool.specs.Inner.Wrote.{WroteBy}
+use Rattle.table_pool.specs.declared.write.NoRoom.{NoRoom}
 
-abbrev pub wrote_numbers : Wrote → List ℕ
-wrote_numbers (Done q) = 1 ∷ q ∷ []
-wrote_numbers NoRoom = 0 ∷ 0 ∷ []
+abbrev pub wrote_numbers : Result ℕ NoRoom → List ℕ
+wrote_numbers (Ok q) = 1 ∷ q ∷ []
+wrote_numbers (Err _) = 0 ∷ 0 ∷ []
 
 -- what the base of a type is, and its letter if it is one of the nine words
 abbrev pub base_number : Base → ℕ
@@ -30,7 +29,7 @@ shape_numbers t = t.brackets ∷ t.start ∷ t.«end» ∷ base_number t.base �
 
 -- the numbers are those of an answer that says so of the room
 pub record Said (numbers d : List ℕ) (at : ℕ) (b d₁ : List ℕ) : Type 0 where
-  pub answer : Wrote
+  pub answer : Result ℕ NoRoom
   pub are : numbers ≡ wrote_numbers answer
   pub wrote : WroteBy answer d at b d₁
 

@@ -8,12 +8,12 @@ ghost use Rattle.descriptor.specs.Types.{shape_of};
 ghost use Rattle.descriptor_probes.specs.Answers.{wrote_numbers, base_number, base_letter, shape_numbers, Said, SaidWithin};
 
 use descriptor::Base;
-use table_pool::Wrote;
+use table_pool::NoRoom;
 
-fn wrote_numbers(w: Wrote) -> [u64; 2]
+fn wrote_numbers(w: Result<usize, NoRoom>) -> [u64; 2]
     ensures { result ≡ wrote_numbers w }
 {
-    let Wrote::Done(end) = w else {
+    let Ok(end) = w else {
         return [0, 0];
     };
     [1, end as u64]

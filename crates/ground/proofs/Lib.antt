@@ -8,3 +8,4 @@ pub mod Parts
 pub mod Joins
 pub mod Stretch
 pub mod Outcomes
+pub mod Answered

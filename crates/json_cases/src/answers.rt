@@ -1,20 +1,20 @@
 // What is written for a case.
 use json_comment::{Comment, Stands};
-use json_decode::Written;
+use json_decode::WriteError;
 use std::io;
 
 // A string: the length of what it stands for, and that itself.
 fn text(rt: &impl Print, document: &[u8], start: usize) -> io::Result<()> {
     let mut room = [0u8; 4096];
     match json_decode::decode_at(&mut room, 0, document, start) {
-        Written::Done(n) => {
+        Ok(n) => {
             replay::words(rt, b"text ")?;
             replay::decimal(rt, n)?;
             replay::words(rt, b" ")?;
             replay::words(rt, &room[..n])
         }
-        Written::NoRoom => replay::words(rt, b"text too long"),
-        Written::NoString => replay::words(rt, b"text unread"),
+        Err(WriteError::NoRoom) => replay::words(rt, b"text too long"),
+        Err(WriteError::NoString) => replay::words(rt, b"text unread"),
     }
 }
 
@@ -38,8 +38,8 @@ fn residual(rt: &impl Print, document: &[u8], id: Stands) -> io::Result<()> {
 
 pub fn answer(rt: &impl Print, document: &[u8]) -> io::Result<()> {
     match json_comment::read_comment(document) {
-        Comment::Unreadable => replay::words(rt, b"unreadable"),
-        Comment::Readable { id, signature } => {
+        None => replay::words(rt, b"unreadable"),
+        Some(Comment { id, signature }) => {
             replay::words(rt, b"id ")?;
             member(rt, document, id)?;
             residual(rt, document, id)?;

@@ -10,38 +10,17 @@
 
 use std::io;
 use std::io::Read;
-use text_places::NextLine;
 
 mod answers;
 
-fn replay_case(rt: &impl Print, line: &[u8], document: &[u8]) -> io::Result<()> {
-    replay::case_name(rt, line)?;
-    replay::words(rt, b": ")?;
+// What is written behind a case's name.
+fn replay_case(rt: &impl Print, document: &[u8]) -> io::Result<()> {
     answers::answer(rt, document)?;
     replay::words(rt, b"\n")
-}
-
-fn each_case(rt: &impl Print, s: &[u8]) -> io::Result<()> {
-    let mut at = replay::case_from(s, 0);
-    while at < s.len() {
-        let NextLine::Line {
-            start: _,
-            end,
-            next: start,
-        } = text_places::next_line(s, at)
-        else {
-            return Ok(());
-        };
-        let next = replay::case_from(s, start);
-        let stop = replay::document_end(s, start, next);
-        replay_case(rt, &s[at..end], &s[start..stop])?;
-        at = next;
-    }
-    Ok(())
 }
 
 fn main(rt: HostRuntime) -> io::Result<()> {
     let mut input = Vec::new(rt.alloc());
     rt.stdin().take(65536).read_to_end(&mut input)?;
-    each_case(&rt, &input)
+    replay::each_case(&rt, &input, |document| replay_case(&rt, document))
 }

@@ -1,4 +1,5 @@
 -- The answer for a comment, by places: what stands last under a name among the members that were passed. Assumes nothing.
+use Rattle.std.specs.Prelude.{Option, Some, None}
 use mathlib.Core.Path.{◌≡◌, refl, sym, ◌∙◌, ap}
 use mathlib.Core.Bool.{Bool, true, false}
 use mathlib.Core.List.{List, [], ◌∷◌, ◌++◌}
@@ -17,23 +18,19 @@ use Rattle.json_grammar.specs.Grammar.{Meaning, text, other}
 use Rattle.json_grammar.specs.Reader.{Out, got, bad, is_ws, structural, chars_from, enclosed_of, Item, item, member_of, value_of, all_read, members_of, found, last_of}
 use Rattle.json_grammar.proofs.Took.{never_bad}
 use Rattle.json_grammar.proofs.Onward.{Parts, member_parts, value_text, value_other, no_value, last_later}
-use Rattle.json_string.specs.declared.after.After.{After}
-use Rattle.json_string.specs.declared.after.After.TheVariants.{Next, Unread}
 use Rattle.json_string.specs.Inner.Means.{Means}
-use Rattle.json_values.specs.declared.value.Member.{Member}
-use Rattle.json_values.specs.declared.value.Member.TheVariants.{Read, NoMember}
 use Rattle.json_values.specs.Inner.Runs.{Past}
-use Rattle.json_values.specs.Inner.Members.{ReadMember, MemberMeans}
+use Rattle.json_values.specs.Inner.Members.{ReadMember, MemberMeans, taken_member}
 use Rattle.json_values.proofs.Numbers.{means_next, means_unread}
 use Rattle.json_values.proofs.Listing.{Listing, Turn, listing_on, listing_passed, listing_closed, listing_wrong, empty_reads, listing_starts, starts_passed}
 use Rattle.json_values.proofs.Values.{member_told, member_turn, object_cut, object_none, object_falls, space_inside, read_inside, member_inside}
 use Rattle.json_decode.specs.Decoded.{decoded_is}
 use Rattle.json_comment.specs.declared.answer.Stands.{Stands}
 use Rattle.json_comment.specs.declared.answer.Stands.TheVariants.{Missing, Other, Text}
-use Rattle.json_comment.specs.declared.answer.Comment.{Comment}
-use Rattle.json_comment.specs.declared.answer.Comment.TheVariants.{Unreadable, Readable}
-use Rattle.json_comment.specs.Answer.{stands_as, stands_in, comment_answer, comment_of}
+use Rattle.json_comment.specs.Answer.{stands_as, stands_in, comment_answer, comment_of, comment_with}
 use Rattle.json_comment.specs.Inner.Steps.{head_stands, given_for, later_counts, end_of}
+use Rattle.json_values.specs.declared.value.Member.{Member}
+use Rattle.json_comment.specs.declared.answer.Comment.{Comment}
 
 -- A value by its first byte.
 module _ (s : List ℕ) (value : ℕ) (h : value < length s) where
@@ -73,10 +70,10 @@ later_given before e f = f ∙ ap (λ x. later_counts x before) e
 pub ruleset standing = (later_given, rules)
 
 -- What is left after the object.
-pub ended_more : (s : List ℕ) (end : ℕ) (id signature : Stands) → end < length s → Unreadable ≡ end_of (drop end s) id signature
+pub ended_more : (s : List ℕ) (end : ℕ) (id signature : Stands) → end < length s → None ≡ end_of (drop end s) id signature
 ended_more s end id signature h = sym (rw (drop-cons s end 0 h))
 
-pub ended_all : (s : List ℕ) (end : ℕ) (id signature : Stands) → length s ≤ end → Readable id signature ≡ end_of (drop end s) id signature
+pub ended_all : (s : List ℕ) (end : ℕ) (id signature : Stands) → length s ≤ end → Some (comment_with id signature) ≡ end_of (drop end s) id signature
 ended_all s end id signature h = sym (rw (drop_of_length-le s h))
 
 pub ruleset ending = (ended_more, ended_all, rules)
@@ -89,11 +86,11 @@ members_from : (s : List ℕ) {at : ℕ} → Past is_ws s 0 at → members_of s 
 unfolding members_of
 members_from s w = rw w.rest
 
-unread : (s : List ℕ) {at : ℕ} → Past is_ws s 0 at → object s at ≡ bad → Unreadable ≡ comment_of s
+unread : (s : List ℕ) {at : ℕ} → Past is_ws s 0 at → object s at ≡ bad → None ≡ comment_of s
 unread s w e = sym (rw (members_from s w, e))
 
 -- all members are read, and nothing or something is left
-read : (s : List ℕ) {at : ℕ} → Past is_ws s 0 at → (items : List Item) (end : ℕ) → object s at ≡ got items (drop end s) → {r : Comment} →
+read : (s : List ℕ) {at : ℕ} → Past is_ws s 0 at → (items : List Item) (end : ℕ) → object s at ≡ got items (drop end s) → {r : Option Comment} →
     r ≡ end_of (drop end s) (stands_in s (last_of (ascii "id") items)) (stands_in s (last_of (ascii "signature") items)) → r ≡ comment_of s
 read s w items end e g = g ∙ go (drop end s) ∙ sym (ap (comment_answer s) (members_from s w ∙ ap all_read e))
   where
@@ -102,17 +99,17 @@ read s w items end e g = g ∙ go (drop end s) ∙ sym (ap (comment_answer s) (m
     go (x ∷ l) = refl
 
 module _ (s : List ℕ) {at : ℕ} (w : Past is_ws s 0 at) where
-  pub comment_empty : length s ≤ at → Unreadable ≡ comment_of s
+  pub comment_empty : length s ≤ at → None ≡ comment_of s
   unfolding enclosed_of
   comment_empty h = unread s w (rw (drop_of_length-le s h))
 
   module _ (h : at < length s) where
-    pub comment_no_brace : (get_or s at 0 ≡ 0x7B → ⊥) → Unreadable ≡ comment_of s
+    pub comment_no_brace : (get_or s at 0 ≡ 0x7B → ⊥) → None ≡ comment_of s
     unfolding enclosed_of
     comment_no_brace n = unread s w (rw (drop-cons s at 0 h, ne_eqb (get_or s at 0) 0x7B n))
 
-    module _ (o : get_or s at 0 ≡ 0x7B) {place : ℕ} (v : Past is_ws s (at + 1) place) {t : After} (m : Means s t (structural 0x7D (drop place s))) where
-      pub comment_no_members : {end : ℕ} → t ≡ Next end → {r : Comment} → r ≡ end_of (drop end s) Missing Missing → r ≡ comment_of s
+    module _ (o : get_or s at 0 ≡ 0x7B) {place : ℕ} (v : Past is_ws s (at + 1) place) {t : Option ℕ} (m : Means s t (structural 0x7D (drop place s))) where
+      pub comment_no_members : {end : ℕ} → t ≡ Some end → {r : Option Comment} → r ≡ end_of (drop end s) Missing Missing → r ≡ comment_of s
       unfolding last_of
       comment_no_members {end} e g =
           read s w [] end (empty_reads (member_of (value_of 126)) 0x7B 0x7D s at h o v (means_next s (structural 0x7D (drop place s)) t m e).reads) g
@@ -168,7 +165,7 @@ pub record Reading (s : List ℕ) (at place : ℕ) (id signature : Stands) : Typ
   pub signature_is : signature ≡ stands_in s (last_of (ascii "signature") listing.passed)
 
 pub reading_starts : (s : List ℕ) {at : ℕ} → at < length s → get_or s at 0 ≡ 0x7B → {place : ℕ} → Past is_ws s (at + 1) place →
-    {t : After} → Means s t (structural 0x7D (drop place s)) → t ≡ Unread → Reading s at place Missing Missing
+    {t : Option ℕ} → Means s t (structural 0x7D (drop place s)) → t ≡ None → Reading s at place Missing Missing
 unfolding last_of
 reading_starts s {at} h o v m e =
     let none = starts_passed (member_of (value_of 126)) 0x7B 0x7D s at h o v m e in
@@ -179,36 +176,36 @@ reading_starts s {at} h o v m e =
     }
 
 module _ {s : List ℕ} {at place : ℕ} {id signature : Stands} (k : Reading s at place id signature) where
-  pub reading_cut : Past is_ws s 0 at → length s ≤ place → Unreadable ≡ comment_of s
+  pub reading_cut : Past is_ws s 0 at → length s ≤ place → None ≡ comment_of s
   reading_cut w h = unread s w (object_cut 126 k.listing h)
 
-  module _ (h : place < length s) {t : Member} (m : MemberMeans s t (member_of (value_of 126) (drop place s))) where
-    pub reading_none : Past is_ws s 0 at → t ≡ NoMember → Unreadable ≡ comment_of s
+  module _ (h : place < length s) {t : Option Member} (m : MemberMeans s t (member_of (value_of 126) (drop place s))) where
+    pub reading_none : Past is_ws s 0 at → t ≡ None → None ≡ comment_of s
     reading_none w e = unread s w (object_none 126 k.listing m e)
 
-    module _ {value next : ℕ} (e : t ≡ Read value next) where
-      told : ReadMember s value next (member_of (value_of 126) (drop place s))
+    module _ {x : Member} (e : t ≡ Some x) where
+      told : ReadMember s x.value x.next (member_of (value_of 126) (drop place s))
       told = member_told s (member_of (value_of 126) (drop place s)) t m e
 
-      pub value_starts : value < length s
+      pub value_starts : x.value < length s
       value_starts = value_there s place h told
 
-      turned : Turn (member_of (value_of 126)) s place next (item told.key told.meaning (drop value s))
+      turned : Turn (member_of (value_of 126)) s place x.next (item told.key told.meaning (drop x.value s))
       turned = member_turn s 126 place k.listing.inside told
 
-      module _ {id₁ : Stands} (i : id₁ ≡ later_counts (given_for s (place + 1) (0x69 ∷ 0x64 ∷ []) value) id)
+      module _ {id₁ : Stands} (i : id₁ ≡ later_counts (given_for s (place + 1) (0x69 ∷ 0x64 ∷ []) x.value) id)
           {signature₁ : Stands}
-          (g : signature₁ ≡ later_counts (given_for s (place + 1) (0x73 ∷ 0x69 ∷ 0x67 ∷ 0x6E ∷ 0x61 ∷ 0x74 ∷ 0x75 ∷ 0x72 ∷ 0x65 ∷ []) value) signature) where
-        id_now : id₁ ≡ stands_in s (last_of (ascii "id") (k.listing.passed ++ (item told.key told.meaning (drop value s) ∷ [])))
+          (g : signature₁ ≡ later_counts (given_for s (place + 1) (0x73 ∷ 0x69 ∷ 0x67 ∷ 0x6E ∷ 0x61 ∷ 0x74 ∷ 0x75 ∷ 0x72 ∷ 0x65 ∷ []) x.value) signature) where
+        id_now : id₁ ≡ stands_in s (last_of (ascii "id") (k.listing.passed ++ (item told.key told.meaning (drop x.value s) ∷ [])))
         unfolding ascii
         id_now = later_stands s place h told (ascii "id") k.listing.passed k.id_is i
 
-        signature_now : signature₁ ≡ stands_in s (last_of (ascii "signature") (k.listing.passed ++ (item told.key told.meaning (drop value s) ∷ [])))
+        signature_now : signature₁ ≡ stands_in s (last_of (ascii "signature") (k.listing.passed ++ (item told.key told.meaning (drop x.value s) ∷ [])))
         unfolding ascii
         signature_now = later_stands s place h told (ascii "signature") k.listing.passed k.signature_is g
 
-        module _ (u : After) (c : Means s u (structural 0x2C (drop next s))) where
-          pub reading_on : {again : ℕ} → u ≡ Next again → Reading s at again id₁ signature₁
+        module _ (u : Option ℕ) (c : Means s u (structural 0x2C (drop x.next s))) where
+          pub reading_on : {again : ℕ} → u ≡ Some again → Reading s at again id₁ signature₁
           reading_on f =
               let passed = listing_passed k.listing h turned c f in
               record {
@@ -217,20 +214,20 @@ module _ {s : List ℕ} {at place : ℕ} {id signature : Stands} (k : Reading s 
                 signature_is = rw passed signature_now;
               }
 
-          module _ (f : u ≡ Unread) (v : After) (d : Means s v (structural 0x7D (drop next s))) where
-            no_comma : structural 0x2C (drop next s) ≡ bad
-            no_comma = means_unread s (structural 0x2C (drop next s)) u c f
+          module _ (f : u ≡ None) (v : Option ℕ) (d : Means s v (structural 0x7D (drop x.next s))) where
+            no_comma : structural 0x2C (drop x.next s) ≡ bad
+            no_comma = means_unread s (structural 0x2C (drop x.next s)) u c f
 
-            pub reading_wrong : Past is_ws s 0 at → v ≡ Unread → Unreadable ≡ comment_of s
-            reading_wrong w j = unread s w (listing_wrong k.listing h turned no_comma (means_unread s (structural 0x7D (drop next s)) v d j))
+            pub reading_wrong : Past is_ws s 0 at → v ≡ None → None ≡ comment_of s
+            reading_wrong w j = unread s w (listing_wrong k.listing h turned no_comma (means_unread s (structural 0x7D (drop x.next s)) v d j))
 
-            pub reading_ends : Past is_ws s 0 at → {end : ℕ} → v ≡ Next end → {r : Comment} → r ≡ end_of (drop end s) id₁ signature₁ → r ≡ comment_of s
+            pub reading_ends : Past is_ws s 0 at → {end : ℕ} → v ≡ Some end → {r : Option Comment} → r ≡ end_of (drop end s) id₁ signature₁ → r ≡ comment_of s
             reading_ends w {end} j q =
-                read s w (k.listing.passed ++ (item told.key told.meaning (drop value s) ∷ [])) end
-                (listing_closed k.listing h turned no_comma (means_next s (structural 0x7D (drop next s)) v d j).reads)
+                read s w (k.listing.passed ++ (item told.key told.meaning (drop x.value s) ∷ [])) end
+                (listing_closed k.listing h turned no_comma (means_next s (structural 0x7D (drop x.next s)) v d j).reads)
                 (q ∙ rw (id_now, signature_now))
 
-    pub reading_falls : {value next : ℕ} → t ≡ Read value next → {u : After} → Means s u (structural 0x2C (drop next s)) → {again : ℕ} → u ≡ Next again →
+    pub reading_falls : {x : Member} → t ≡ Some x → {u : Option ℕ} → Means s u (structural 0x2C (drop x.next s)) → {again : ℕ} → u ≡ Some again →
         length s - again < length s - place
     reading_falls e c f = object_falls 126 k.listing m h e c f
 

@@ -1,4 +1,5 @@
 -- The answer for a comment is what RFC 8259's grammar has: nobody has to believe a function. Assumes nothing.
+use Rattle.std.specs.Prelude.{Some, None}
 use mathlib.Core.Path.{◌≡◌, refl, sym, ◌∙◌, ap}
 use mathlib.Core.Bool.{Bool, true, false}
 use mathlib.Core.List.{List, [], ◌∷◌, ◌++◌}
@@ -23,19 +24,19 @@ use Rattle.json_grammar.proofs.Onward.{value_text, value_other, no_value, member
 use Rattle.json_grammar.proofs.WellFormed.{reader_octets}
 use Rattle.json_comment.specs.declared.answer.Stands.{Stands}
 use Rattle.json_comment.specs.declared.answer.Stands.TheVariants.{Missing, Other, Text}
-use Rattle.json_comment.specs.declared.answer.Comment.TheVariants.{Unreadable, Readable}
-use Rattle.json_comment.specs.Answer.{stands_as, stands_in, comment_answer, comment_of}
+use Rattle.json_comment.specs.Answer.{stands_as, stands_in, comment_answer, comment_of, comment_with}
 use Rattle.json_comment.specs.Says.{Told, Says}
+use Rattle.json_comment.specs.declared.answer.Comment.{Comment}
 
 -- A comment is unreadable exactly where it is no JSON text.
-pub readable_text : (s : List ℕ) {i g : Stands} → comment_of s ≡ Readable i g → (ms : List Named) × JsonText s ms
-readable_text s {i} {g} e = go (members_of s) refl e
+pub readable_text : (s : List ℕ) {x : Comment} → comment_of s ≡ Some x → (ms : List Named) × JsonText s ms
+readable_text s {x} e = go (members_of s) refl e
   where
-    go : (o : Out (List Item)) → members_of s ≡ o → comment_answer s o ≡ Readable i g → (ms : List Named) × JsonText s ms
+    go : (o : Out (List Item)) → members_of s ≡ o → comment_answer s o ≡ Some x → (ms : List Named) × JsonText s ms
     go (got items r) f h = (names items, json_took s f)
     go bad f h = absurd (let z : ◌≡◌ {A = ℕ} 0 1 = cc in omega arith)
 
-pub unreadable_text : (s : List ℕ) → comment_of s ≡ Unreadable → (ms : List Named) → JsonText s ms → ⊥
+pub unreadable_text : (s : List ℕ) → comment_of s ≡ None → (ms : List Named) → JsonText s ms → ⊥
 unreadable_text s e ms j = let (items, n, f) = json_all j in let z : ◌≡◌ {A = ℕ} 0 1 = cc in omega arith
 
 -- where a text starts in another
@@ -138,21 +139,21 @@ says_as : {s : List ℕ} {ms ns : List Named} {k : List ℕ} {a b : Stands} → 
 says_as e f t = rw (e, f) at t
 
 -- the two parts of the answer, by the members that were read
-pub answer_parts : (s : List ℕ) {items : List Item} → members_of s ≡ got items [] → {i g : Stands} → comment_of s ≡ Readable i g →
-    (stands_in s (last_of (ascii "id") items) ≡ i) × (stands_in s (last_of (ascii "signature") items) ≡ g)
+pub answer_parts : (s : List ℕ) {items : List Item} → members_of s ≡ got items [] → {x : Comment} → comment_of s ≡ Some x →
+    (stands_in s (last_of (ascii "id") items) ≡ x.id) × (stands_in s (last_of (ascii "signature") items) ≡ x.signature)
 answer_parts s {items} f e =
-    let both : Readable (stands_in s (last_of (ascii "id") items)) (stands_in s (last_of (ascii "signature") items)) ≡ Readable _ _ = sym (ap (comment_answer s) f) ∙ e in
+    let both : Some (comment_with (stands_in s (last_of (ascii "id") items)) (stands_in s (last_of (ascii "signature") items))) ≡ Some (comment_with _ _) = sym (ap (comment_answer s) f) ∙ e in
     (same_id both, same_signature both)
   where
-    same_id : {a b c d : Stands} → Readable a b ≡ Readable c d → a ≡ c
+    same_id : {x : Comment} {a b : Stands} → Some (comment_with a b) ≡ Some x → a ≡ x.id
     same_id q = cc
 
-    same_signature : {a b c d : Stands} → Readable a b ≡ Readable c d → b ≡ d
+    same_signature : {x : Comment} {a b : Stands} → Some (comment_with a b) ≡ Some x → b ≡ x.signature
     same_signature q = cc
 
 -- what is answered for `id` and for `signature` is what stands last under them in the text
-pub answer_says : (s : List ℕ) {ms : List Named} → JsonText s ms → {i g : Stands} → comment_of s ≡ Readable i g → Says s ms (ascii "id") i × Says s ms (ascii "signature") g
-answer_says s {ms} j {i} {g} e =
+pub answer_says : (s : List ℕ) {ms : List Named} → JsonText s ms → {x : Comment} → comment_of s ≡ Some x → Says s ms (ascii "id") x.id × Says s ms (ascii "signature") x.signature
+answer_says s {ms} j {x} e =
     let (items, n, f) = json_all j in
     let (p, q) = answer_parts s f e in
     (says_as n p (says items f (ascii "id")), says_as n q (says items f (ascii "signature")))

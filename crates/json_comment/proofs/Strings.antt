@@ -1,4 +1,5 @@
 -- A string that the answer for a comment names stands for well-formed text where the comment is well formed. Assumes nothing.
+use Rattle.std.specs.Prelude.{Some}
 use mathlib.Core.Path.{◌≡◌, sym, ◌∙◌, ap}
 use mathlib.Core.List.{List}
 use Prim.Native.Nat.{ℕ}
@@ -11,12 +12,12 @@ use Rattle.json_grammar.proofs.ValuesAll.{json_all}
 use Rattle.json_decode.specs.Decoded.{decoded}
 use Rattle.json_comment.specs.declared.answer.Stands.{Stands}
 use Rattle.json_comment.specs.declared.answer.Stands.TheVariants.{Text}
-use Rattle.json_comment.specs.declared.answer.Comment.TheVariants.{Readable}
-use Rattle.json_comment.specs.Answer.{comment_of}
+use Rattle.json_comment.specs.Answer.{comment_of, comment_with}
 use Rattle.json_comment.proofs.Grammatical.{readable_text, named_text, answer_parts, told_octets}
+use Rattle.json_comment.specs.declared.answer.Comment.{Comment}
 
 -- what stands under `signature`
-pub signature_octets : (s : List ℕ) {i g : Stands} → comment_of s ≡ Readable i g → {p : ℕ} → g ≡ Text p → Utf8Octets s → Utf8Octets (decoded (chars_from 0 (drop p s)))
+pub signature_octets : (s : List ℕ) {x : Comment} → comment_of s ≡ Some x → {p : ℕ} → x.signature ≡ Text p → Utf8Octets s → Utf8Octets (decoded (chars_from 0 (drop p s)))
 signature_octets s e {p} h o =
     let (ms, j) = readable_text s e in
     let (items, n, f) = json_all j in

@@ -6,7 +6,6 @@ ghost use Rattle.json_comment.specs.Answer.{comment_of, residual_of};
 ghost use Rattle.json_comment.specs.Inner.Steps.{head_stands, given_for, later_counts, end_of};
 
 use json_decode::{decoded_is, stands_for};
-use json_string::After;
 use json_values::{Member, member_at, skip_space, structural_at};
 
 // What stands last under a name.
@@ -19,10 +18,11 @@ pub enum Stands {
     Text(usize),
 }
 
+// What a comment that can be read says.
 #[derive(Clone, Copy)]
-pub enum Comment {
-    Unreadable,
-    Readable { id: Stands, signature: Stands },
+pub struct Comment {
+    pub id: Stands,
+    pub signature: Stands,
 }
 
 // What the value at a place is, by its first byte.
@@ -67,7 +67,7 @@ fn stands_now(s: &[u8], key: usize, name: &[u8], value: usize, before: Stands) -
 }
 
 // A member of the comment's object. That is the first of the 127 levels that are read, so that a value nests 126 at most.
-fn comment_member(s: &[u8], at: usize) -> Member
+fn comment_member(s: &[u8], at: usize) -> Option<Member>
     requires { at ≤ length s.now }
     ensures { MemberMeans s.now result (member_of (value_of 126) (drop at s.now)) }
 {
@@ -75,47 +75,45 @@ fn comment_member(s: &[u8], at: usize) -> Member
 }
 
 // The answer once the object is read, up to the place `end`: nothing may be left.
-fn ended(s: &[u8], end: usize, id: Stands, signature: Stands) -> Comment
+fn ended(s: &[u8], end: usize, id: Stands, signature: Stands) -> Option<Comment>
     ensures { result ≡ end_of (drop end s.now) id signature }
 {
     if end < s.len() {
-        return Comment::Unreadable;
+        return None;
     }
-    Comment::Readable { id, signature }
+    Some(Comment { id, signature })
 }
 
 // The answer for a comment, whose text is `s`.
-pub fn read_comment(s: &[u8]) -> Comment
+pub fn read_comment(s: &[u8]) -> Option<Comment>
     ensures { result ≡ comment_of s.now }
 {
     let at = skip_space(s, 0);
     if s.len() <= at {
-        return Comment::Unreadable;
+        return None;
     }
     if s[at] != b'{' {
-        return Comment::Unreadable;
+        return None;
     }
     let mut place = skip_space(s, at + 1);
-    if let After::Next(end) = structural_at(s, place, b'}') {
+    if let Some(end) = structural_at(s, place, b'}') {
         return ended(s, end, Stands::Missing, Stands::Missing);
     }
     let mut id = Stands::Missing;
     let mut signature = Stands::Missing;
     while place < s.len() {
-        let Member::Read { value, next } = comment_member(s, place) else {
-            return Comment::Unreadable;
-        };
+        let Member { value, next } = comment_member(s, place)?;
         id = stands_now(s, place + 1, b"id", value, id);
         signature = stands_now(s, place + 1, b"signature", value, signature);
-        let After::Next(again) = structural_at(s, next, b',') else {
-            let After::Next(end) = structural_at(s, next, b'}') else {
-                return Comment::Unreadable;
+        let Some(again) = structural_at(s, next, b',') else {
+            let Some(end) = structural_at(s, next, b'}') else {
+                return None;
             };
             return ended(s, end, id, signature);
         };
         place = again;
     }
-    Comment::Unreadable
+    None
 }
 
 // Whether a string, whose first char is at `start`, says that a comment holds a residual signature.

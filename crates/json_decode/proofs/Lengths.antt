@@ -1,4 +1,5 @@
 -- The length of what a string stands for. Assumes nothing.
+use Rattle.std.specs.Prelude.{Some, None}
 use mathlib.Core.Path.{◌≡◌, sym, ap}
 use mathlib.Core.List.{List, []}
 use Prim.Native.Nat.{ℕ, ◌+◌, ◌^◌, ◌≤◌, ◌<◌}
@@ -10,7 +11,6 @@ use borrow.Author.Rules.{rules}
 use Rattle.json_grammar.specs.Encode.{utf8}
 use Rattle.json_grammar.proofs.EncodeLaws.{utf8_one, utf8_two, utf8_three, utf8_four}
 use Rattle.json_grammar.specs.Reader.{piece_of, chars_from}
-use Rattle.json_decode.specs.declared.length.Decoded.TheVariants.{Bytes, NoString}
 use Rattle.json_string.specs.declared.string.Piece.{Piece}
 use Rattle.json_string.specs.declared.string.Piece.TheVariants.{Byte, Code, Closes, Wrong}
 use Rattle.json_decode.specs.Decoded.{decoded_length}
@@ -52,7 +52,7 @@ module _ {s : List ℕ} {start total at : ℕ} (k : Counting s start total at) w
   count_fits : {n : ℕ} {v : List ℕ} → length s < 2 ^ 64 → Stood s at n v (piece_of (drop at s)) → Fits w64 (total + length v)
   count_fits b m = omega (arith, k.few, m.next, m.room, m.inside)
 
-  pub count_cut : length s ≤ at → NoString ≡ decoded_length (chars_from 0 (drop start s))
+  pub count_cut : length s ≤ at → None ≡ decoded_length (chars_from 0 (drop start s))
   count_cut h = sym (rw (string_cut k.string h))
 
   module _ {t : Piece} (m : PieceMeans s at t (piece_of (drop at s))) where
@@ -68,12 +68,12 @@ module _ {s : List ℕ} {start total at : ℕ} (k : Counting s start total at) w
     pub code_fits : {c n r : ℕ} → length s < 2 ^ 64 → t ≡ Code c n → r ≡ length (utf8 c) → Fits w64 (total + r)
     code_fits b e f = rw f (count_fits b (coded_told e m).stood)
 
-    pub count_closed : {n : ℕ} → t ≡ Closes n → Bytes total ≡ decoded_length (chars_from 0 (drop start s))
+    pub count_closed : {n : ℕ} → t ≡ Closes n → Some total ≡ decoded_length (chars_from 0 (drop start s))
     count_closed e =
         let r = string_closed k.string m e in
-        sym (rw r.reads (ap Bytes (rw (closed_value k.string m e, length-append k.string.passed []) (omega (arith, k.counted)))))
+        sym (rw r.reads (ap Some (rw (closed_value k.string m e, length-append k.string.passed []) (omega (arith, k.counted)))))
 
-    pub count_wrong : t ≡ Wrong → NoString ≡ decoded_length (chars_from 0 (drop start s))
+    pub count_wrong : t ≡ Wrong → None ≡ decoded_length (chars_from 0 (drop start s))
     count_wrong e = sym (rw (string_wrong k.string m e))
 
 pub ruleset counting =

@@ -1,4 +1,5 @@
 -- A string without escapes stands for its own bytes. Assumes nothing.
+use Rattle.std.specs.Prelude.{Option, Some, None}
 use mathlib.Core.Path.{◌≡◌, refl, sym, ◌∙◌, ap}
 use mathlib.Core.Bool.{Bool, true, false}
 use mathlib.Core.List.{List, [], ◌∷◌, ◌++◌, append-nil}
@@ -14,8 +15,6 @@ use borrow.Author.Rules.{rules}
 use Rattle.ground.specs.Choice.{pick}
 use Rattle.ground.specs.Put.{between}
 use Rattle.ground.proofs.Cases.{le_or_lt, clash}
-use Rattle.text_places.specs.declared.find.Place.{Place}
-use Rattle.text_places.specs.declared.find.Place.TheVariants.{At, Nowhere}
 use Rattle.text_places.specs.Places.{starts, same}
 use Rattle.text_places.proofs.Holds.{byte_is}
 use Rattle.text_places.proofs.PlaceLaws.{byte_here, byte_other, same_equal}
@@ -46,22 +45,22 @@ module _ (s : List ℕ) (start : ℕ) {r : ℕ} (e : r ≡ start + plain_run (dr
         reads = run_decides s start e w ∙ ap (before (between s start r)) rest ∙ ap (λ v. got v (drop (r + 1) s)) (append-nil (between s start r));
       }
 
-  pub plain_cut : length s ≤ r → Nowhere ≡ plain_string s start
+  pub plain_cut : length s ≤ r → None ≡ plain_string s start
   plain_cut h = sym (rw (← e, drop_of_length-le s h))
 
-  pub plain_other : r < length s → (get_or s r 0 ≡ 0x22 → ⊥) → Nowhere ≡ plain_string s start
+  pub plain_other : r < length s → (get_or s r 0 ≡ 0x22 → ⊥) → None ≡ plain_string s start
   plain_other h n = sym (rw (← e, byte_other 0x22 s r h n))
 
-  pub plain_found : r < length s → get_or s r 0 ≡ 0x22 → At r ≡ plain_string s start
+  pub plain_found : r < length s → get_or s r 0 ≡ 0x22 → Some r ≡ plain_string s start
   plain_found h q = sym (rw (← e, byte_here 0x22 s r h q))
 
 pub ruleset plain_strings = (plain_cut, plain_other, plain_found, rules)
 
 -- what `plain_string` found
-pub own_bytes : (s : List ℕ) (start : ℕ) {t : Place} {e : ℕ} → t ≡ plain_string s start → t ≡ At e → ((i : ℕ) → Fits w8 (get_or s i 0)) → OwnBytes s start e
+pub own_bytes : (s : List ℕ) (start : ℕ) {t : Option ℕ} {e : ℕ} → t ≡ plain_string s start → t ≡ Some e → ((i : ℕ) → Fits w8 (get_or s i 0)) → OwnBytes s start e
 own_bytes s start {e = e} g h w = go (start + plain_run (drop start s)) refl (starts 0x22 (drop (start + plain_run (drop start s)) s)) refl (sym g ∙ h)
   where
-    go : (p : ℕ) → p ≡ start + plain_run (drop start s) → (b : Bool) → starts 0x22 (drop p s) ≡ b → pick b (At p) Nowhere ≡ At e → OwnBytes s start e
+    go : (p : ℕ) → p ≡ start + plain_run (drop start s) → (b : Bool) → starts 0x22 (drop p s) ≡ b → pick b (Some p) None ≡ Some e → OwnBytes s start e
     go p k true q f = let z : p ≡ e = cc in rw z at (run_own s start k w (inside (le_or_lt (length s) p)) (byte_is 0x22 s p q))
       where
         inside : (length s ≤ p) ⊎ (p < length s) → p < length s

@@ -1,4 +1,5 @@
 -- A string's bytes in a lent slice: what was passed has been written. Assumes nothing.
+use Rattle.std.specs.Prelude.{Option, Some, None, Result, Ok, Err}
 use mathlib.Core.Path.{◌≡◌, refl, sym, ◌∙◌, ap}
 use mathlib.Core.Bool.{Bool, true, false}
 use mathlib.Core.List.{List, [], ◌∷◌, append-nil}
@@ -22,13 +23,11 @@ use Rattle.json_string.specs.declared.string.Piece.{Piece}
 use Rattle.json_string.specs.declared.string.Piece.TheVariants.{Byte, Code, Closes, Wrong}
 use Rattle.json_string.specs.Inner.Pieces.{Stood, PieceMeans}
 use Rattle.json_string.proofs.Strings.{Stringing, coded_told, string_starts, starts_passed, string_cut, stood_on, stood_passed, closed_value, string_closed, string_wrong, byte_falls, code_falls}
-use Rattle.json_decode.specs.declared.length.Decoded.{Decoded}
-use Rattle.json_decode.specs.declared.length.Decoded.TheVariants.{Bytes, NoString}
-use Rattle.json_decode.specs.declared.write.Written.{Written}
-use Rattle.json_decode.specs.declared.write.Written.TheVariants as written
 use Rattle.json_decode.specs.Decoded.{decoded_length, decoded, written_of, room_of}
 use Rattle.json_decode.specs.Inner.Octets.{Fitting}
 use Rattle.json_decode.proofs.Comparing.{code_small, code_large}
+use Rattle.json_decode.specs.declared.write.WriteError.{WriteError}
+use Rattle.json_decode.specs.declared.write.WriteError.TheVariants.{NoRoom, NoString}
 
 -- what stands before a string's rest is no longer than all of it
 before_fits : (a : List ℕ) (o : Out (List ℕ)) {v r : List ℕ} → before a o ≡ got v r → length a ≤ length v
@@ -108,11 +107,11 @@ module _ {s : List ℕ} {start : ℕ} {d : List ℕ} {at : ℕ} (f : Fitting (ch
 pub ruleset writing = (writing_starts, write_cut, write_inside, byte_fits, write_byte, write_room, code_fits, write_code, code_small, code_large, write_closed, write_wrong, byte_falls, code_falls, rules)
 
 -- Whether there is a string and room for it.
-pub no_string : (o : Out (List ℕ)) (at n : ℕ) {b : Decoded} → b ≡ decoded_length o → b ≡ NoString → written.NoString ≡ written_of o at n
+pub no_string : (o : Out (List ℕ)) (at n : ℕ) {b : Option ℕ} → b ≡ decoded_length o → b ≡ None → Err NoString ≡ written_of o at n
 no_string (got v r) at n e f = absurd (let z : ◌≡◌ {A = ℕ} 0 1 = cc in omega arith)
 no_string bad at n e f = refl
 
-pub no_string_room : (o : Out (List ℕ)) (at : ℕ) (d : List ℕ) {b : Decoded} → b ≡ decoded_length o → b ≡ NoString → d ≡ room_of o at d
+pub no_string_room : (o : Out (List ℕ)) (at : ℕ) (d : List ℕ) {b : Option ℕ} → b ≡ decoded_length o → b ≡ None → d ≡ room_of o at d
 no_string_room (got v r) at d e f = absurd (let z : ◌≡◌ {A = ℕ} 0 1 = cc in omega arith)
 no_string_room bad at d e f = refl
 
@@ -120,24 +119,24 @@ no_string_room bad at d e f = refl
 over : (v : List ℕ) (at n : ℕ) → n < at + length v → leb (at + length v) n ≡ false
 over v at n h = lt-leb (at + length v) n h
 
-told : (o : Out (List ℕ)) {b : Decoded} {m : ℕ} → b ≡ decoded_length o → b ≡ Bytes m → (v : List ℕ) × (r : List ℕ) × (o ≡ got v r) × (length v ≡ m)
+told : (o : Out (List ℕ)) {b : Option ℕ} {m : ℕ} → b ≡ decoded_length o → b ≡ Some m → (v : List ℕ) × (r : List ℕ) × (o ≡ got v r) × (length v ≡ m)
 told (got v r) e f = (v, r, refl, cc)
 told bad e f = absurd (let z : ◌≡◌ {A = ℕ} 0 1 = cc in omega arith)
 
-module _ (o : Out (List ℕ)) (at : ℕ) (d : List ℕ) {b : Decoded} {m : ℕ} (e : b ≡ decoded_length o) (f : b ≡ Bytes m) where
-  no_room_as : length d < at + m → (written.NoRoom ≡ written_of o at (length d)) × (d ≡ room_of o at d)
+module _ (o : Out (List ℕ)) (at : ℕ) (d : List ℕ) {b : Option ℕ} {m : ℕ} (e : b ≡ decoded_length o) (f : b ≡ Some m) where
+  no_room_as : length d < at + m → (Err NoRoom ≡ written_of o at (length d)) × (d ≡ room_of o at d)
   no_room_as h =
       let (v, r, g, l) = told o e f in
       let out : leb (at + length v) (length d) ≡ false = over v at (length d) (rw l h) in
       (sym (rw (g, out)), sym (rw (g, out)))
 
-  pub beyond : length d < at → written.NoRoom ≡ written_of o at (length d)
+  pub beyond : length d < at → Err NoRoom ≡ written_of o at (length d)
   beyond h = (no_room_as (omega arith)).0
 
   pub beyond_room : length d < at → d ≡ room_of o at d
   beyond_room h = (no_room_as (omega arith)).1
 
-  pub short : at ≤ length d → length d - at < m → written.NoRoom ≡ written_of o at (length d)
+  pub short : at ≤ length d → length d - at < m → Err NoRoom ≡ written_of o at (length d)
   short i h = (no_room_as (omega arith)).0
 
   pub short_room : at ≤ length d → length d - at < m → d ≡ room_of o at d
@@ -147,7 +146,7 @@ module _ (o : Out (List ℕ)) (at : ℕ) (d : List ℕ) {b : Decoded} {m : ℕ} 
     pub has_room : Fitting o at (length d)
     has_room = let (v, r, g, l) = told o e f in record { value = v; rest = r; reads = g; fits = rw l (omega arith) }
 
-    pub done : written.Done (at + m) ≡ written_of o at (length d)
+    pub done : Ok (at + m) ≡ written_of o at (length d)
     done =
         let (v, r, g, l) = told o e f in
         let yes_room : leb (at + length v) (length d) ≡ true = le-leb (at + length v) (length d) (rw l (omega arith)) in
@@ -165,10 +164,10 @@ module _ (o : Out (List ℕ)) (at : ℕ) (d : List ℕ) {b : Decoded} {m : ℕ} 
 pub ruleset deciding = (no_string, no_string_room, beyond, beyond_room, short, short_room, has_room, done, done_room, end_fits, rules)
 
 -- what is written ends inside the room
-ends_inside : (o : Out (List ℕ)) (at : ℕ) (d : List ℕ) {n : ℕ} → written_of o at (length d) ≡ written.Done n → n ≤ length (room_of o at d)
+ends_inside : (o : Out (List ℕ)) (at : ℕ) (d : List ℕ) {n : ℕ} → written_of o at (length d) ≡ Ok n → n ≤ length (room_of o at d)
 ends_inside (got v r) at d {n} = go (leb (at + length v) (length d)) refl
   where
-    go : (b : Bool) → leb (at + length v) (length d) ≡ b → pick b (written.Done (at + length v)) written.NoRoom ≡ written.Done n →
+    go : (b : Bool) → leb (at + length v) (length d) ≡ b → pick b (Ok (at + length v)) (Err NoRoom) ≡ Ok n →
         n ≤ length (pick b (put d at v) d)
     go true p e =
         let h = leb-true (at + length v) (length d) p in
@@ -177,6 +176,6 @@ ends_inside (got v r) at d {n} = go (leb (at + length v) (length d)) refl
     go false p e = absurd (let z : ◌≡◌ {A = ℕ} 0 1 = cc in omega arith)
 ends_inside bad at d = λ e. absurd (let z : ◌≡◌ {A = ℕ} 0 1 = cc in omega arith)
 
-pub decoded_inside : (o : Out (List ℕ)) (at : ℕ) (d : List ℕ) {n : ℕ} {t : Written} {after : List ℕ} →
-    t ≡ written_of o at (length d) → after ≡ room_of o at d → t ≡ written.Done n → n ≤ length after
+pub decoded_inside : (o : Out (List ℕ)) (at : ℕ) (d : List ℕ) {n : ℕ} {t : Result ℕ WriteError} {after : List ℕ} →
+    t ≡ written_of o at (length d) → after ≡ room_of o at d → t ≡ Ok n → n ≤ length after
 decoded_inside o at d e f g = rw f (ends_inside o at d (sym e ∙ g))

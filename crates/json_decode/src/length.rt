@@ -6,13 +6,6 @@ ghost use Rattle.json_decode.specs.Decoded.{decoded_length};
 
 use json_string::{Piece, piece_at};
 
-// How many bytes a string stands for.
-#[derive(Clone, Copy)]
-pub enum Decoded {
-    Bytes(usize),
-    NoString,
-}
-
 // How many bytes a code point has in UTF-8.
 #[tactic(auto, using(crate::proofs::Lengths::utf8_lengths))]
 pub fn utf8_length(code: u32) -> usize
@@ -30,8 +23,8 @@ pub fn utf8_length(code: u32) -> usize
     4
 }
 
-// The length of what a string stands for, whose first char is at `start`.
-pub fn decoded_length(s: &[u8], start: usize) -> Decoded
+// The length of what a string stands for, whose first char is at `start`; none where no string stands there.
+pub fn decoded_length(s: &[u8], start: usize) -> Option<usize>
     ensures { result ≡ decoded_length (chars_from 0 (drop start s.now)) }
 {
     let mut total = 0;
@@ -47,12 +40,12 @@ pub fn decoded_length(s: &[u8], start: usize) -> Decoded
                 at = next;
             }
             Piece::Closes(_) => {
-                return Decoded::Bytes(total);
+                return Some(total);
             }
             Piece::Wrong => {
-                return Decoded::NoString;
+                return None;
             }
         }
     }
-    Decoded::NoString
+    None
 }

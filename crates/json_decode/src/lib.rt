@@ -9,6 +9,6 @@ mod plain;
 mod write;
 
 pub use compare::decoded_is;
-pub use length::{Decoded, decoded_length};
+pub use length::decoded_length;
 pub use plain::{plain_string, stands_for};
-pub use write::{Written, decode_at};
+pub use write::{WriteError, decode_at};

@@ -44,15 +44,13 @@ pub fn has_octets(text: &[u8], at: usize, code: u32) -> bool
     ensures { result ≡ heads (utf8 code) (drop at text.now) }
 {
     let n = utf8_length(code);
-    let mut k = 0;
-    while k < n {
+    for k in 0..n {
         if text.len() - at <= k {
             return false;
         }
         if text[at + k] != octet(code, k) {
             return false;
         }
-        k += 1;
     }
     true
 }
@@ -63,9 +61,7 @@ pub fn put_octets(room: &mut [u8], at: usize, code: u32)
     ensures { room.new ≡ put room.old at (utf8 code) }
 {
     let n = utf8_length(code);
-    let mut k = 0;
-    while k < n {
+    for k in 0..n {
         room[at + k] = octet(code, k);
-        k += 1;
     }
 }

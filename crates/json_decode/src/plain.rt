@@ -7,21 +7,21 @@ ghost use Rattle.json_decode.specs.Inner.Plain.{plain_string};
 
 use crate::compare::decoded_is;
 use json_string::plain_end;
-use text_places::{Place, same_text};
+use text_places::same_text;
 
 // The place of the quotation mark that ends a string without escapes, whose first char is at `start`; none where it has some or is no
 // string.
-pub fn plain_string(s: &[u8], start: usize) -> Place
+pub fn plain_string(s: &[u8], start: usize) -> Option<usize>
     ensures { result ≡ plain_string s.now start }
 {
     let end = plain_end(s, start);
     if s.len() <= end {
-        return Place::Nowhere;
+        return None;
     }
     if s[end] != b'"' {
-        return Place::Nowhere;
+        return None;
     }
-    Place::At(end)
+    Some(end)
 }
 
 // As `decoded_is`, for a word of plain bytes: most strings that stand for it have no escapes either.

@@ -5,14 +5,12 @@ ghost use Rattle.json_grammar.specs.Reader.{chars_from};
 ghost use Rattle.json_decode.specs.Decoded.{decoded, written_of, room_of};
 ghost use Rattle.json_decode.specs.Inner.Octets.{Fitting};
 
-use crate::length::{Decoded, decoded_length, utf8_length};
+use crate::length::{decoded_length, utf8_length};
 use crate::octets::put_octets;
 use json_string::{Piece, piece_at};
 
 #[derive(Clone, Copy)]
-pub enum Written {
-    // All bytes are written; the place after them.
-    Done(usize),
+pub enum WriteError {
     NoRoom,
     NoString,
 }
@@ -47,19 +45,19 @@ fn write_pieces(room: &mut [u8], at: usize, s: &[u8], start: usize)
 }
 
 // Writes what a string stands for, whose first char is at `start`, into `room` from `at` on.
-pub fn decode_at(room: &mut [u8], at: usize, s: &[u8], start: usize) -> Written
+pub fn decode_at(room: &mut [u8], at: usize, s: &[u8], start: usize) -> Result<usize, WriteError>
     ensures value { result ≡ written_of (chars_from 0 (drop start s.now)) at (length room.old) }
     ensures room_after { room.new ≡ room_of (chars_from 0 (drop start s.now)) at room.old }
 {
-    let Decoded::Bytes(n) = decoded_length(s, start) else {
-        return Written::NoString;
+    let Some(n) = decoded_length(s, start) else {
+        return Err(WriteError::NoString);
     };
     if room.len() < at {
-        return Written::NoRoom;
+        return Err(WriteError::NoRoom);
     }
     if room.len() - at < n {
-        return Written::NoRoom;
+        return Err(WriteError::NoRoom);
     }
     write_pieces(room, at, s, start);
-    Written::Done(at + n)
+    Ok(at + n)
 }

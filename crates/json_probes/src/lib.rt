@@ -9,7 +9,7 @@ ghost use Rattle.json_comment.specs.Answer.{comment_of, residual_of};
 ghost use Rattle.json_probes.specs.Answers.{stands_kind, stands_place, comment_answer_numbers, decoded_numbers, written_numbers};
 
 use json_comment::{Comment, Stands};
-use json_decode::{Decoded, Written};
+use json_decode::WriteError;
 
 // Which case stands under a name.
 fn stands_kind(stands: Stands) -> u64
@@ -38,10 +38,10 @@ pub extern "C" fn clumarief_probe_comment(text: &[u8], answer: &mut [u64; 5])
     ensures { answer.new ≡ comment_answer_numbers (comment_of text.now) }
 {
     match json_comment::read_comment(text) {
-        Comment::Unreadable => {
+        None => {
             *answer = [0, 0, 0, 0, 0];
         }
-        Comment::Readable { id, signature } => {
+        Some(Comment { id, signature }) => {
             *answer = [
                 1,
                 stands_kind(id),
@@ -58,10 +58,10 @@ pub extern "C" fn clumarief_probe_decoded_length(text: &[u8], start: usize, answ
     ensures { answer.new ≡ decoded_numbers (decoded_length (chars_from 0 (drop start text.now))) }
 {
     match json_decode::decoded_length(text, start) {
-        Decoded::Bytes(n) => {
+        Some(n) => {
             *answer = [1, n as u64];
         }
-        Decoded::NoString => {
+        None => {
             *answer = [0, 0];
         }
     }
@@ -80,13 +80,13 @@ pub extern "C" fn clumarief_probe_decode(
     ensures room_after { room.new ≡ room_of (chars_from 0 (drop start text.now)) at room.old }
 {
     match json_decode::decode_at(room, at, text, start) {
-        Written::Done(end) => {
+        Ok(end) => {
             *answer = [1, end as u64];
         }
-        Written::NoRoom => {
+        Err(WriteError::NoRoom) => {
             *answer = [2, 0];
         }
-        Written::NoString => {
+        Err(WriteError::NoString) => {
             *answer = [0, 0];
         }
     }

@@ -1,4 +1,5 @@
 -- The promises that are no plain equations leave one answer all the same. Assumes nothing.
+use Rattle.std.specs.Prelude.{Option, Some, None}
 use mathlib.Core.Path.{◌≡◌, refl, sym, ◌∙◌, ap}
 use mathlib.Core.List.{List, [], ◌∷◌}
 use Prim.Native.Nat.{ℕ, suc, ◌+◌, ◌≤◌}
@@ -9,8 +10,6 @@ use Rattle.json_grammar.specs.Reader as Reader
 use Rattle.json_grammar.specs.Reader.{Out}
 use Rattle.json_grammar.proofs.Took.{same_rest, never_bad}
 use Rattle.json_grammar.proofs.EncodeLaws.{by_form, utf8_once}
-use Rattle.json_string.specs.declared.after.After.{After}
-use Rattle.json_string.specs.declared.after.After.TheVariants.{Next, Unread}
 use Rattle.json_string.specs.declared.string.Piece.{Piece}
 use Rattle.json_string.specs.declared.string.Piece.TheVariants.{Byte, Code, Closes, Wrong}
 use Rattle.json_string.specs.Inner.Means.{Means}
@@ -20,11 +19,11 @@ use Rattle.json_string.specs.Inner.Pieces.{Stood, Coded, Closed, PieceMeans}
 pub place_once : (s : List ℕ) (n m : ℕ) → n ≤ length s → m ≤ length s → drop n s ≡ drop m s → n ≡ m
 place_once s n m i j e = let l = ap length e in omega (arith, length-drop n s, length-drop m s)
 
-pub means_once : {A : Type 0} (s : List ℕ) (o : Out A) (r q : After) → Means s r o → Means s q o → r ≡ q
-means_once s o (Next n) (Next m) a b = ap Next (place_once s n m a.inside b.inside (same_rest (sym a.reads ∙ b.reads)))
-means_once s o (Next n) Unread a b = never_bad (sym b ∙ a.reads)
-means_once s o Unread (Next m) a b = never_bad (sym a ∙ b.reads)
-means_once s o Unread Unread a b = refl
+pub means_once : {A : Type 0} (s : List ℕ) (o : Out A) (r q : Option ℕ) → Means s r o → Means s q o → r ≡ q
+means_once s o (Some n) (Some m) a b = ap Some (place_once s n m a.inside b.inside (same_rest (sym a.reads ∙ b.reads)))
+means_once s o (Some n) None a b = never_bad (sym b ∙ a.reads)
+means_once s o None (Some m) a b = never_bad (sym a ∙ b.reads)
+means_once s o None None a b = refl
 
 -- Chars. A code point above 7F has several octets
 several : (c : ℕ) → 0x80 ≤ c → 2 ≤ length (utf8 c)

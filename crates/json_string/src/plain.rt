@@ -36,12 +36,10 @@ fn block_is_plain(s: &[u8], at: usize) -> bool
     let mut ends = false;
     let mut escapes = false;
     let mut least = 0xFF;
-    let mut i = 0;
-    while i < 16 {
+    for i in 0..16 {
         ends = marked(ends, s[at + i], b'"');
         escapes = marked(escapes, s[at + i], b'\\');
         least = lesser(least, s[at + i]);
-        i += 1;
     }
     if ends {
         return false;

@@ -4,7 +4,6 @@ ghost use Rattle.json_grammar.specs.Reader.{hexdig, hex_value, hex4, second, uni
 ghost use Rattle.json_string.specs.Inner.Means.{Means};
 ghost use Rattle.json_string.specs.Inner.Pieces.{PieceMeans, short_byte};
 
-use crate::after::After;
 use crate::plain::{is_plain, plain_end};
 
 // What stands at a place inside a string, and the place after it.
@@ -216,7 +215,7 @@ pub fn piece_at(s: &[u8], at: usize) -> Piece
 }
 
 // The place after a string whose first char stands at `start`.
-pub fn string_end(s: &[u8], start: usize) -> After
+pub fn string_end(s: &[u8], start: usize) -> Option<usize>
     ensures { Means s.now result (chars_from 0 (drop start s.now)) }
 {
     let mut at = plain_end(s, start);
@@ -234,12 +233,12 @@ pub fn string_end(s: &[u8], start: usize) -> After
                 at = next;
             }
             Piece::Closes(next) => {
-                return After::Next(next);
+                return Some(next);
             }
             Piece::Wrong => {
-                return After::Unread;
+                return None;
             }
         }
     }
-    After::Unread
+    None
 }

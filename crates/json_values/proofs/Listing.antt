@@ -1,4 +1,5 @@
 -- Items in brackets or braces, by places: what was passed stands before what the rest gives. Assumes nothing.
+use Rattle.std.specs.Prelude.{Option, Some, None}
 use mathlib.Core.Path.{◌≡◌, refl, sym, ◌∙◌, ap}
 use mathlib.Core.List.{List, [], ◌∷◌, ◌++◌}
 use Prim.Native.Nat.{ℕ, zero, suc, ◌+◌, ◌-◌, ◌≤◌, ◌<◌}
@@ -10,8 +11,6 @@ use borrow.Author.Tests.{eq-eqb}
 use Rattle.json_grammar.specs.Reader.{Out, got, bad, and_then, is_ws, skip, structural, items_of, inside_of, enclosed_of, after_item}
 use Rattle.json_grammar.proofs.ValuesTook.{skip_twice}
 use Rattle.json_grammar.proofs.Items.{before, before_nothing, before_both, structural_shorter, inside_closed, inside_items, after_comma, after_closed, after_wrong, items_none, items_item}
-use Rattle.json_string.specs.declared.after.After.{After}
-use Rattle.json_string.specs.declared.after.After.TheVariants.{Next, Unread}
 use Rattle.json_string.specs.Inner.Means.{Reached, Means}
 use Rattle.json_values.specs.Inner.Runs.{Past}
 use Rattle.json_values.proofs.Numbers.{means_next, means_unread}
@@ -43,12 +42,12 @@ module _ {X : Type 0} (p : List ℕ → Out X) (opening closing : ℕ) (s : List
   pub empty_reads : {y : ℕ} {r : List ℕ} → structural closing (drop place s) ≡ got y r → enclosed_of p opening closing (drop at s) ≡ got [] r
   empty_reads e = opened ∙ inside_closed p closing (drop place s) no_space e
 
-  pub listing_empty : {t : After} {n : ℕ} → Means s t (structural closing (drop place s)) → t ≡ Next n → Reached s n (enclosed_of p opening closing (drop at s))
+  pub listing_empty : {t : Option ℕ} {n : ℕ} → Means s t (structural closing (drop place s)) → t ≡ Some n → Reached s n (enclosed_of p opening closing (drop at s))
   listing_empty {t} {n} m e =
       let r = means_next s (structural closing (drop place s)) t m e in
       record { inside = r.inside; value = []; reads = empty_reads r.reads }
 
-  pub listing_starts : {t : After} → Means s t (structural closing (drop place s)) → t ≡ Unread → Listing p closing (enclosed_of p opening closing (drop at s)) s place
+  pub listing_starts : {t : Option ℕ} → Means s t (structural closing (drop place s)) → t ≡ None → Listing p closing (enclosed_of p opening closing (drop at s)) s place
   listing_starts {t} m e = record {
     inside = w.inside;
     passed = [];
@@ -59,7 +58,7 @@ module _ {X : Type 0} (p : List ℕ → Out X) (opening closing : ℕ) (s : List
         ∙ before_nothing (items_of p closing (length (drop place s)) (drop place s));
   }
 
-  pub starts_passed : {t : After} (m : Means s t (structural closing (drop place s))) (e : t ≡ Unread) → (listing_starts m e).passed ≡ []
+  pub starts_passed : {t : Option ℕ} (m : Means s t (structural closing (drop place s))) (e : t ≡ None) → (listing_starts m e).passed ≡ []
   unfolding listing_starts
   starts_passed m e = refl
 
@@ -82,7 +81,7 @@ module _ {X : Type 0} {p : List ℕ → Out X} {closing : ℕ} {whole : Out (Lis
         go zero e d = absurd (omega arith)
         go (suc n) e d = record { left = n; enough = e; decides = d ∙ ap (before k.passed) (items_item p closing n (drop place s) t.reads) }
 
-    pub listing_on : {u : After} {again : ℕ} → Means s u (structural 0x2C (drop next s)) → u ≡ Next again → Listing p closing whole s again
+    pub listing_on : {u : Option ℕ} {again : ℕ} → Means s u (structural 0x2C (drop next s)) → u ≡ Some again → Listing p closing whole s again
     listing_on {u} {again} m e =
         let r = means_next s (structural 0x2C (drop next s)) u m e in
         let f = structural_shorter 0x2C (drop next s) r.reads in
@@ -103,11 +102,11 @@ module _ {X : Type 0} {p : List ℕ → Out X} {closing : ℕ} {whole : Out (Lis
             let c = t.goes in
             omega arith
 
-    pub listing_passed : {u : After} {again : ℕ} (m : Means s u (structural 0x2C (drop next s))) (e : u ≡ Next again) → (listing_on m e).passed ≡ k.passed ++ (x ∷ [])
+    pub listing_passed : {u : Option ℕ} {again : ℕ} (m : Means s u (structural 0x2C (drop next s))) (e : u ≡ Some again) → (listing_on m e).passed ≡ k.passed ++ (x ∷ [])
     unfolding listing_on
     listing_passed m e = refl
 
-    pub listing_falls : {u : After} {again : ℕ} → Means s u (structural 0x2C (drop next s)) → u ≡ Next again → length s - again < length s - place
+    pub listing_falls : {u : Option ℕ} {again : ℕ} → Means s u (structural 0x2C (drop next s)) → u ≡ Some again → length s - again < length s - place
     listing_falls {u} {again} m e =
         let r = means_next s (structural 0x2C (drop next s)) u m e in
         let f = structural_shorter 0x2C (drop next s) r.reads in
@@ -123,10 +122,10 @@ module _ {X : Type 0} {p : List ℕ → Out X} {closing : ℕ} {whole : Out (Lis
       unfolding and_then
       listing_wrong e = passes.decides ∙ rw (after_wrong p closing x (items_of p closing passes.left) (drop next s) n e)
 
-    pub listing_ends : {u : After} → Means s u (structural 0x2C (drop next s)) → u ≡ Unread → (r : After) → Means s r (structural closing (drop next s)) → Means s r whole
-    listing_ends {u} m e (Next n) q = record {
+    pub listing_ends : {u : Option ℕ} → Means s u (structural 0x2C (drop next s)) → u ≡ None → (r : Option ℕ) → Means s r (structural closing (drop next s)) → Means s r whole
+    listing_ends {u} m e (Some n) q = record {
       inside = q.inside;
       value = k.passed ++ (x ∷ []);
       reads = listing_closed (means_unread s (structural 0x2C (drop next s)) u m e) q.reads;
     }
-    listing_ends {u} m e Unread q = listing_wrong (means_unread s (structural 0x2C (drop next s)) u m e) q
+    listing_ends {u} m e None q = listing_wrong (means_unread s (structural 0x2C (drop next s)) u m e) q

@@ -1,4 +1,5 @@
 -- Numbers, by places. Assumes nothing.
+use Rattle.std.specs.Prelude.{Option, Some, None}
 use mathlib.Core.Path.{◌≡◌, refl, sym, ◌∙◌, ap}
 use mathlib.Core.Bool.{Bool, true, false}
 use mathlib.Core.List.{List}
@@ -13,21 +14,19 @@ use Rattle.ground.specs.Choice.{pick, within}
 use Rattle.ground.proofs.Cases.{within_yes, within_low, within_high, le_or_lt}
 use Rattle.ground.proofs.Parts.{drop_here}
 use Rattle.json_grammar.specs.Reader.{Out, got, bad, and_then, is_digit, past_digits, is_sign, is_minus, is_e, past, optional, digits, int, frac, exp, json_number}
-use Rattle.json_string.specs.declared.after.After.{After}
-use Rattle.json_string.specs.declared.after.After.TheVariants.{Next, Unread}
 use Rattle.json_string.specs.Inner.Means.{Reached, Means}
 use Rattle.json_values.specs.Inner.Runs.{Past, PastOne}
 use Rattle.json_values.proofs.Spaces.{passing_starts, passing_ends, passing_stops, passing_more, apart}
 
 -- What an answer means, case by case.
-pub means_next : {A : Type 0} (s : List ℕ) (o : Out A) (t : After) {n : ℕ} → Means s t o → t ≡ Next n → Reached s n o
+pub means_next : {A : Type 0} (s : List ℕ) (o : Out A) (t : Option ℕ) {n : ℕ} → Means s t o → t ≡ Some n → Reached s n o
 means_next s o t {n} m e = rw e at m
 
-pub means_unread : {A : Type 0} (s : List ℕ) (o : Out A) (t : After) → Means s t o → t ≡ Unread → o ≡ bad
+pub means_unread : {A : Type 0} (s : List ℕ) (o : Out A) (t : Option ℕ) → Means s t o → t ≡ None → o ≡ bad
 means_unread s o t m e = rw e at m
 
 -- an answer about a reader that is the other
-pub means_as : {A : Type 0} (s : List ℕ) (o : Out A) (p : Out A) (t : After) → p ≡ o → Means s t o → Means s t p
+pub means_as : {A : Type 0} (s : List ℕ) (o : Out A) (p : Out A) (t : Option ℕ) → p ≡ o → Means s t o → Means s t p
 means_as s o p t e m = rw e m
 
 -- Digits.
@@ -97,7 +96,7 @@ module _ (s : List ℕ) (at : ℕ) (h : at < length s) where
         go true = refl
         go false = refl
 
-    pub int_other : (r : After) → Means s r (digits (drop at s)) → Means s r (int (drop at s))
+    pub int_other : (r : Option ℕ) → Means s r (digits (drop at s)) → Means s r (int (drop at s))
     int_other r m = means_as s (digits (drop at s)) (int (drop at s)) r int_digits m
 
 pub ruleset digit_reading = (digits_end, digits_low, digits_high, next_inside, digits_reached, int_end, int_zero, int_other, rules)
@@ -117,7 +116,7 @@ module _ (s : List ℕ) (at : ℕ) where
     unfolding optional
     frac_other n = record { inside = omega arith; value = 0; reads = rw (drop_here s at h, apart 0x2E (get_or s at 0) n) }
 
-    pub frac_goes : get_or s at 0 ≡ 0x2E → (r : After) → Means s r (digits (drop (at + 1) s)) → Means s r (frac (drop at s))
+    pub frac_goes : get_or s at 0 ≡ 0x2E → (r : Option ℕ) → Means s r (digits (drop (at + 1) s)) → Means s r (frac (drop at s))
     unfolding optional
     frac_goes e r m =
         means_as s (digits (drop (at + 1) s)) (frac (drop at s)) r (rw (drop_here s at h, within_yes 0x2E 0x2E (get_or s at 0) (omega arith) (omega arith))) m
@@ -126,14 +125,14 @@ module _ (s : List ℕ) (at : ℕ) where
     unfolding optional
     exp_other n m = record { inside = omega arith; value = 0; reads = rw (drop_here s at h, apart 0x65 (get_or s at 0) n, apart 0x45 (get_or s at 0) m) }
 
-    e_goes : is_e (get_or s at 0) ≡ true → (p : ℕ) (r : After) → PastOne is_sign s (at + 1) p → Means s r (digits (drop p s)) → Means s r (exp (drop at s))
+    e_goes : is_e (get_or s at 0) ≡ true → (p : ℕ) (r : Option ℕ) → PastOne is_sign s (at + 1) p → Means s r (digits (drop p s)) → Means s r (exp (drop at s))
     unfolding optional
     e_goes e p r q m = means_as s (digits (drop p s)) (exp (drop at s)) r (rw (drop_here s at h, e, q.rest)) m
 
-    pub exp_small : get_or s at 0 ≡ 0x65 → (p : ℕ) (r : After) → PastOne is_sign s (at + 1) p → Means s r (digits (drop p s)) → Means s r (exp (drop at s))
+    pub exp_small : get_or s at 0 ≡ 0x65 → (p : ℕ) (r : Option ℕ) → PastOne is_sign s (at + 1) p → Means s r (digits (drop p s)) → Means s r (exp (drop at s))
     exp_small e = e_goes (ap is_e e)
 
-    pub exp_large : get_or s at 0 ≡ 0x45 → (p : ℕ) (r : After) → PastOne is_sign s (at + 1) p → Means s r (digits (drop p s)) → Means s r (exp (drop at s))
+    pub exp_large : get_or s at 0 ≡ 0x45 → (p : ℕ) (r : Option ℕ) → PastOne is_sign s (at + 1) p → Means s r (digits (drop p s)) → Means s r (exp (drop at s))
     exp_large e = e_goes (ap is_e e)
 
   -- a sign, or none
@@ -169,29 +168,29 @@ pub ruleset options =
     (frac_end, exp_end, frac_other, frac_goes, exp_other, exp_small, exp_large, sign_end, sign_minus, sign_plus, sign_none, minus_here, minus_none, next_inside, one_inside, rules)
 
 -- A number.
-module _ (s : List ℕ) (at p : ℕ) (q : PastOne is_minus s at p) (t : After) (i : Means s t (int (drop p s))) where
-  pub number_no_int : t ≡ Unread → json_number (drop at s) ≡ bad
+module _ (s : List ℕ) (at p : ℕ) (q : PastOne is_minus s at p) (t : Option ℕ) (i : Means s t (int (drop p s))) where
+  pub number_no_int : t ≡ None → json_number (drop at s) ≡ bad
   unfolding json_number and_then
   number_no_int e = rw (q.rest, means_unread s (int (drop p s)) t i e)
 
-  module _ {whole : ℕ} (e : t ≡ Next whole) where
+  module _ {whole : ℕ} (e : t ≡ Some whole) where
     pub whole_inside : whole ≤ length s
     whole_inside = (means_next s (int (drop p s)) t i e).inside
 
-    module _ (u : After) (f : Means s u (frac (drop whole s))) where
+    module _ (u : Option ℕ) (f : Means s u (frac (drop whole s))) where
       first : json_number (drop at s) ≡ and_then (frac (drop whole s)) (λ y r. exp r)
       unfolding json_number and_then
       first = rw (q.rest, (means_next s (int (drop p s)) t i e).reads)
 
-      pub number_no_frac : u ≡ Unread → json_number (drop at s) ≡ bad
+      pub number_no_frac : u ≡ None → json_number (drop at s) ≡ bad
       unfolding and_then
       number_no_frac g = first ∙ rw (means_unread s (frac (drop whole s)) u f g)
 
-      module _ {fraction : ℕ} (g : u ≡ Next fraction) where
+      module _ {fraction : ℕ} (g : u ≡ Some fraction) where
         pub fraction_inside : fraction ≤ length s
         fraction_inside = (means_next s (frac (drop whole s)) u f g).inside
 
-        pub number_means : (r : After) → Means s r (exp (drop fraction s)) → Means s r (json_number (drop at s))
+        pub number_means : (r : Option ℕ) → Means s r (exp (drop fraction s)) → Means s r (json_number (drop at s))
         unfolding and_then
         number_means r m = means_as s (exp (drop fraction s)) (json_number (drop at s)) r (first ∙ rw (means_next s (frac (drop whole s)) u f g).reads) m
 

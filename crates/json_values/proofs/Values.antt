@@ -1,4 +1,5 @@
 -- Values, members, objects and arrays, by places. Assumes nothing.
+use Rattle.std.specs.Prelude.{Option, Some, None}
 use mathlib.Core.Path.{◌≡◌, refl, ◌∙◌}
 use mathlib.Core.List.{List, ◌∷◌}
 use Prim.Native.Nat.{ℕ, zero, suc, ◌+◌, ◌-◌, ◌≤◌, ◌<◌}
@@ -13,16 +14,13 @@ use Rattle.json_grammar.specs.Grammar.{Meaning, other}
 use Rattle.json_grammar.specs.Reader.{Out, got, bad, and_then, is_ws, structural, chars_from, string_of, as_other, flat_of, enclosed_of, Item, item, member_of, nested_of, value_of}
 use Rattle.json_grammar.proofs.Items.{value_shorter, member_shorter}
 use Rattle.json_grammar.proofs.Onward.{no_value}
-use Rattle.json_string.specs.declared.after.After.{After}
-use Rattle.json_string.specs.declared.after.After.TheVariants.{Next, Unread}
 use Rattle.json_string.specs.Inner.Means.{Means}
 use Rattle.json_values.specs.Inner.Runs.{Past}
 use Rattle.json_values.proofs.Numbers.{means_next, means_unread, means_as}
 use Rattle.json_values.proofs.Flats.{means_map}
-use Rattle.json_values.specs.declared.value.Member.{Member}
-use Rattle.json_values.specs.declared.value.Member.TheVariants.{Read, NoMember}
-use Rattle.json_values.specs.Inner.Members.{ReadMember, MemberMeans}
+use Rattle.json_values.specs.Inner.Members.{ReadMember, MemberMeans, taken_member}
 use Rattle.json_values.proofs.Listing.{Listing, Turn, listing_none, listing_on, listing_falls, listing_ends, listing_empty, listing_starts}
+use Rattle.json_values.specs.declared.value.Member.{Member}
 
 -- what is left starts no earlier than what was given
 goes : (s : List ℕ) (place next : ℕ) → place ≤ length s → next ≤ length s → length (drop next s) ≤ length (drop place s) → place ≤ next
@@ -31,7 +29,7 @@ goes s place next i j h = omega (arith, length-drop place s, length-drop next s)
 pub space_inside : (s : List ℕ) (start : ℕ) {place : ℕ} → Past is_ws s start place → place ≤ length s
 space_inside s start w = w.inside
 
-pub read_inside : {A : Type 0} (s : List ℕ) (o : Out A) (t : After) {n : ℕ} → Means s t o → t ≡ Next n → n ≤ length s
+pub read_inside : {A : Type 0} (s : List ℕ) (o : Out A) (t : Option ℕ) {n : ℕ} → Means s t o → t ≡ Some n → n ≤ length s
 read_inside s o t m e = (means_next s o t m e).inside
 
 pub place_inside : {X : Type 0} {p : List ℕ → Out X} {closing : ℕ} {whole : Out (List X)} {s : List ℕ} {place : ℕ} → Listing p closing whole s place → place ≤ length s
@@ -42,7 +40,7 @@ module _ (s : List ℕ) (depth at : ℕ) where
   pub value_end : length s ≤ at → value_of depth (drop at s) ≡ bad
   value_end h = rw (drop_of_length-le s h) (no_value depth)
 
-  pub value_flat : depth ≡ 0 → (r : After) → Means s r (flat_of (drop at s)) → Means s r (value_of depth (drop at s))
+  pub value_flat : depth ≡ 0 → (r : Option ℕ) → Means s r (flat_of (drop at s)) → Means s r (value_of depth (drop at s))
   unfolding value_of
   value_flat z r m = means_as s (flat_of (drop at s)) (value_of depth (drop at s)) r (rw z) m
 
@@ -55,7 +53,7 @@ module _ (s : List ℕ) (depth at : ℕ) where
         go zero m = absurd (m refl)
         go (suc d) m = let e : suc d - 1 ≡ d = omega arith in rw (e, add-one, ← drop-cons s at 0 h)
 
-    pub value_object : get_or s at 0 ≡ 0x7B → (r : After) → Means s r (enclosed_of (member_of (value_of (depth - 1))) 0x7B 0x7D (drop at s)) → Means s r (value_of depth (drop at s))
+    pub value_object : get_or s at 0 ≡ 0x7B → (r : Option ℕ) → Means s r (enclosed_of (member_of (value_of (depth - 1))) 0x7B 0x7D (drop at s)) → Means s r (value_of depth (drop at s))
     unfolding nested_of
     value_object e r m =
         means_as s (as_other (enclosed_of (member_of (value_of (depth - 1))) 0x7B 0x7D (drop at s))) (value_of depth (drop at s)) r
@@ -63,14 +61,14 @@ module _ (s : List ℕ) (depth at : ℕ) where
         (means_map s (enclosed_of (member_of (value_of (depth - 1))) 0x7B 0x7D (drop at s)) (λ v. other) r m)
 
     module _ (o : get_or s at 0 ≡ 0x7B → ⊥) where
-      pub value_array : get_or s at 0 ≡ 0x5B → (r : After) → Means s r (enclosed_of (value_of (depth - 1)) 0x5B 0x5D (drop at s)) → Means s r (value_of depth (drop at s))
+      pub value_array : get_or s at 0 ≡ 0x5B → (r : Option ℕ) → Means s r (enclosed_of (value_of (depth - 1)) 0x5B 0x5D (drop at s)) → Means s r (value_of depth (drop at s))
       unfolding nested_of
       value_array e r m =
           means_as s (as_other (enclosed_of (value_of (depth - 1)) 0x5B 0x5D (drop at s))) (value_of depth (drop at s)) r
           (nested ∙ rw (ne_eqb (get_or s at 0) 0x7B o, eq-eqb (get_or s at 0) 0x5B e, ← drop_here s at h))
           (means_map s (enclosed_of (value_of (depth - 1)) 0x5B 0x5D (drop at s)) (λ v. other) r m)
 
-      pub value_other : (get_or s at 0 ≡ 0x5B → ⊥) → (r : After) → Means s r (flat_of (drop at s)) → Means s r (value_of depth (drop at s))
+      pub value_other : (get_or s at 0 ≡ 0x5B → ⊥) → (r : Option ℕ) → Means s r (flat_of (drop at s)) → Means s r (value_of depth (drop at s))
       unfolding nested_of
       value_other a r m =
           means_as s (flat_of (drop at s)) (value_of depth (drop at s)) r
@@ -99,20 +97,20 @@ module _ (s : List ℕ) (depth at : ℕ) where
       unfolding string_of
       name_string = rw (drop-cons s at 0 h, eq-eqb (get_or s at 0) 0x22 q, add-one)
 
-      module _ {t : After} (m : Means s t (chars_from 0 (drop (at + 1) s))) where
-        pub member_unnamed : t ≡ Unread → member_of (value_of depth) (drop at s) ≡ bad
+      module _ {t : Option ℕ} (m : Means s t (chars_from 0 (drop (at + 1) s))) where
+        pub member_unnamed : t ≡ None → member_of (value_of depth) (drop at s) ≡ bad
         unfolding member_of and_then
         member_unnamed e = rw (name_string, means_unread s (chars_from 0 (drop (at + 1) s)) t m e)
 
-        module _ {named : ℕ} (e : t ≡ Next named) where
-          module _ {u : After} (c : Means s u (structural 0x3A (drop named s))) where
-            pub member_no_colon : u ≡ Unread → member_of (value_of depth) (drop at s) ≡ bad
+        module _ {named : ℕ} (e : t ≡ Some named) where
+          module _ {u : Option ℕ} (c : Means s u (structural 0x3A (drop named s))) where
+            pub member_no_colon : u ≡ None → member_of (value_of depth) (drop at s) ≡ bad
             unfolding member_of and_then
             member_no_colon f =
                 rw (name_string, (means_next s (chars_from 0 (drop (at + 1) s)) t m e).reads, means_unread s (structural 0x3A (drop named s)) u c f)
 
-            module _ {value : ℕ} (f : u ≡ Next value) {w : After} (v : Means s w (value_of depth (drop value s))) where
-              pub member_no_value : w ≡ Unread → member_of (value_of depth) (drop at s) ≡ bad
+            module _ {value : ℕ} (f : u ≡ Some value) {w : Option ℕ} (v : Means s w (value_of depth (drop value s))) where
+              pub member_no_value : w ≡ None → member_of (value_of depth) (drop at s) ≡ bad
               unfolding member_of and_then
               member_no_value g =
                   rw (
@@ -122,7 +120,7 @@ module _ (s : List ℕ) (depth at : ℕ) where
                     means_unread s (value_of depth (drop value s)) w v g,
                   )
 
-              pub member_read : {next : ℕ} → w ≡ Next next → ReadMember s value next (member_of (value_of depth) (drop at s))
+              pub member_read : {next : ℕ} → w ≡ Some next → ReadMember s value next (member_of (value_of depth) (drop at s))
               member_read g =
                   let a = means_next s (chars_from 0 (drop (at + 1) s)) t m e in
                   let b = means_next s (structural 0x3A (drop named s)) u c f in
@@ -137,8 +135,12 @@ module _ (s : List ℕ) (depth at : ℕ) where
 
 pub ruleset membering = (member_end, member_unquoted, member_unnamed, member_no_colon, member_no_value, member_read, read_inside, rules)
 
+-- What `?` hands on: there was nothing of the kind.
+pub means_none : {A : Type 0} (s : List ℕ) (o : Out A) {r : Option ℕ} → r ≡ None → o ≡ bad → Means s r o
+means_none s o e b = rw e b
+
 -- Arrays.
-array_turn : (s : List ℕ) (depth place : ℕ) (t : After) {next : ℕ} → place ≤ length s → (m : Means s t (value_of depth (drop place s))) (e : t ≡ Next next) →
+array_turn : (s : List ℕ) (depth place : ℕ) (t : Option ℕ) {next : ℕ} → place ≤ length s → (m : Means s t (value_of depth (drop place s))) (e : t ≡ Some next) →
     Turn (value_of depth) s place next (means_next s (value_of depth (drop place s)) t m e).value
 array_turn s depth place t {next} i m e =
     let r = means_next s (value_of depth (drop place s)) t m e in
@@ -148,30 +150,30 @@ module _ {s : List ℕ} (depth : ℕ) {place : ℕ} {whole : Out (List Meaning)}
   pub array_cut : length s ≤ place → whole ≡ bad
   array_cut h = listing_none k (value_end s depth place h)
 
-  module _ {t : After} (m : Means s t (value_of depth (drop place s))) where
-    pub array_none : t ≡ Unread → whole ≡ bad
+  module _ {t : Option ℕ} (m : Means s t (value_of depth (drop place s))) where
+    pub array_none : t ≡ None → whole ≡ bad
     array_none e = listing_none k (means_unread s (value_of depth (drop place s)) t m e)
 
-    module _ (h : place < length s) {next : ℕ} (e : t ≡ Next next) {u : After} (c : Means s u (structural 0x2C (drop next s))) where
-      pub array_on : {again : ℕ} → u ≡ Next again → Listing (value_of depth) 0x5D whole s again
+    module _ (h : place < length s) {next : ℕ} (e : t ≡ Some next) {u : Option ℕ} (c : Means s u (structural 0x2C (drop next s))) where
+      pub array_on : {again : ℕ} → u ≡ Some again → Listing (value_of depth) 0x5D whole s again
       array_on f = listing_on k h (array_turn s depth place t k.inside m e) c f
 
-      pub array_falls : {again : ℕ} → u ≡ Next again → length s - again < length s - place
+      pub array_falls : {again : ℕ} → u ≡ Some again → length s - again < length s - place
       array_falls f = listing_falls k h (array_turn s depth place t k.inside m e) c f
 
-      pub array_ends : u ≡ Unread → (r : After) → Means s r (structural 0x5D (drop next s)) → Means s r whole
+      pub array_ends : u ≡ None → (r : Option ℕ) → Means s r (structural 0x5D (drop next s)) → Means s r whole
       array_ends f r q = listing_ends k h (array_turn s depth place t k.inside m e) c f r q
 
-pub ruleset arraying = (array_cut, array_none, array_on, array_falls, array_ends, listing_empty, listing_starts, space_inside, read_inside, place_inside, rules)
+pub ruleset arraying = (means_none, array_cut, array_none, array_on, array_falls, array_ends, listing_empty, listing_starts, space_inside, read_inside, place_inside, rules)
 
 -- Objects.
-pub member_told : (s : List ℕ) (o : Out Item) (t : Member) {value next : ℕ} → MemberMeans s t o → t ≡ Read value next → ReadMember s value next o
+pub member_told : (s : List ℕ) (o : Out Item) (t : Option Member) {x : Member} → MemberMeans s t o → t ≡ Some x → ReadMember s x.value x.next o
 member_told s o t m e = rw e at m
 
-pub member_untold : (s : List ℕ) (o : Out Item) (t : Member) → MemberMeans s t o → t ≡ NoMember → o ≡ bad
+pub member_untold : (s : List ℕ) (o : Out Item) (t : Option Member) → MemberMeans s t o → t ≡ None → o ≡ bad
 member_untold s o t m e = rw e at m
 
-pub member_inside : (s : List ℕ) (o : Out Item) (t : Member) {value next : ℕ} → MemberMeans s t o → t ≡ Read value next → next ≤ length s
+pub member_inside : (s : List ℕ) (o : Out Item) (t : Option Member) {x : Member} → MemberMeans s t o → t ≡ Some x → x.next ≤ length s
 member_inside s o t m e = (member_told s o t m e).inside
 
 pub member_turn : (s : List ℕ) (depth place : ℕ) {value next : ℕ} → place ≤ length s → (m : ReadMember s value next (member_of (value_of depth) (drop place s))) →
@@ -186,23 +188,23 @@ module _ {s : List ℕ} (depth : ℕ) {place : ℕ} {whole : Out (List Item)} (k
   pub object_cut : length s ≤ place → whole ≡ bad
   object_cut h = listing_none k (member_end s depth place h)
 
-  module _ {t : Member} (m : MemberMeans s t (member_of (value_of depth) (drop place s))) where
-    pub object_none : t ≡ NoMember → whole ≡ bad
+  module _ {t : Option Member} (m : MemberMeans s t (member_of (value_of depth) (drop place s))) where
+    pub object_none : t ≡ None → whole ≡ bad
     object_none e = listing_none k (member_untold s (member_of (value_of depth) (drop place s)) t m e)
 
-    module _ (h : place < length s) {value next : ℕ} (e : t ≡ Read value next) where
-      turn : ReadMember s value next (member_of (value_of depth) (drop place s))
+    module _ (h : place < length s) {x : Member} (e : t ≡ Some x) where
+      turn : ReadMember s x.value x.next (member_of (value_of depth) (drop place s))
       turn = member_told s (member_of (value_of depth) (drop place s)) t m e
 
-      module _ {u : After} (c : Means s u (structural 0x2C (drop next s))) where
-        pub object_on : {again : ℕ} → u ≡ Next again → Listing (member_of (value_of depth)) 0x7D whole s again
+      module _ {u : Option ℕ} (c : Means s u (structural 0x2C (drop x.next s))) where
+        pub object_on : {again : ℕ} → u ≡ Some again → Listing (member_of (value_of depth)) 0x7D whole s again
         object_on f = listing_on k h (member_turn s depth place k.inside turn) c f
 
-        pub object_falls : {again : ℕ} → u ≡ Next again → length s - again < length s - place
+        pub object_falls : {again : ℕ} → u ≡ Some again → length s - again < length s - place
         object_falls f = listing_falls k h (member_turn s depth place k.inside turn) c f
 
-        pub object_ends : u ≡ Unread → (r : After) → Means s r (structural 0x7D (drop next s)) → Means s r whole
+        pub object_ends : u ≡ None → (r : Option ℕ) → Means s r (structural 0x7D (drop x.next s)) → Means s r whole
         object_ends f r q = listing_ends k h (member_turn s depth place k.inside turn) c f r q
 
 pub ruleset objecting =
-    (object_cut, object_none, object_on, object_falls, object_ends, listing_empty, listing_starts, space_inside, read_inside, member_inside, place_inside, rules)
+    (means_none, object_cut, object_none, object_on, object_falls, object_ends, listing_empty, listing_starts, space_inside, read_inside, member_inside, place_inside, rules)

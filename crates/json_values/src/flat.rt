@@ -4,33 +4,31 @@ ghost use Rattle.json_grammar.specs.Reader.{past_word, flat_of};
 ghost use Rattle.json_string.specs.Inner.Means.{Means};
 
 use crate::number::number_at;
-use json_string::{After, string_end};
+use json_string::string_end;
 
 // A literal name.
-fn word_at(s: &[u8], at: usize, word: &[u8]) -> After
+fn word_at(s: &[u8], at: usize, word: &[u8]) -> Option<usize>
     requires { at ≤ length s.now }
     ensures { Means s.now result (past_word word.now (drop at s.now)) }
 {
-    let mut i = 0;
-    while i < word.len() {
+    for i in 0..word.len() {
         if s.len() - at <= i {
-            return After::Unread;
+            return None;
         }
         if s[at + i] != word[i] {
-            return After::Unread;
+            return None;
         }
-        i += 1;
     }
-    After::Next(at + i)
+    Some(at + word.len())
 }
 
 // A value that nests nothing.
-pub fn flat_at(s: &[u8], at: usize) -> After
+pub fn flat_at(s: &[u8], at: usize) -> Option<usize>
     requires { at ≤ length s.now }
     ensures { Means s.now result (flat_of (drop at s.now)) }
 {
     if s.len() <= at {
-        return After::Unread;
+        return None;
     }
     let b = s[at];
     if b == b'"' {

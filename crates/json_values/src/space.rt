@@ -4,8 +4,6 @@ ghost use Rattle.json_grammar.specs.Reader.{is_ws, structural};
 ghost use Rattle.json_string.specs.Inner.Means.{Means};
 ghost use Rattle.json_values.specs.Inner.Runs.{Past};
 
-use json_string::After;
-
 // Whether a byte is white space.
 pub fn is_space(b: u8) -> bool
     ensures { result ≡ is_ws b }
@@ -39,16 +37,16 @@ pub fn skip_space(s: &[u8], start: usize) -> usize
 }
 
 // A structural character, with the white space before and after it.
-pub fn structural_at(s: &[u8], at: usize, character: u8) -> After
+pub fn structural_at(s: &[u8], at: usize, character: u8) -> Option<usize>
     requires { at ≤ length s.now }
     ensures { Means s.now result (structural character (drop at s.now)) }
 {
     let place = skip_space(s, at);
     if s.len() <= place {
-        return After::Unread;
+        return None;
     }
     if s[place] != character {
-        return After::Unread;
+        return None;
     }
-    After::Next(skip_space(s, place + 1))
+    Some(skip_space(s, place + 1))
 }

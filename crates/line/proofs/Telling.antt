@@ -1,4 +1,5 @@
 -- All that a well-formed line tells is well formed: each part of what it is. Assumes nothing.
+use Rattle.std.specs.Prelude.{Option, Some, None}
 use mathlib.Core.Path.{◌≡◌, refl, sym, ◌∙◌, ap}
 use mathlib.Core.Bool.{Bool, true, false}
 use mathlib.Core.List.{List}
@@ -7,8 +8,6 @@ use native.Mathlib.Omega.{arith}
 use lib.ListN.{length}
 use Rattle.ground.specs.Choice.{pick}
 use Rattle.ground.proofs.Parts.{take_rest}
-use Rattle.text_places.specs.declared.find.Place.{Place}
-use Rattle.text_places.specs.declared.find.Place.TheVariants.{At, Nowhere}
 use Rattle.text_places.specs.Places.{first_where, starts}
 use Rattle.text_places.proofs.PlaceLaws.{first_inside}
 use Rattle.text_places.proofs.Holds.{first_is}
@@ -17,12 +16,6 @@ use Rattle.text_utf8.proofs.Boundaries.{octets_as, fresh_ascii, drop_octets}
 use Rattle.text_places.specs.declared.spans.Span.{Span}
 use Rattle.text_white.specs.Trim.{trim_both, starts_white}
 use Rattle.text_white.proofs.Cuts.{trim_octets}
-use Rattle.line_parts.specs.declared.arrow.Arrow.{Arrow}
-use Rattle.line_parts.specs.declared.arrow.Arrow.TheVariants.{Sides, NoArrow}
-use Rattle.line_parts.specs.declared.field.Field as field
-use Rattle.line_parts.specs.declared.field.Field.TheVariants as fields
-use Rattle.line_parts.specs.declared.method.MethodParts as method
-use Rattle.line_parts.specs.declared.method.MethodParts.TheVariants as methods
 use Rattle.line.specs.declared.line.Line.{Line}
 use Rattle.line.specs.declared.line.Line.TheVariants.{Blank, Comment, Class, Field, Method, Refused}
 use Rattle.text_places.specs.Spans.{span, shift, is_empty, part_of, Lies}
@@ -33,12 +26,15 @@ use Rattle.line.specs.Kinds.{place_from, comment_at, class_by, class_at, method_
 use Rattle.line_parts.proofs.Lying.{trim_lies, part_length, arrow_lies, class_lies, field_lies, shift_lies}
 use Rattle.line_parts.proofs.Methods.{method_lies}
 use Rattle.line.proofs.Octets.{Stands, stands_part, part_stands, arrow_octets, class_octets, field_octets, MethodOctets, method_octets, method_stands}
+use Rattle.line_parts.specs.declared.method.Method as method
+use Rattle.line_parts.specs.declared.arrow.Sides.{Sides}
+use Rattle.line_parts.specs.declared.field.Field as fields
 
 -- each part of the line `s`, which ends at the place `e` without the white space at its end
 abbrev pub LineOctets : List ℕ → ℕ → Line → Type 0
 LineOctets s e Blank = Unit {0}
-LineOctets s e (Comment Nowhere) = Unit {0}
-LineOctets s e (Comment (At brace)) = Utf8Octets (part_of s (span brace e))
+LineOctets s e (Comment None) = Unit {0}
+LineOctets s e (Comment (Some brace)) = Utf8Octets (part_of s (span brace e))
 LineOctets s e (Class display raw) = Utf8Octets (part_of s display) × Utf8Octets (part_of s raw)
 LineOctets s e (Field declared name raw) = Utf8Octets (part_of s declared) × Utf8Octets (part_of s name) × Utf8Octets (part_of s raw)
 LineOctets s e (Method m raw) = MethodOctets s m × Utf8Octets (part_of s raw)
@@ -49,9 +45,9 @@ module _ (s : List ℕ) (by e : ℕ) (t : List ℕ) (k : Stands s by t) (o : Utf
   comment_octets : e ≡ by + length t → LineOctets s e (comment_at by t)
   comment_octets q = go (first_where (starts 0x7B) t) refl
     where
-      go : (p : Place) → first_where (starts 0x7B) t ≡ p → LineOctets s e (Comment (place_from by p))
-      go Nowhere f = tt
-      go (At i) f =
+      go : (p : Option ℕ) → first_where (starts 0x7B) t ≡ p → LineOctets s e (Comment (place_from by p))
+      go None f = tt
+      go (Some i) f =
           let inside = first_inside (starts 0x7B) t f in
           let is = first_is 0x7B t f in
           let rest : Utf8Octets (part_of t (span i (length t))) = octets_as (sym (take_rest t i)) (drop_octets o i (fresh_ascii t i (omega arith))) in
@@ -60,34 +56,34 @@ module _ (s : List ℕ) (by e : ℕ) (t : List ℕ) (k : Stands s by t) (o : Utf
   class_line_octets : LineOctets s e (class_at by t)
   class_line_octets = go (class_sides t) refl
     where
-      go : (a : Arrow) → class_sides t ≡ a → LineOctets s e (class_by by a)
-      go NoArrow f = tt
-      go (Sides l r) f =
+      go : (a : Option Sides) → class_sides t ≡ a → LineOctets s e (class_by by a)
+      go None f = tt
+      go (Some x) f =
           let (a, b) = class_octets o f in
           let (c, d) = class_lies t f in
-          (octets_as (stands_part k l c) a, octets_as (stands_part k r d) b)
+          (octets_as (stands_part k x.left c) a, octets_as (stands_part k x.right d) b)
 
   module _ (raw : Span) (i : Utf8Octets (part_of s raw)) where
     field_line_octets : LineOctets s e (field_at by raw t)
     field_line_octets = go (field_of t) refl
       where
-        go : (f : field.Field) → field_of t ≡ f → LineOctets s e (field_by by raw f)
-        go fields.NoField f = tt
-        go (fields.Parts d n) f =
+        go : (f : Option fields.Field) → field_of t ≡ f → LineOctets s e (field_by by raw f)
+        go None f = tt
+        go (Some r) f =
             let (a, b) = field_octets o f in
             let (x, y) = field_lies t f in
-            (octets_as (stands_part k d x) a, octets_as (stands_part k n y) b, i)
+            (octets_as (stands_part k r.declared x) a, octets_as (stands_part k r.name y) b, i)
 
     method_line_octets : LineOctets s e (method_at by raw t)
     method_line_octets = go (method_of t) refl
       where
-        go : (m : method.MethodParts) → method_of t ≡ m → LineOctets s e (method_by by raw m)
-        go methods.NoMethod f = tt
-        go (methods.Parts m) f = (method_stands k m (method_lies t f) (method_octets o f), i)
+        go : (m : Option method.Method) → method_of t ≡ m → LineOctets s e (method_by by raw m)
+        go None f = tt
+        go (Some m) f = (method_stands k m (method_lies t f) (method_octets o f), i)
 
-    side_octets : (p : Place) → LineOctets s e (by_side by raw t p)
-    side_octets Nowhere = field_line_octets
-    side_octets (At j) = method_line_octets
+    side_octets : (p : Option ℕ) → LineOctets s e (by_side by raw t p)
+    side_octets None = field_line_octets
+    side_octets (Some j) = method_line_octets
 
 stands_deeper : {s : List ℕ} {by : ℕ} {t : List ℕ} → Stands s by t → (q : Span) → Lies q (length t) → by + length t ≤ length s → Stands s (by + q.start) (part_of t q)
 stands_deeper {s} {by} {t} k q l h =
@@ -97,12 +93,12 @@ stands_deeper {s} {by} {t} k q l h =
 member_octets : (s : List ℕ) (by e : ℕ) (t : List ℕ) → Stands s by t → by + length t ≤ length s → Utf8Octets t → LineOctets s e (member_at by t)
 member_octets s by e t k h o = go (arrow_of t) refl
   where
-    go : (a : Arrow) → arrow_of t ≡ a → LineOctets s e (member_by by t a)
-    go NoArrow f = tt
-    go (Sides l r) f =
+    go : (a : Option Sides) → arrow_of t ≡ a → LineOctets s e (member_by by t a)
+    go None f = tt
+    go (Some x) f =
         let (a, b) = arrow_octets o f in
         let (c, d) = arrow_lies t f in
-        side_octets s (by + l.start) e (part_of t l) (stands_deeper k l c h) a (shift by r) (octets_as (stands_part k r d) b) (first_where (starts 0x28) (part_of t l))
+        side_octets s (by + x.left.start) e (part_of t x.left) (stands_deeper k x.left c h) a (shift by x.right) (octets_as (stands_part k x.right d) b) (first_where (starts 0x28) (part_of t x.left))
 
 -- a line that is well formed tells well-formed texts alone
 pub line_octets : {s : List ℕ} → Utf8Octets s → LineOctets s (trim_both s).«end» (line_of s)

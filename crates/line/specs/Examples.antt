@@ -1,19 +1,18 @@
 -- Worked examples of what a line is, computed from the rules. Places count from the line's first byte.
-use Rattle.std.specs.Prelude.{◌≡◌, refl, true, false, [], ◌∷◌}
+use Rattle.std.specs.Prelude.{◌≡◌, refl, true, false, [], ◌∷◌, Some, None}
 use Rattle.ground.specs.Ascii.{ascii}
-use Rattle.text_places.specs.declared.find.Place.TheVariants.{At, Nowhere}
 use Rattle.text_places.specs.Places.{first_from, last_from}
 use Rattle.text_utf8.specs.Utf8.{lead_of, tails, after_lead, sequence_of, pieces_from}
 use Rattle.text_white.specs.White.{white_ranges, in_ranges, is_white}
 use Rattle.text_white.specs.Trim.{run_of, all_white, trim_end}
 use Rattle.number.specs.Numbers.{digits_from, plain, number_of}
 use Rattle.line_parts.specs.declared.signature.Qualified.TheVariants.{Owned, Plain}
-use Rattle.line_parts.specs.declared.method.LineRange.TheVariants.{Lines, NoLines}
 use Rattle.line.specs.declared.line.Refusal.TheVariants as refusal
 use Rattle.line.specs.declared.line.Line.TheVariants.{Blank, Comment, Class, Field, Method, Refused}
 use Rattle.line_parts.specs.Arguments.{comma_parts, filled, arguments_of}
 use Rattle.line.specs.Kinds.{line_of}
 use Rattle.text_places.specs.Spans.{span}
+use Rattle.line_parts.specs.Methods.{from_to}
 
 examples :
     -- the five lines of document 01's example
@@ -24,11 +23,11 @@ examples :
       returned = span 6 10;
       named = Plain (span 11 14);
       arguments = span 15 21;
-      raw = Lines 1 3;
-      display = Lines 10 12;
+      raw = Some (from_to 1 3);
+      display = Some (from_to 10 12);
       short = false;
     }) (span 32 33))
-    × (line_of (ascii "# {\"id\":1}") ≡ Comment (At 2))
+    × (line_of (ascii "# {\"id\":1}") ≡ Comment (Some 2))
     × (line_of (ascii "") ≡ Blank)
     -- "`1:4: void run()`: empty return type, name `void run`"
     × (line_of (ascii " 1:4: void run() -> c")
@@ -36,8 +35,8 @@ examples :
       returned = span 5 5;
       named = Plain (span 6 14);
       arguments = span 15 15;
-      raw = Lines 1 4;
-      display = Lines 1 4;
+      raw = Some (from_to 1 4);
+      display = Some (from_to 1 4);
       short = false;
     }) (span 20 21))
     -- an owner, a second part that does not read, and no raw range
@@ -46,12 +45,12 @@ examples :
       returned = span 1 4;
       named = Owned (span 5 8) (span 9 10);
       arguments = span 11 14;
-      raw = NoLines;
-      display = Lines 7 7;
+      raw = None;
+      display = Some (from_to 7 7);
       short = true;
     }) (span 23 24))
     -- a comment with no brace, and the refusals
-    × (line_of (ascii " # compiler: R8") ≡ Comment Nowhere)
+    × (line_of (ascii " # compiler: R8") ≡ Comment None)
     × (line_of (ascii "a -> b") ≡ Refused refusal.Class)
     × (line_of (ascii " int n b") ≡ Refused refusal.Member)
     × (line_of (ascii " int run) -> (") ≡ Field (span 1 4) (span 5 9) (span 13 14))

@@ -5,17 +5,16 @@ ghost use Rattle.line_parts.specs.Inner.Opening.{Opens};
 ghost use Rattle.line.specs.Kinds.{refusal_number, line_of, comment_at, class_at, member_at, method_at, field_at};
 
 use line_parts::{
-    Arrow, Field, Method, MethodParts, class_sides, field_parts, method_parts, shifted_method,
-    split_arrow,
+    Field, Method, Sides, class_sides, field_parts, method_parts, shifted_method, split_arrow,
 };
-use text_places::{Place, Span, first_byte, shifted};
+use text_places::{Span, first_byte, shifted};
 use text_white::trim_ends;
 
 #[derive(Clone, Copy)]
 pub enum Line {
     Blank,
     // The place of its `{`.
-    Comment(Place),
+    Comment(Option<usize>),
     Class {
         display: Span,
         raw: Span,
@@ -57,17 +56,17 @@ fn comment_line(s: &[u8], by: usize) -> Line
     requires { by + length s.now ≤ largest }
     ensures { result ≡ comment_at by s.now }
 {
-    let Place::At(brace) = first_byte(s, b'{') else {
-        return Line::Comment(Place::Nowhere);
+    let Some(brace) = first_byte(s, b'{') else {
+        return Line::Comment(None);
     };
-    Line::Comment(Place::At(by + brace))
+    Line::Comment(Some(by + brace))
 }
 
 fn class_line(s: &[u8], by: usize) -> Line
     requires { by + length s.now ≤ largest }
     ensures { result ≡ class_at by s.now }
 {
-    let Arrow::Sides { left, right } = class_sides(s) else {
+    let Some(Sides { left, right }) = class_sides(s) else {
         return Line::Refused(Refusal::Class);
     };
     Line::Class {
@@ -80,7 +79,7 @@ fn method_line(left: &[u8], open: usize, by: usize, raw: Span) -> Line
     requires { (by + length left.now ≤ largest) × Opens left.now «open» }
     ensures { result ≡ method_at by raw left.now }
 {
-    let MethodParts::Parts(method) = method_parts(left, open) else {
+    let Some(method) = method_parts(left, open) else {
         return Line::Refused(Refusal::Method);
     };
     Line::Method {
@@ -93,7 +92,7 @@ fn field_line(left: &[u8], by: usize, raw: Span) -> Line
     requires { by + length left.now ≤ largest }
     ensures { result ≡ field_at by raw left.now }
 {
-    let Field::Parts { declared, name } = field_parts(left) else {
+    let Some(Field { declared, name }) = field_parts(left) else {
         return Line::Refused(Refusal::Field);
     };
     Line::Field {
@@ -107,14 +106,14 @@ fn member_line(s: &[u8], by: usize) -> Line
     requires { by + length s.now ≤ largest }
     ensures { result ≡ member_at by s.now }
 {
-    let Arrow::Sides { left, right } = split_arrow(s) else {
+    let Some(Sides { left, right }) = split_arrow(s) else {
         return Line::Refused(Refusal::Member);
     };
     let start = left.start;
     let end = left.end;
     let side = &s[start..end];
     let raw = shifted(by, right);
-    let Place::At(open) = first_byte(side, b'(') else {
+    let Some(open) = first_byte(side, b'(') else {
         return field_line(side, by + start, raw);
     };
     method_line(side, open, by + start, raw)

@@ -9,7 +9,7 @@ mod method;
 mod signature;
 
 pub use arguments::{NextArgument, next_argument};
-pub use arrow::{Arrow, class_sides, split_arrow};
+pub use arrow::{Sides, class_sides, split_arrow};
 pub use field::{Field, field_parts};
-pub use method::{LineRange, Method, MethodParts, method_parts, shifted_method};
+pub use method::{LineRange, Method, method_parts, shifted_method};
 pub use signature::{Qualified, name_span};

@@ -7,14 +7,14 @@ ghost use Rattle.line_parts.specs.Inner.Opening.{Opens};
 
 use crate::signature::{Qualified, Signature, signature_in};
 use number::{LeadingRange, TrailingRange, leading_range};
-use text_places::{Place, Span, shifted};
+use text_places::{Span, shifted};
 use text_white::{first_white, trim_both};
 
 // A range of line numbers, if there is one.
 #[derive(Clone, Copy)]
-pub enum LineRange {
-    Lines { start: u32, end: u32 },
-    NoLines,
+pub struct LineRange {
+    pub start: u32,
+    pub end: u32,
 }
 
 // A method's parts. `short` tells that its display range has a second part that does not read.
@@ -23,15 +23,9 @@ pub struct Method {
     pub returned: Span,
     pub named: Qualified,
     pub arguments: Span,
-    pub raw: LineRange,
-    pub display: LineRange,
+    pub raw: Option<LineRange>,
+    pub display: Option<LineRange>,
     pub short: bool,
-}
-
-#[derive(Clone, Copy)]
-pub enum MethodParts {
-    Parts(Method),
-    NoMethod,
 }
 
 // A name in what starts at the place `by`.
@@ -73,25 +67,27 @@ fn settled(
     returned: Span,
     named: Qualified,
     arguments: Span,
-    raw: LineRange,
-    lines: TrailingRange,
+    raw: Option<LineRange>,
+    lines: Option<TrailingRange>,
 ) -> Method
     ensures { result ≡ settled_of returned named arguments raw lines }
 {
     match lines {
-        TrailingRange::Taken {
-            start,
-            end,
-            second_unread,
-        } => Method {
+        Some(
+            TrailingRange {
+                start,
+                end,
+                second_unread,
+            },
+        ) => Method {
             returned,
             named,
             arguments,
             raw,
-            display: LineRange::Lines { start, end },
+            display: Some(LineRange { start, end }),
             short: second_unread,
         },
-        TrailingRange::NotTaken => Method {
+        None => Method {
             returned,
             named,
             arguments,
@@ -103,26 +99,21 @@ fn settled(
 }
 
 // A method from its return type on, which starts at the place `rest`.
-fn method_from(left: &[u8], open: usize, rest: usize, raw: LineRange) -> MethodParts
+fn method_from(left: &[u8], open: usize, rest: usize, raw: Option<LineRange>) -> Option<Method>
     requires { (rest ≤ length left.now) × Opens left.now «open» }
     ensures { result ≡ method_from left.now rest raw }
 {
-    let Place::At(white) = first_white(&left[rest..]) else {
-        return MethodParts::NoMethod;
-    };
+    let white = first_white(&left[rest..])?;
     let base = rest + white;
     let part = trim_both(&left[base..]);
     let start = base + part.start;
     let end = base + part.end;
-    let Signature::Parts {
+    let Signature {
         named,
         arguments,
         lines,
-    } = signature_in(left, open, start, end)
-    else {
-        return MethodParts::NoMethod;
-    };
-    MethodParts::Parts(settled(
+    } = signature_in(left, open, start, end)?;
+    Some(settled(
         Span {
             start: rest,
             end: base,
@@ -135,12 +126,12 @@ fn method_from(left: &[u8], open: usize, rest: usize, raw: LineRange) -> MethodP
 }
 
 // `open` is the place of the first `(`: a caller has looked for it, to tell a method from a field.
-pub fn method_parts(left: &[u8], open: usize) -> MethodParts
+pub fn method_parts(left: &[u8], open: usize) -> Option<Method>
     requires { Opens left.now «open» }
     ensures { result ≡ method_of left.now }
 {
-    let LeadingRange::Taken { start, end, rest } = leading_range(left) else {
-        return method_from(left, open, 0, LineRange::NoLines);
+    let Some(LeadingRange { start, end, rest }) = leading_range(left) else {
+        return method_from(left, open, 0, None);
     };
-    method_from(left, open, rest, LineRange::Lines { start, end })
+    method_from(left, open, rest, Some(LineRange { start, end }))
 }

@@ -6,7 +6,7 @@ ghost use Rattle.line_parts.specs.Signatures.{name_span, qualified_of, lines_aft
 ghost use Rattle.line_parts.specs.Inner.Opening.{Opens};
 
 use number::{TrailingRange, trailing_range};
-use text_places::{Place, Span, first_byte, last_byte, shifted};
+use text_places::{Span, first_byte, last_byte, shifted};
 use text_white::trim_both;
 
 // A method's name, with its owner where it has one.
@@ -27,24 +27,21 @@ pub fn name_span(named: Qualified) -> Span
 }
 
 #[derive(Clone, Copy)]
-pub enum Signature {
-    Parts {
-        named: Qualified,
-        arguments: Span,
-        lines: TrailingRange,
-    },
-    NoSignature,
+pub struct Signature {
+    pub named: Qualified,
+    pub arguments: Span,
+    pub lines: Option<TrailingRange>,
 }
 
 // The dot that splits owner and name: the last one.
-fn last_dot(s: &[u8]) -> Place
+fn last_dot(s: &[u8]) -> Option<usize>
     ensures { result ≡ last_where (starts 0x2E) s.now }
 {
     last_byte(s, b'.')
 }
 
 // The `)` that ends the arguments: the last one.
-fn last_close(s: &[u8]) -> Place
+fn last_close(s: &[u8]) -> Option<usize>
     ensures { result ≡ last_where (starts 0x29) s.now }
 {
     last_byte(s, b')')
@@ -54,7 +51,7 @@ fn last_close(s: &[u8]) -> Place
 fn owner_and_name(s: &[u8]) -> Qualified
     ensures { result ≡ qualified_of s.now }
 {
-    let Place::At(dot) = last_dot(s) else {
+    let Some(dot) = last_dot(s) else {
         return Qualified::Plain {
             name: Span {
                 start: 0,
@@ -72,7 +69,7 @@ fn owner_and_name(s: &[u8]) -> Qualified
 }
 
 // The range in what follows the `)`, trimmed.
-fn lines_after(s: &[u8]) -> TrailingRange
+fn lines_after(s: &[u8]) -> Option<TrailingRange>
     ensures { result ≡ lines_after s.now }
 {
     let part = trim_both(s);
@@ -82,48 +79,44 @@ fn lines_after(s: &[u8]) -> TrailingRange
 }
 
 // What follows the return type, trimmed; `opened` is the place of its first `(`, if it has one.
-fn signature_parts(s: &[u8], opened: Place) -> Signature
+fn signature_parts(s: &[u8], opened: Option<usize>) -> Option<Signature>
     requires { opened ≡ first_where (starts 0x28) s.now }
     ensures { result ≡ method_signature s.now }
 {
-    let Place::At(open) = opened else {
-        return Signature::NoSignature;
-    };
-    let Place::At(close) = last_close(s) else {
-        return Signature::NoSignature;
-    };
+    let open = opened?;
+    let close = last_close(s)?;
     if close < open {
-        return Signature::NoSignature;
+        return None;
     }
     let named = owner_and_name(&s[..open]);
     let after = close + 1;
     let lines = lines_after(&s[after..]);
-    Signature::Parts {
+    Some(Signature {
         named,
         arguments: Span {
             start: open + 1,
             end: close,
         },
         lines,
-    }
+    })
 }
 
 // The first `(` of a part, by the first one of the whole, which stands at the place `open`.
-fn open_in(left: &[u8], open: usize, start: usize, end: usize) -> Place
+fn open_in(left: &[u8], open: usize, start: usize, end: usize) -> Option<usize>
     requires { (start ≤ «end») × («end» ≤ length left.now) × Opens left.now «open» }
     ensures { result ≡ first_where (starts 0x28) (between left.now start «end») }
 {
     if start <= open {
         if open < end {
-            return Place::At(open - start);
+            return Some(open - start);
         }
-        return Place::Nowhere;
+        return None;
     }
     first_byte(&left[start..end], b'(')
 }
 
 // The signature in a part of a left side whose first `(` stands at the place `open`.
-pub fn signature_in(left: &[u8], open: usize, start: usize, end: usize) -> Signature
+pub fn signature_in(left: &[u8], open: usize, start: usize, end: usize) -> Option<Signature>
     requires { (start ≤ «end») × («end» ≤ length left.now) × Opens left.now «open» }
     ensures { result ≡ method_signature (between left.now start «end») }
 {

@@ -1,14 +1,11 @@
 -- What an answer about a line says is what its rule says, case by case. Assumes nothing.
+use Rattle.std.specs.Prelude.{Option, Some, None}
 use mathlib.Core.Path.{◌≡◌, sym, ◌∙◌, ap}
 use mathlib.Core.List.{List, [], ◌∷◌}
 use Prim.Native.Nat.{ℕ, ◌+◌}
 use borrow.Author.Rules.{rules}
 use Rattle.ground.specs.Choice.{bit}
-use Rattle.text_places.specs.declared.find.Place.{Place}
-use Rattle.text_places.specs.declared.find.Place.TheVariants.{At, Nowhere}
 use Rattle.text_places.specs.declared.spans.Span.{Span}
-use Rattle.line_parts.specs.declared.arguments.NextArgument.{NextArgument}
-use Rattle.line_parts.specs.declared.arguments.NextArgument.TheVariants.{Argument, NoArgument}
 use Rattle.line_parts.specs.declared.signature.Qualified.{Qualified}
 use Rattle.line_parts.specs.declared.signature.Qualified.TheVariants.{Owned, Plain}
 use Rattle.line_parts.specs.declared.method.Method.{Method}
@@ -21,12 +18,14 @@ use Rattle.line_parts.specs.Signatures.{name_span}
 use Rattle.line_probes.specs.LineAnswers.{owned, owner_span, lined, first_line, last_line, seven_numbers, comment_line_numbers, class_numbers, field_numbers, method_numbers, line_kind_numbers, argument_numbers}
 use Rattle.line_probes.proofs.Braces.{brace_counts}
 use Rattle.text_places.proofs.PlaceLaws.{place_fits}
+use Rattle.line_parts.specs.declared.arguments.NextArgument.{NextArgument}
+use Rattle.line_parts.specs.Inner.NextArgument.{taken_argument}
 
 module _ {t x : Line} (e : t ≡ x) where
   pub said_blank : {n : List ℕ} → t ≡ lines.Blank → n ≡ seven_numbers 0 0 0 0 0 0 0 → n ≡ line_kind_numbers x
   said_blank g f = f ∙ sym (ap line_kind_numbers (sym e ∙ g))
 
-  pub said_comment : {p : Place} {n : List ℕ} → t ≡ lines.Comment p → n ≡ comment_line_numbers p → n ≡ line_kind_numbers x
+  pub said_comment : {p : Option ℕ} {n : List ℕ} → t ≡ lines.Comment p → n ≡ comment_line_numbers p → n ≡ line_kind_numbers x
   said_comment g f = f ∙ sym (ap line_kind_numbers (sym e ∙ g))
 
   pub said_class : {d r : Span} {n : List ℕ} → t ≡ lines.Class d r → n ≡ class_numbers d r → n ≡ line_kind_numbers x
@@ -43,20 +42,20 @@ module _ {t x : Line} (e : t ≡ x) where
 
 pub ruleset said_lines = (said_blank, said_comment, said_class, said_field, said_method, said_refused, brace_counts, rules)
 
-module _ {t x : NextArgument} (e : t ≡ x) where
-  pub said_argument : {a b c : ℕ} → t ≡ Argument a b c → 1 ∷ a ∷ b ∷ c ∷ [] ≡ argument_numbers x
+module _ {t x : Option NextArgument} (e : t ≡ x) where
+  pub said_argument : {y : NextArgument} → t ≡ Some y → 1 ∷ y.start ∷ y.«end» ∷ y.next ∷ [] ≡ argument_numbers x
   said_argument g = sym (ap argument_numbers (sym e ∙ g))
 
-  pub said_no_argument : t ≡ NoArgument → 0 ∷ 0 ∷ 0 ∷ 0 ∷ [] ≡ argument_numbers x
+  pub said_no_argument : t ≡ None → 0 ∷ 0 ∷ 0 ∷ 0 ∷ [] ≡ argument_numbers x
   said_no_argument g = sym (ap argument_numbers (sym e ∙ g))
 
 pub ruleset said_arguments = (said_argument, said_no_argument, rules)
 
 -- The place of a comment's `{`.
-pub brace_at : {p : Place} {i : ℕ} {n : List ℕ} → p ≡ At i → n ≡ seven_numbers 1 (i + 1) 0 0 0 0 0 → n ≡ comment_line_numbers p
+pub brace_at : {p : Option ℕ} {i : ℕ} {n : List ℕ} → p ≡ Some i → n ≡ seven_numbers 1 (i + 1) 0 0 0 0 0 → n ≡ comment_line_numbers p
 brace_at g f = f ∙ sym (ap comment_line_numbers g)
 
-pub brace_none : {p : Place} {n : List ℕ} → p ≡ Nowhere → n ≡ seven_numbers 1 0 0 0 0 0 0 → n ≡ comment_line_numbers p
+pub brace_none : {p : Option ℕ} {n : List ℕ} → p ≡ None → n ≡ seven_numbers 1 0 0 0 0 0 0 → n ≡ comment_line_numbers p
 brace_none g f = f ∙ sym (ap comment_line_numbers g)
 
 pub ruleset said_braces = (brace_at, brace_none, place_fits, rules)

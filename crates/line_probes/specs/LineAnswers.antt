@@ -1,22 +1,19 @@
 -- What a line is, as 20 numbers: which kind it is, then what that holds; a part is its start and its end, and what a kind does not hold
 -- is 0.
-use Rattle.std.specs.Prelude.{List, [], ◌∷◌, ℕ}
+use Rattle.std.specs.Prelude.{List, [], ◌∷◌, ℕ, Option, Some, None}
 use Rattle.ground.specs.Choice.{bit}
-use Rattle.text_places.specs.declared.find.Place.{Place}
 use Rattle.text_places.specs.Places.{place_number}
 use Rattle.text_places.specs.declared.spans.Span.{Span}
-use Rattle.line_parts.specs.declared.arguments.NextArgument.{NextArgument}
-use Rattle.line_parts.specs.declared.arguments.NextArgument.TheVariants.{Argument, NoArgument}
 use Rattle.line_parts.specs.declared.signature.Qualified.{Qualified}
 use Rattle.line_parts.specs.declared.signature.Qualified.TheVariants.{Owned, Plain}
-use Rattle.line_parts.specs.declared.method.LineRange.{LineRange}
-use Rattle.line_parts.specs.declared.method.LineRange.TheVariants.{Lines, NoLines}
 use Rattle.line_parts.specs.declared.method.Method.{Method}
 use Rattle.line.specs.declared.line.Line.{Line}
 use Rattle.line.specs.declared.line.Line.TheVariants as lines
 use Rattle.line.specs.Kinds.{refusal_number}
 use Rattle.text_places.specs.Spans.{span}
 use Rattle.line_parts.specs.Signatures.{name_span}
+use Rattle.line_parts.specs.declared.arguments.NextArgument.{NextArgument}
+use Rattle.line_parts.specs.declared.method.LineRange.{LineRange}
 
 -- 1 for a name with an owner
 abbrev pub owned : Qualified → ℕ
@@ -28,23 +25,23 @@ owner_span (Owned owner name) = owner
 owner_span (Plain name) = span 0 0
 
 -- 1 for a range
-abbrev pub lined : LineRange → ℕ
-lined (Lines a e) = 1
-lined NoLines = 0
+abbrev pub lined : Option LineRange → ℕ
+lined (Some r) = 1
+lined None = 0
 
-abbrev pub first_line : LineRange → ℕ
-first_line (Lines a e) = a
-first_line NoLines = 0
+abbrev pub first_line : Option LineRange → ℕ
+first_line (Some r) = r.start
+first_line None = 0
 
-abbrev pub last_line : LineRange → ℕ
-last_line (Lines a e) = e
-last_line NoLines = 0
+abbrev pub last_line : Option LineRange → ℕ
+last_line (Some r) = r.«end»
+last_line None = 0
 
 -- an answer of at most seven numbers
 abbrev pub seven_numbers : ℕ → ℕ → ℕ → ℕ → ℕ → ℕ → ℕ → List ℕ
 seven_numbers kind a b c d e f = kind ∷ a ∷ b ∷ c ∷ d ∷ e ∷ f ∷ 0 ∷ 0 ∷ 0 ∷ 0 ∷ 0 ∷ 0 ∷ 0 ∷ 0 ∷ 0 ∷ 0 ∷ 0 ∷ 0 ∷ 0 ∷ []
 
-abbrev pub comment_line_numbers : Place → List ℕ
+abbrev pub comment_line_numbers : Option ℕ → List ℕ
 comment_line_numbers brace = seven_numbers 1 (place_number brace) 0 0 0 0 0
 
 abbrev pub class_numbers : Span → Span → List ℕ
@@ -70,6 +67,6 @@ line_kind_numbers (lines.Field declared name raw) = field_numbers declared name 
 line_kind_numbers (lines.Method m raw) = method_numbers m raw
 line_kind_numbers (lines.Refused r) = seven_numbers 5 (refusal_number r) 0 0 0 0 0
 
-abbrev pub argument_numbers : NextArgument → List ℕ
-argument_numbers (Argument start «end» next) = 1 ∷ start ∷ «end» ∷ next ∷ []
-argument_numbers NoArgument = 0 ∷ 0 ∷ 0 ∷ 0 ∷ []
+abbrev pub argument_numbers : Option NextArgument → List ℕ
+argument_numbers (Some r) = 1 ∷ r.start ∷ r.«end» ∷ r.next ∷ []
+argument_numbers None = 0 ∷ 0 ∷ 0 ∷ 0 ∷ []

@@ -8,7 +8,7 @@ ghost use Rattle.line_probes.specs.LineAnswers.{seven_numbers, comment_line_numb
 use crate::methods::method_numbers;
 use line::Line;
 use line_parts::NextArgument;
-use text_places::{Place, Span};
+use text_places::Span;
 
 // An answer of at most seven numbers.
 fn seven(kind: u64, a: u64, b: u64, c: u64, d: u64, e: u64, f: u64) -> [u64; 20]
@@ -20,13 +20,13 @@ fn seven(kind: u64, a: u64, b: u64, c: u64, d: u64, e: u64, f: u64) -> [u64; 20]
 }
 
 // A comment, by the place of its `{`, counted from 1.
-fn comment_numbers(brace: Place) -> [u64; 20]
+fn comment_numbers(brace: Option<usize>) -> [u64; 20]
     requires { place_number brace < 2 ^ 64 }
     ensures { result ≡ comment_line_numbers brace }
 {
     match brace {
-        Place::At(i) => seven(1, i as u64 + 1, 0, 0, 0, 0, 0),
-        Place::Nowhere => seven(1, 0, 0, 0, 0, 0, 0),
+        Some(i) => seven(1, i as u64 + 1, 0, 0, 0, 0, 0),
+        None => seven(1, 0, 0, 0, 0, 0, 0),
     }
 }
 
@@ -93,10 +93,10 @@ pub extern "C" fn clumarief_probe_argument(text: &[u8], at: usize, answer: &mut 
     ensures { answer.new ≡ argument_numbers (next_argument text.now at) }
 {
     match line_parts::next_argument(text, at) {
-        NextArgument::Argument { start, end, next } => {
+        Some(NextArgument { start, end, next }) => {
             *answer = [1, start as u64, end as u64, next as u64];
         }
-        NextArgument::NoArgument => {
+        None => {
             *answer = [0, 0, 0, 0];
         }
     }

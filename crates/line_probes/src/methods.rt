@@ -25,30 +25,30 @@ fn owner_of(named: Qualified) -> Span
 }
 
 // Whether there is a range.
-fn has_lines(lines: LineRange) -> u64
+fn has_lines(lines: Option<LineRange>) -> u64
     ensures { result ≡ lined lines }
 {
     match lines {
-        LineRange::Lines { start, end } => 1,
-        LineRange::NoLines => 0,
+        Some(LineRange { start, end }) => 1,
+        None => 0,
     }
 }
 
-fn first_line(lines: LineRange) -> u64
+fn first_line(lines: Option<LineRange>) -> u64
     ensures { result ≡ first_line lines }
 {
     match lines {
-        LineRange::Lines { start, end } => start as u64,
-        LineRange::NoLines => 0,
+        Some(LineRange { start, end }) => start as u64,
+        None => 0,
     }
 }
 
-fn last_line(lines: LineRange) -> u64
+fn last_line(lines: Option<LineRange>) -> u64
     ensures { result ≡ last_line lines }
 {
     match lines {
-        LineRange::Lines { start, end } => end as u64,
-        LineRange::NoLines => 0,
+        Some(LineRange { start, end }) => end as u64,
+        None => 0,
     }
 }
 

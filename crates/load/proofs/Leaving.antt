@@ -1,4 +1,5 @@
 -- What is left in the lent rows and the pool. Assumes nothing.
+use Rattle.std.specs.Prelude.{Result}
 use mathlib.Core.Path.{◌≡◌, sym, ◌∙◌, ap}
 use mathlib.Core.Bool.{Bool, true, false}
 use mathlib.Core.List.{List, ◌++◌, append_assoc}
@@ -12,10 +13,11 @@ use Rattle.ground.specs.Put.{put}
 use Rattle.ground.proofs.Parts.{prefix_whole}
 use Rattle.ground.proofs.PutLaws.{put_same_many}
 use Rattle.table_rows.specs.Rows.{zero_class, zero_member, most_members, most_classes, most_pool}
-use Rattle.load_rule.specs.declared.Load.{Load}
 use Rattle.load_rule.specs.Loading.{counting, lines_load, is_loaded, class_rows_of, member_rows_of, pool_of, most_text, lent}
 use Rattle.load.specs.Inner.Into.{Limits, IntoBy}
 use Rattle.load.specs.Inner.Left.{Cleared, Left}
+use Rattle.load_rule.specs.declared.Loaded.{Loaded}
+use Rattle.load_rule.specs.declared.LoadError.{LoadError}
 
 -- Part of what was made zero.
 module _ {A : Type 0} (z : A) (n x : ℕ) (h : x ≤ n) where
@@ -64,7 +66,7 @@ module _ {nc nm np : ℕ} {c m : List (List ℕ)} {p : List ℕ} (k : Cleared nc
   pub pool_part : w ≤ length p
   pool_part = omega arith
 
-  module _ (ls : List (List ℕ)) {r : Load} {c₁ m₁ : List (List ℕ)} {p₁ : List ℕ} (i : IntoBy r ls (take x c) (take y m) (take w p) c₁ m₁ p₁) {t : Bool} (e : t ≡ is_loaded r) where
+  module _ (ls : List (List ℕ)) {r : Result Loaded LoadError} {c₁ m₁ : List (List ℕ)} {p₁ : List ℕ} (i : IntoBy r ls (take x c) (take y m) (take w p) c₁ m₁ p₁) {t : Bool} (e : t ≡ is_loaded r) where
     answers : r ≡ lines_load ls (counting (lent nc nm np))
     answers =
         i.answer

@@ -1,13 +1,15 @@
 -- The promise of an entry point leaves one outcome. Assumes nothing.
+use Rattle.std.specs.Prelude.{Result}
 use mathlib.Core.Path.{◌≡◌, sym, ◌∙◌}
 use mathlib.Core.List.{List}
 use Prim.Native.Nat.{ℕ}
 use Rattle.ground.specs.Outcome.{OneOutcome}
 use Rattle.table_rows.specs.Tables.{Tables, tables}
-use Rattle.load_rule.specs.declared.Load.{Load}
 use Rattle.load.specs.Loads.{Loads, Outcome, outcome}
+use Rattle.load_rule.specs.declared.Loaded.{Loaded}
+use Rattle.load_rule.specs.declared.LoadError.{LoadError}
 
-same_outcome : {r q : Load} {c d m n : List (List ℕ)} {p o : List ℕ} → r ≡ q → c ≡ d → m ≡ n → p ≡ o →
+same_outcome : {r q : Result Loaded LoadError} {c d m n : List (List ℕ)} {p o : List ℕ} → r ≡ q → c ≡ d → m ≡ n → p ≡ o →
     outcome r (tables c m p) ≡ outcome q (tables d n o)
 same_outcome e f g h = rw (e, f, g, h)
 

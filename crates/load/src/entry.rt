@@ -5,30 +5,32 @@ ghost use Rattle.load_rule.specs.Loading.{is_loaded, lines_parse, lines_str, len
 ghost use Rattle.load.specs.Inner.Left.{Cleared, Left, Leaving};
 
 use crate::fill::load_into;
-use load_rule::{Load, MOST_TEXT};
+use load_rule::{Fault, LoadError, Loaded, MOST_TEXT};
 use table_rows::{
     ClassRow, MOST_CLASSES, MOST_MEMBERS, MOST_POOL, MemberRow, zero_bytes, zero_classes,
     zero_members,
 };
 use tables::lesser;
-use text_utf8::{Check, check_text};
+use text_utf8::{Broken, check_text};
 use text_white::after_marks;
 
-fn is_loaded(load: Load) -> bool
+fn is_loaded(load: Result<Loaded, LoadError>) -> bool
     ensures { result ≡ is_loaded load }
 {
     match load {
-        Load::Loaded { fates: _, names: _ } => true,
-        Load::TooLong => false,
-        Load::NotUtf8 {
-            valid: _,
-            length: _,
-        } => false,
-        Load::Faulty { number: _, line: _ } => false,
-        Load::NoClasses => false,
-        Load::FewClassRows => false,
-        Load::FewMemberRows => false,
-        Load::ShortPool => false,
+        Ok(Loaded { fates: _, names: _ }) => true,
+        Err(LoadError::TooLong) => false,
+        Err(
+            LoadError::NotUtf8 {
+                valid: _,
+                length: _,
+            },
+        ) => false,
+        Err(LoadError::Faulty(Fault { number: _, line: _ })) => false,
+        Err(LoadError::NoClasses) => false,
+        Err(LoadError::FewClassRows) => false,
+        Err(LoadError::FewMemberRows) => false,
+        Err(LoadError::ShortPool) => false,
     }
 }
 
@@ -50,7 +52,7 @@ fn load_lines(
     classes: &mut [ClassRow],
     members: &mut [MemberRow],
     pool: &mut [u8],
-) -> Load
+) -> Result<Loaded, LoadError>
     requires { length text.now ≤ most_text }
     ensures { let c = length classes.old in
         let m = length members.old in
@@ -81,7 +83,7 @@ fn load_from(
     classes: &mut [ClassRow],
     members: &mut [MemberRow],
     pool: &mut [u8],
-) -> Load
+) -> Result<Loaded, LoadError>
     requires { start ≤ length text.now }
     ensures { let s = text.now in
         let c = length classes.old in
@@ -91,16 +93,16 @@ fn load_from(
 {
     if MOST_TEXT < text.len() {
         clear(classes, members, pool);
-        return Load::TooLong;
+        return Err(LoadError::TooLong);
     }
     match check_text(text) {
-        Check::Valid => load_lines(&text[start..], classes, members, pool),
-        Check::Broken { at, length } => {
+        Ok(()) => load_lines(&text[start..], classes, members, pool),
+        Err(Broken { at, length }) => {
             clear(classes, members, pool);
-            Load::NotUtf8 {
+            Err(LoadError::NotUtf8 {
                 valid: at as u32,
                 length: length as u32,
-            }
+            })
         }
     }
 }
@@ -111,7 +113,7 @@ pub fn parse_str(
     classes: &mut [ClassRow],
     members: &mut [MemberRow],
     pool: &mut [u8],
-) -> Load
+) -> Result<Loaded, LoadError>
     ensures { let s = text.now in
         let ls = lines_str s in
         let room = lent (length classes.old) (length members.old) (length pool.old) in
@@ -130,7 +132,7 @@ pub fn parse(
     classes: &mut [ClassRow],
     members: &mut [MemberRow],
     pool: &mut [u8],
-) -> Load
+) -> Result<Loaded, LoadError>
     ensures { let s = text.now in
         let ls = lines_parse s in
         let room = lent (length classes.old) (length members.old) (length pool.old) in

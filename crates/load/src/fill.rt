@@ -10,38 +10,42 @@ ghost use Rattle.load_members.specs.Inner.Filled.{FilledBy};
 ghost use Rattle.tables.specs.Back.{read_back};
 ghost use Rattle.table_rows.specs.Rows.{most_classes, most_pool};
 
-use load_classes::{Classes, write_classes};
-use load_members::{Filled, write_members};
-use load_rule::{Fates, Load, Scan};
+use load_classes::{Classes, ClassesError, write_classes};
+use load_members::{FillError, Filled, write_members};
+use load_rule::{Fates, Fault, LoadError, Loaded};
 use load_scan::{no_fates, scan_from};
 use table_index::{INDEX, index_classes};
 use table_rows::{ClassRow, MemberRow};
 use tables::Side;
 
 // The answer where rows or pool are too few: the first faulty line, else what is missing first.
-fn refused(scan: Scan, class_rows: usize, member_rows: usize) -> Load
+fn refused(
+    scan: Result<Fates, Fault>,
+    class_rows: usize,
+    member_rows: usize,
+) -> Result<Loaded, LoadError>
     requires { Counted scan }
     ensures { result ≡ refused_of scan class_rows member_rows }
 {
     match scan {
-        Scan::Faulty { number, line } => Load::Faulty { number, line },
-        Scan::Sound(sum) => {
+        Err(fault) => Err(LoadError::Faulty(fault)),
+        Ok(sum) => {
             if sum.class == 0 {
-                return Load::NoClasses;
+                return Err(LoadError::NoClasses);
             }
             if class_rows < sum.class as usize {
-                return Load::FewClassRows;
+                return Err(LoadError::FewClassRows);
             }
             if member_rows < (sum.field + sum.method) as usize {
-                return Load::FewMemberRows;
+                return Err(LoadError::FewMemberRows);
             }
-            Load::ShortPool
+            Err(LoadError::ShortPool)
         }
     }
 }
 
 // What becomes of all lines.
-fn scan_all(text: &[u8]) -> Scan
+fn scan_all(text: &[u8]) -> Result<Fates, Fault>
     requires { length text.now ≤ most_text }
     ensures { result ≡ scan_of (lines text.now) }
 {
@@ -49,17 +53,17 @@ fn scan_all(text: &[u8]) -> Scan
 }
 
 // The answer once all is written.
-fn accepted(fates: Fates, end: usize) -> Load
+fn accepted(fates: Fates, end: usize) -> Result<Loaded, LoadError>
     requires { «end» ≤ most_pool }
     ensures { result ≡ accepted_of fates «end» }
 {
     if fates.class == 0 {
-        return Load::NoClasses;
+        return Err(LoadError::NoClasses);
     }
-    Load::Loaded {
+    Ok(Loaded {
         fates,
         names: end as u32,
-    }
+    })
 }
 
 // The members of a text, once all class rows are known: `classes` are these, with their descriptors in the pool before the place `used`.
@@ -69,7 +73,7 @@ fn fill_indexed(
     members: &mut [MemberRow],
     pool: &mut [u8],
     used: usize,
-) -> Filled
+) -> Result<Filled, FillError>
     requires { (length text.now ≤ most_text)
         × (length classes.now ≤ most_classes)
         × (length pool.old ≤ most_pool)
@@ -93,7 +97,7 @@ fn fill_members(
     members: &mut [MemberRow],
     pool: &mut [u8],
     used: usize,
-) -> Filled
+) -> Result<Filled, FillError>
     requires { (read_back classes.now pool.old ≡ classes_of (lines text.now))
         × (length text.now ≤ most_text)
         × (length classes.now ≤ most_classes)
@@ -116,7 +120,7 @@ pub fn load_into(
     classes: &mut [ClassRow],
     members: &mut [MemberRow],
     pool: &mut [u8],
-) -> Load
+) -> Result<Loaded, LoadError>
     requires { Limits (length text.now) (length classes.old) (length members.old) (length pool.old) }
     ensures { let ls = lines text.now in
         IntoBy result ls classes.old members.old pool.old
@@ -125,14 +129,14 @@ pub fn load_into(
     let class_rows = classes.len();
     let member_rows = members.len();
     match write_classes(text, classes, pool) {
-        Classes::Written { count, end } => {
+        Ok(Classes { count, end }) => {
             match fill_members(text, &classes[..count], members, pool, end) {
-                Filled::Written { fates, end: names } => accepted(fates, names),
-                Filled::Faulty { number, line } => Load::Faulty { number, line },
-                Filled::Short(scan) => refused(scan, class_rows, member_rows),
+                Ok(Filled { fates, end: names }) => accepted(fates, names),
+                Err(FillError::Faulty(fault)) => Err(LoadError::Faulty(fault)),
+                Err(FillError::Short(scan)) => refused(scan, class_rows, member_rows),
             }
         }
-        Classes::FewRows => refused(scan_all(text), class_rows, member_rows),
-        Classes::ShortPool => refused(scan_all(text), class_rows, member_rows),
+        Err(ClassesError::FewRows) => refused(scan_all(text), class_rows, member_rows),
+        Err(ClassesError::ShortPool) => refused(scan_all(text), class_rows, member_rows),
     }
 }

@@ -1,7 +1,6 @@
 // What is written for a case.
 use load::parse;
 use load_report::report_line;
-use load_rule::Load;
 use std::io;
 
 // `parse`, with 16 class rows, 16 member rows and 512 pool bytes, so that a short text can need more.
@@ -13,8 +12,8 @@ pub fn answer(rt: &impl Print, document: &[u8]) -> io::Result<()> {
     let mut line = [0u8; 256];
     let size = report_line(load, &mut line);
     replay::words(rt, &line[..size])?;
-    if let Load::Loaded { fates: _, names } = load {
-        let used = names as usize;
+    if let Ok(loaded) = load {
+        let used = loaded.names as usize;
         replay::words(rt, &pool[..used])?;
         replay::words(rt, b"\n")?;
     }

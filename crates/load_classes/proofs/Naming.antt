@@ -1,9 +1,9 @@
 -- The names of a class line. Assumes nothing.
+use Rattle.std.specs.Prelude.{Option}
 use mathlib.Core.Path.{◌≡◌, sym, ◌∙◌, ap}
 use mathlib.Core.List.{List, []}
 use Prim.Native.Nat.{ℕ}
 use borrow.Author.Rules.{rules}
-use Rattle.text_places.specs.declared.find.Place.{Place}
 use Rattle.text_places.specs.declared.spans.Span.{Span}
 use Rattle.text_white.specs.Trim.{trim_both}
 use Rattle.text_white.proofs.TrimLaws.{trim_inside}
@@ -22,7 +22,7 @@ module _ (l : List ℕ) {t : Line} (e : t ≡ line_of l) where
   pub read_blank : t ≡ kinds.Blank → class_in l (line_of l) ≡ []
   read_blank f = ap (class_in l) (sym e ∙ f)
 
-  pub read_comment : {brace : Place} → t ≡ kinds.Comment brace → class_in l (line_of l) ≡ []
+  pub read_comment : {brace : Option ℕ} → t ≡ kinds.Comment brace → class_in l (line_of l) ≡ []
   read_comment f = ap (class_in l) (sym e ∙ f)
 
   pub read_field : {d n r : Span} → t ≡ kinds.Field d n r → class_in l (line_of l) ≡ []

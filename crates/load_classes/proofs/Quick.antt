@@ -1,4 +1,5 @@
 -- Lines that show by their first byte that they are no class lines. Assumes nothing.
+use Rattle.std.specs.Prelude.{Option, Some, None}
 use mathlib.Core.Path.{◌≡◌, refl, sym, ◌∙◌, ap}
 use mathlib.Core.Bool.{Bool, true, false}
 use mathlib.Core.List.{List, [], ◌∷◌}
@@ -8,19 +9,11 @@ use lib.ListN.{get_or, take}
 use borrow.Author.Tests.{eq-eqb, ne_eqb, eqb-true, eqb-false}
 use borrow.Author.Rules.{rules}
 use Rattle.ground.specs.Choice.{pick}
-use Rattle.text_places.specs.declared.find.Place.{Place}
-use Rattle.text_places.specs.declared.find.Place.TheVariants.{At, Nowhere}
 use Rattle.text_places.specs.Places.{first_where, starts}
 use Rattle.text_utf8.specs.Utf8.{lead_of, tails, after_lead, sequence_of, pieces_from}
 use Rattle.text_places.specs.declared.spans.Span.{Span}
 use Rattle.text_white.specs.White.{white_ranges, in_ranges, is_white}
 use Rattle.text_white.specs.Trim.{run_of, trim_end, trim_both, starts_white}
-use Rattle.line_parts.specs.declared.arrow.Arrow.{Arrow}
-use Rattle.line_parts.specs.declared.arrow.Arrow.TheVariants.{Sides, NoArrow}
-use Rattle.line_parts.specs.declared.field.Field as field
-use Rattle.line_parts.specs.declared.field.Field.TheVariants as fields
-use Rattle.line_parts.specs.declared.method.MethodParts as method
-use Rattle.line_parts.specs.declared.method.MethodParts.TheVariants as methods
 use Rattle.text_places.specs.Spans.{shift, is_empty, part_of}
 use Rattle.line_parts.specs.Arrows.{arrow_of}
 use Rattle.line_parts.specs.Fields.{field_of}
@@ -30,26 +23,29 @@ use Rattle.line.specs.Kinds.{comment_at, class_at, method_by, field_by, by_side,
 use Rattle.line.proofs.Kinding.{line_blank, line_comment}
 use Rattle.load_rule.specs.Classes.{class_in}
 use Rattle.load_classes.specs.Inner.Names.{opens_no_class}
+use Rattle.line_parts.specs.declared.method.Method.{Method}
+use Rattle.line_parts.specs.declared.arrow.Sides.{Sides}
+use Rattle.line_parts.specs.declared.field.Field.{Field}
 
 -- A member line, a faulty one too, is no class line.
 member_no_class : (l : List ℕ) (by : ℕ) (s : List ℕ) → class_in l (member_at by s) ≡ []
 member_no_class l by s = go (arrow_of s)
   where
-    fielded : (by : ℕ) (raw : Span) (f : field.Field) → class_in l (field_by by raw f) ≡ []
-    fielded by raw fields.NoField = refl
-    fielded by raw (fields.Parts d n) = refl
+    fielded : (by : ℕ) (raw : Span) (f : Option Field) → class_in l (field_by by raw f) ≡ []
+    fielded by raw None = refl
+    fielded by raw (Some r) = refl
 
-    called : (by : ℕ) (raw : Span) (m : method.MethodParts) → class_in l (method_by by raw m) ≡ []
-    called by raw methods.NoMethod = refl
-    called by raw (methods.Parts m) = refl
+    called : (by : ℕ) (raw : Span) (m : Option Method) → class_in l (method_by by raw m) ≡ []
+    called by raw None = refl
+    called by raw (Some m) = refl
 
-    sided : (by : ℕ) (raw : Span) (left : List ℕ) (p : Place) → class_in l (by_side by raw left p) ≡ []
-    sided by raw left Nowhere = fielded by raw (field_of left)
-    sided by raw left (At i) = called by raw (method_of left)
+    sided : (by : ℕ) (raw : Span) (left : List ℕ) (p : Option ℕ) → class_in l (by_side by raw left p) ≡ []
+    sided by raw left None = fielded by raw (field_of left)
+    sided by raw left (Some i) = called by raw (method_of left)
 
-    go : (a : Arrow) → class_in l (member_by by s a) ≡ []
-    go NoArrow = refl
-    go (Sides a r) = sided (by + a.start) (shift by r) (part_of s a) (first_where (starts 0x28) (part_of s a))
+    go : (a : Option Sides) → class_in l (member_by by s a) ≡ []
+    go None = refl
+    go (Some x) = sided (by + x.left.start) (shift by x.right) (part_of s x.left) (first_where (starts 0x28) (part_of s x.left))
 
 -- "a line whose first character is not white space is a class line"
 white_no_class : (l : List ℕ) → starts_white l ≡ true → class_in l (line_of l) ≡ []

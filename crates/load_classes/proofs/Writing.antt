@@ -1,4 +1,5 @@
 -- All class lines, one after the other. Assumes nothing.
+use Rattle.std.specs.Prelude.{Option, Some, None, Result, Ok, Err}
 use mathlib.Core.Path.{◌≡◌, refl, sym, ◌∙◌, ap}
 use mathlib.Core.Bool.{Bool, true}
 use mathlib.Core.List.{List, [], ◌∷◌, ◌++◌, append_assoc, append-nil}
@@ -12,19 +13,15 @@ use mir.Syntax.{w64}
 use borrow.Author.Rules.{rules}
 use Rattle.ground.specs.Put.{put, between}
 use Rattle.ground.proofs.PutLaws.{put_nothing, put_set, length_put}
-use Rattle.text_places.specs.declared.lines.NextLine.{NextLine}
-use Rattle.text_places.specs.declared.lines.NextLine.TheVariants.{Line, NoLine}
 use Rattle.text_places.specs.Lines.{lines, Taken}
-use Rattle.text_places.specs.Inner.NextLine.{next_line, NextStart}
+use Rattle.text_places.specs.Inner.NextLine.{next_line, NextStart, taken_line}
 use Rattle.text_places.proofs.LineLaws.{line_split}
 use Rattle.text_places.proofs.Taking.{line_taken, none_taken, end_taken, line_order, line_ends, line_falls}
 use Rattle.text_places.specs.Spans.{Lies}
 use Rattle.line.specs.Kinds.{line_of}
-use Rattle.table_pool.specs.declared.write.Wrote.{Wrote}
-use Rattle.table_pool.specs.declared.write.Wrote.TheVariants.{Done, NoRoom}
 use Rattle.ground.specs.Join.{join}
 use Rattle.table_rows.specs.Classes.{Pair}
-use Rattle.table_pool.specs.Inner.Wrote.{Written}
+use Rattle.table_pool.specs.Inner.Wrote.{Written, no_room}
 use Rattle.table_pool.proofs.Writes.{written_length, wrote_then, wrote_as}
 use Rattle.tables.specs.Back.{read_back}
 use Rattle.load_raw_types.specs.Inner.Behind.{Below}
@@ -33,14 +30,14 @@ use Rattle.load_rule.specs.Classes.{class_in, classes_of, class_text, class_pool
 use Rattle.ground.proofs.Joins.{join_more, join_append}
 use Rattle.load_rule.proofs.Appended.{rows_length, rows_more}
 use Rattle.load_classes.specs.declared.names.ClassNames.{ClassNames}
-use Rattle.load_classes.specs.declared.names.ClassLine.{ClassLine}
-use Rattle.load_classes.specs.declared.names.ClassLine.TheVariants.{Names, Other}
 use Rattle.load_classes.specs.Inner.Names.{class_named, NamedAt, NamedBy, opens_no_class}
 use Rattle.load_classes.specs.Inner.Entries.{EnteredClass, EnteredClassBy}
 use Rattle.load_classes.specs.Inner.Written.{ClassesAt}
 use Rattle.table_rows.specs.Rows.{most_classes, most_pool}
 use Rattle.load_rule.specs.Laid.{rows_from}
 use Rattle.load_classes.proofs.Quick.{start_no_class}
+use Rattle.table_pool.specs.declared.write.NoRoom.{NoRoom}
+use Rattle.text_places.specs.declared.lines.NextLine.{NextLine}
 
 -- the classes `done` are written
 pub record Rows (done : List Pair) (c : List (List ℕ)) (p : List ℕ) (count q : ℕ)
@@ -93,7 +90,7 @@ module _ {done : List Pair} {c : List (List ℕ)} {p : List ℕ} {count at : ℕ
           room = omega arith;
           rows = put_there ∙ ap (put c 0) all_rows;
           size = ap length put_there ∙ length_put c 0 wider (omega arith);
-          texts = wrote_as (Done q) p 0 p₂ (sym (join_more class_text done k)) (wrote_then (Done q) (class_text k) p₂ w.texts e.written);
+          texts = wrote_as (Ok q) p 0 p₂ (sym (join_more class_text done k)) (wrote_then (Ok q) (class_text k) p₂ w.texts e.written);
           below = rw (← all_rows) there;
           back = rw (← all_rows) back;
         }
@@ -120,17 +117,17 @@ finish {done} {ls} {c} {p} {count} {q} {c₁} {p₁} e w =
     let o = v.room in
     record { counted = n; room = omega arith; rows = v.rows; texts = v.texts; below = v.below; back = v.back }
 
-named_told : (t : ClassLine) (l : List ℕ) {ns : ClassNames} → NamedBy t l → t ≡ Names ns → NamedAt l ns
+named_told : (t : Option ClassNames) (l : List ℕ) {ns : ClassNames} → NamedBy t l → t ≡ Some ns → NamedAt l ns
 named_told t l w e = rw e at w
 
-module _ (t : ClassLine) (l : List ℕ) {ns : ClassNames} (w : NamedBy t l) (e : t ≡ Names ns) where
+module _ (t : Option ClassNames) (l : List ℕ) {ns : ClassNames} (w : NamedBy t l) (e : t ≡ Some ns) where
   pub display_there : Lies ns.display (length l)
   display_there = (named_told t l w e).display_lies
 
   pub raw_there : Lies ns.raw (length l)
   raw_there = (named_told t l w e).raw_lies
 
-other_told : (t : ClassLine) (l : List ℕ) → NamedBy t l → t ≡ Other → class_in l (line_of l) ≡ []
+other_told : (t : Option ClassNames) (l : List ℕ) → NamedBy t l → t ≡ None → class_in l (line_of l) ≡ []
 other_told t l w e = rw e at w
 
 module _ {s : List ℕ} {c : List (List ℕ)} {p : List ℕ} {at count q : ℕ} {c₁ : List (List ℕ)} {p₁ : List ℕ} (w : Writing s c p at count q c₁ p₁) where
@@ -147,62 +144,62 @@ module _ {s : List ℕ} {c : List (List ℕ)} {p : List ℕ} {at count q : ℕ} 
   pub writing_fits : length c ≤ most_classes → Fits w64 (count + 1)
   writing_fits h = let n = w.written.room in omega arith
 
-  module _ {t : NextLine} (x : t ≡ next_line s at) where
-    pub writing_none : t ≡ NoLine → ClassesAt count q (lines s) c p c₁ p₁
+  module _ {t : Option NextLine} (x : t ≡ next_line s at) where
+    pub writing_none : t ≡ None → ClassesAt count q (lines s) c p c₁ p₁
     writing_none y = ended (none_taken s at x y)
 
-    module _ {a e n : ℕ} (y : t ≡ Line a e n) where
-      taken : Taken s at a e n
+    module _ {it : NextLine} (y : t ≡ Some it) where
+      taken : Taken s at it.start it.«end» it.next
       taken = line_taken s at x y
 
-      split_here : classes_of (lines s) ≡ w.done ++ (class_in (between s a e) (line_of (between s a e)) ++ classes_of (lines (drop n s)))
+      split_here : classes_of (lines s) ≡ w.done ++ (class_in (between s it.start it.«end») (line_of (between s it.start it.«end»)) ++ classes_of (lines (drop it.next s)))
       unfolding classes_of
       split_here = w.split ∙ ap (λ ls. w.done ++ classes_of ls) taken.split
 
-      module _ (k : ClassLine) (z : NamedBy k (between s a e)) where
-        pub writing_other : k ≡ Other → Writing s c p n count q c₁ p₁
+      module _ (k : Option ClassNames) (z : NamedBy k (between s it.start it.«end»)) where
+        pub writing_other : k ≡ None → Writing s c p it.next count q c₁ p₁
         writing_other f = record {
           most = w.most;
           same_rows = w.same_rows;
           same_pool = w.same_pool;
           done = w.done;
-          split = split_here ∙ ap (λ cs. w.done ++ (cs ++ classes_of (lines (drop n s)))) (other_told k (between s a e) z f);
+          split = split_here ∙ ap (λ cs. w.done ++ (cs ++ classes_of (lines (drop it.next s)))) (other_told k (between s it.start it.«end») z f);
           written = w.written;
         }
 
-        module _ {ns : ClassNames} (f : k ≡ Names ns) where
-          there : NamedAt (between s a e) ns
-          there = named_told k (between s a e) z f
+        module _ {ns : ClassNames} (f : k ≡ Some ns) where
+          there : NamedAt (between s it.start it.«end») ns
+          there = named_told k (between s it.start it.«end») z f
 
           abbrev class : Pair
-          class = class_named (between s a e) ns
+          class = class_named (between s it.start it.«end») ns
 
-          split_class : classes_of (lines s) ≡ (w.done ++ (class ∷ [])) ++ classes_of (lines (drop n s))
-          split_class = split_here ∙ ap (λ cs. w.done ++ (cs ++ classes_of (lines (drop n s)))) there.is ∙ sym (append_assoc w.done (class ∷ []) (classes_of (lines (drop n s))))
+          split_class : classes_of (lines s) ≡ (w.done ++ (class ∷ [])) ++ classes_of (lines (drop it.next s))
+          split_class = split_here ∙ ap (λ cs. w.done ++ (cs ++ classes_of (lines (drop it.next s)))) there.is ∙ sym (append_assoc w.done (class ∷ []) (classes_of (lines (drop it.next s))))
 
           pub writing_few : length c₁ ≤ count → length c < length (classes_of (lines s))
           writing_few h =
               let l = ap length split_class in
-              let m = length-append (w.done ++ (class ∷ [])) (classes_of (lines (drop n s))) in
+              let m = length-append (w.done ++ (class ∷ [])) (classes_of (lines (drop it.next s))) in
               let o = length-append w.done (class ∷ []) in
               let v = w.written.counted in
               let u = w.written.size in
               omega arith
 
-          module _ (r : Wrote) (c₂ : List (List ℕ)) (p₂ : List ℕ) (g : EnteredClassBy r class count q c₁ p₁ c₂ p₂) where
-            pub writing_short : r ≡ NoRoom → length p < length (class_pool (classes_of (lines s)))
+          module _ (r : Result ℕ NoRoom) (c₂ : List (List ℕ)) (p₂ : List ℕ) (g : EnteredClassBy r class count q c₁ p₁ c₂ p₂) where
+            pub writing_short : r ≡ Err no_room → length p < length (class_pool (classes_of (lines s)))
             writing_short h =
                 let short : length p₁ < q + length (class_text class) = rw h at g in
                 let l = ap (λ cs. length (class_pool cs)) split_class in
-                let m = ap length (join_append class_text (w.done ++ (class ∷ [])) (classes_of (lines (drop n s)))) in
+                let m = ap length (join_append class_text (w.done ++ (class ∷ [])) (classes_of (lines (drop it.next s)))) in
                 let o = ap length (join_more class_text w.done class) in
-                let u = length-append (class_pool (w.done ++ (class ∷ []))) (class_pool (classes_of (lines (drop n s)))) in
+                let u = length-append (class_pool (w.done ++ (class ∷ []))) (class_pool (classes_of (lines (drop it.next s)))) in
                 let v = length-append (class_pool w.done) (class_text class) in
                 let x = written_length w.written.texts in
                 let y = w.written.texts.past in
                 omega arith
 
-            pub writing_more : {q₂ : ℕ} → r ≡ Done q₂ → count < length c₁ → Writing s c p n (count + 1) q₂ c₂ p₂
+            pub writing_more : {q₂ : ℕ} → r ≡ Ok q₂ → count < length c₁ → Writing s c p it.next (count + 1) q₂ c₂ p₂
             writing_more {q₂} h l =
                 let entered : EnteredClass q₂ class count q c₁ p₁ c₂ p₂ = rw h at g in
                 let u = w.same_rows in

@@ -8,24 +8,20 @@ ghost use Rattle.load_classes.specs.Inner.Entries.{EnteredClassBy};
 ghost use Rattle.load_classes.specs.Inner.Names.{class_named};
 
 use crate::names::ClassNames;
-use table_pool::{TwoTexts, Wrote, put_class};
+use table_pool::{NoRoom, TwoTexts, put_class};
 use table_rows::{Class, ClassRow, pack_class, text_between};
 
 // "each class row's raw then display"
-fn put_pair(pool: &mut [u8], at: usize, raw: &[u8], display: &[u8]) -> TwoTexts
+fn put_pair(pool: &mut [u8], at: usize, raw: &[u8], display: &[u8]) -> Result<TwoTexts, NoRoom>
     ensures { TwoBy result pool.old at (class_descriptor raw.now) (class_descriptor display.now)
         pool.new }
 {
-    let Wrote::Done(middle) = put_class(pool, at, raw) else {
-        return TwoTexts::NoRoom;
-    };
-    let Wrote::Done(next) = put_class(pool, middle, display) else {
-        return TwoTexts::NoRoom;
-    };
-    TwoTexts::At {
+    let middle = put_class(pool, at, raw)?;
+    let next = put_class(pool, middle, display)?;
+    Ok(TwoTexts {
         second: middle,
         next,
-    }
+    })
 }
 
 // The row of a class whose raw descriptor runs from `at` to `middle`, and its display descriptor from there to `next`.
@@ -47,7 +43,7 @@ pub fn enter_class(
     at: usize,
     line: &[u8],
     names: ClassNames,
-) -> Wrote
+) -> Result<usize, NoRoom>
     requires { (count < length classes.old)
         × (length pool.old ≤ most_pool)
         × Lies names.display (length line.now)
@@ -59,13 +55,10 @@ pub fn enter_class(
     let end = names.raw.end;
     let first = names.display.start;
     let last = names.display.end;
-    let TwoTexts::At {
+    let TwoTexts {
         second: middle,
         next,
-    } = put_pair(pool, at, &line[start..end], &line[first..last])
-    else {
-        return Wrote::NoRoom;
-    };
+    } = put_pair(pool, at, &line[start..end], &line[first..last])?;
     classes[count] = class_row(at, middle, next);
-    Wrote::Done(next)
+    Ok(next)
 }

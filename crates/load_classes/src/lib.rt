@@ -5,4 +5,4 @@ mod entry;
 mod names;
 mod write;
 
-pub use write::{Classes, write_classes};
+pub use write::{Classes, ClassesError, write_classes};

@@ -12,12 +12,6 @@ pub struct ClassNames {
     pub raw: Span,
 }
 
-#[derive(Clone, Copy)]
-pub enum ClassLine {
-    Names(ClassNames),
-    Other,
-}
-
 // Whether a byte alone tells that a line which starts with it is no class line: a space, `#`, LF or CR. Most lines show it so.
 pub fn opens_no_class(b: u8) -> bool
     ensures { result ≡ opens_no_class b }
@@ -35,22 +29,22 @@ pub fn opens_no_class(b: u8) -> bool
 }
 
 // The names of a line, if it is a class line. A line that starts with white space is none.
-pub fn class_line(line: &[u8]) -> ClassLine
+pub fn class_line(line: &[u8]) -> Option<ClassNames>
     ensures { NamedBy result line.now }
 {
     if white_at(line, 0) {
-        return ClassLine::Other;
+        return None;
     }
     match read_line(line) {
-        Line::Blank => ClassLine::Other,
-        Line::Comment(_) => ClassLine::Other,
-        Line::Class { display, raw } => ClassLine::Names(ClassNames { display, raw }),
+        Line::Blank => None,
+        Line::Comment(_) => None,
+        Line::Class { display, raw } => Some(ClassNames { display, raw }),
         Line::Field {
             declared: _,
             name: _,
             raw: _,
-        } => ClassLine::Other,
-        Line::Method { method: _, raw: _ } => ClassLine::Other,
-        Line::Refused(_) => ClassLine::Other,
+        } => None,
+        Line::Method { method: _, raw: _ } => None,
+        Line::Refused(_) => None,
     }
 }

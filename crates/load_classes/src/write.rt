@@ -5,21 +5,30 @@ ghost use Rattle.load_classes.specs.Inner.Written.{ClassesBy};
 ghost use Rattle.table_rows.specs.Rows.{most_classes, most_pool};
 
 use crate::entry::enter_class;
-use crate::names::{ClassLine, class_line, opens_no_class};
-use table_pool::Wrote;
+use crate::names::{class_line, opens_no_class};
+use table_pool::NoRoom;
 use table_rows::ClassRow;
 use text_places::{NextLine, next_line, next_start};
 
 #[derive(Clone, Copy)]
-pub enum Classes {
-    // How many rows are used, and where the descriptors end.
-    Written { count: usize, end: usize },
+pub struct Classes {
+    pub count: usize,
+    pub end: usize,
+}
+
+// What is lent is too little.
+#[derive(Clone, Copy)]
+pub enum ClassesError {
     FewRows,
     ShortPool,
 }
 
 // The class rows of a text, and their descriptors from the start of the pool on.
-pub fn write_classes(text: &[u8], classes: &mut [ClassRow], pool: &mut [u8]) -> Classes
+pub fn write_classes(
+    text: &[u8],
+    classes: &mut [ClassRow],
+    pool: &mut [u8],
+) -> Result<Classes, ClassesError>
     requires { (length classes.old ≤ most_classes) × (length pool.old ≤ most_pool) }
     ensures { let ls = lines text.now in
         ClassesBy result ls classes.old pool.old classes.new pool.new }
@@ -32,28 +41,30 @@ pub fn write_classes(text: &[u8], classes: &mut [ClassRow], pool: &mut [u8]) -> 
             at = next_start(text, at);
             continue;
         }
-        let NextLine::Line {
-            start,
-            end: stop,
-            next,
-        } = next_line(text, at)
+        let Some(
+            NextLine {
+                start,
+                end: stop,
+                next,
+            },
+        ) = next_line(text, at)
         else {
-            return Classes::Written { count, end };
+            return Ok(Classes { count, end });
         };
         let line = &text[start..stop];
-        let ClassLine::Names(names) = class_line(line) else {
+        let Some(names) = class_line(line) else {
             at = next;
             continue;
         };
         if classes.len() <= count {
-            return Classes::FewRows;
+            return Err(ClassesError::FewRows);
         }
-        let Wrote::Done(after) = enter_class(classes, pool, count, end, line, names) else {
-            return Classes::ShortPool;
+        let Ok(after) = enter_class(classes, pool, count, end, line, names) else {
+            return Err(ClassesError::ShortPool);
         };
         at = next;
         count += 1;
         end = after;
     }
-    Classes::Written { count, end }
+    Ok(Classes { count, end })
 }

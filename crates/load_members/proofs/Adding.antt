@@ -1,4 +1,5 @@
 -- One line more: its member's row and texts. Assumes nothing.
+use Rattle.std.specs.Prelude.{Ok, Result, Err}
 use mathlib.Core.Path.{◌≡◌, refl, sym, ◌∙◌, ap}
 use mathlib.Core.Bool.{Bool, false}
 use mathlib.Core.List.{List, [], ◌∷◌, ◌++◌, append_assoc}
@@ -14,7 +15,6 @@ use Rattle.text_places.specs.Lines.{lines, Taken}
 use Rattle.text_places.specs.declared.spans.Span.{Span}
 use Rattle.text_places.specs.Spans.{span, part_of, Lies}
 use Rattle.line.specs.Kinds.{line_of}
-use Rattle.table_pool.specs.declared.write.Wrote.TheVariants.{Done}
 use Rattle.ground.specs.Join.{join}
 use Rattle.table_pool.proofs.Writes.{written_length, wrote_then, wrote_as}
 use Rattle.table_rows.specs.Rows.{pack_member}
@@ -22,7 +22,6 @@ use Rattle.tables.specs.Back.{read_back}
 use Rattle.load_raw_types.proofs.Indexing.{read_back_put, indexed_put}
 use Rattle.load_rule.specs.declared.Fate.{Fate}
 use Rattle.load_rule.specs.declared.Fates.{Fates}
-use Rattle.load_rule.specs.declared.Scan.{Scan}
 use Rattle.load_rule.specs.Comments.{residual_in}
 use Rattle.load_rule.specs.Loading.{most_text}
 use Rattle.load_rule.specs.Fates.{no_fates, plus, one, class_line, scan_of}
@@ -40,8 +39,6 @@ use Rattle.load_scan.specs.declared.step.LineStep.{LineStep}
 use Rattle.load_scan.specs.declared.step.Step.{Step}
 use Rattle.load_scan.specs.declared.step.Step.TheVariants as steps
 use Rattle.load_members.specs.declared.enter.Slot.{Slot}
-use Rattle.load_members.specs.declared.enter.NextSlot.{NextSlot}
-use Rattle.load_members.specs.declared.enter.NextSlot.TheVariants.{At, NoRoom}
 use Rattle.load_scan.specs.Inner.Steps.{scan_on, bytes_of, StepLine, StepPassed, StepBy}
 use Rattle.load_members.specs.Inner.Enters.{MemberReady, RoleReady, Ready, texts_in, WrittenMember, Kept, under_class, EnterBy}
 use Rattle.load_texts.specs.Inner.Texts.{MemberTexts, all_texts}
@@ -50,6 +47,9 @@ use Rattle.load_texts.specs.Inner.Places.{EnteredTexts, member_placed}
 use Rattle.load_members.specs.Inner.Filled.{Over, members, CutShort}
 use Rattle.load_members.proofs.Entering.{entry_of, entry_member, entry_class, entry_neither, under_class_lem, under_neither, under_member, not_entered, neither_counts, class_counts, member_counts, member_classed, member_last, member_lies, class_lies, entry_text_lem, entry_row_lem}
 use Rattle.load_members.proofs.Filling.{Filling, from_nothing}
+use Rattle.table_pool.specs.declared.write.NoRoom.{NoRoom}
+use Rattle.table_pool.specs.Inner.Wrote.{no_room}
+use Rattle.load_rule.specs.declared.Fault.{Fault}
 
 same_filling : {s : List ℕ} {rows : List (List ℕ)} {index : List ℕ} {used : ℕ} {m₀ : List (List ℕ)} {p₀ : List ℕ} {x y : ℕ} {t : Slot} {a b : Bool} {f : Fates} {m : List (List ℕ)} {p : List ℕ} →
     x ≡ y → a ≡ b → Filling s rows index used m₀ p₀ y t a f m p → Filling s rows index used m₀ p₀ x t b f m p
@@ -128,7 +128,7 @@ module _ {s : List ℕ} {rows : List (List ℕ)} {index : List ℕ} {used : ℕ}
       unfolding entries_from here
       step = k.split ∙ ap (λ ls. k.done ++ entries_from (read_back rows p₀) (under f.class (part_of s (span t.own t.own_end))) ls) taken.split
 
-      short_scan : {sc : Scan} → sc ≡ scan_on g y.has_member (lines (drop y.next s)) → sc ≡ scan_of (lines s)
+      short_scan : {sc : Result Fates Fault} → sc ≡ scan_on g y.has_member (lines (drop y.next s)) → sc ≡ scan_of (lines s)
       short_scan y = y ∙ next_scan.decides ∙ from_nothing (lines s)
 
       line_neither : role_of y.kind ≡ Neither → Filling s rows index used m₀ p₀ y.next t y.has_member g m p
@@ -259,7 +259,7 @@ module _ {s : List ℕ} {rows : List (List ℕ)} {index : List ℕ} {used : ℕ}
                       ap (λ x. set x t.row row) k.held.rows ∙ ap (λ x. set (put m₀ 0 (entry_rows used k.done)) x row) rows_count
                       ∙ put_set m₀ 0 (entry_rows used k.done) row fits
                       ∙ ap (λ x. put m₀ 0 (entry_rows used k.done ++ (x ∷ []))) row_is ∙ ap (put m₀ 0) (sym (rows_more entry_row entry_text used k.done entry));
-                  texts = wrote_as (Done w.places.«end») p₀ used p₁ texts_are (wrote_then (Done w.places.«end») (all_texts texts) p₁ k.held.texts it.written);
+                  texts = wrote_as (Ok w.places.«end») p₀ used p₁ texts_are (wrote_then (Ok w.places.«end») (all_texts texts) p₁ k.held.texts it.written);
                 };
                 counts = ap (λ x. x + 1) c ∙ sym (length-append k.done (entry ∷ []));
                 classes = k.classes ∙ sym no_class;
@@ -270,8 +270,8 @@ module _ {s : List ℕ} {rows : List (List ℕ)} {index : List ℕ} {used : ℕ}
                 rows_size = length-set m t.row row ∙ k.rows_size;
               })
 
-      module _ (o : NextSlot) (m₁ : List (List ℕ)) (p₁ : List ℕ) (w : EnterBy (role_of y.kind) o s rows y t m p m₁ p₁) where
-        line_entered : {t₁ : Slot} → o ≡ At t₁ → Filling s rows index used m₀ p₀ y.next t₁ y.has_member g m₁ p₁
+      module _ (o : Result Slot NoRoom) (m₁ : List (List ℕ)) (p₁ : List ℕ) (w : EnterBy (role_of y.kind) o s rows y t m p m₁ p₁) where
+        line_entered : {t₁ : Slot} → o ≡ Ok t₁ → Filling s rows index used m₀ p₀ y.next t₁ y.has_member g m₁ p₁
         line_entered {t₁} e = go (role_of y.kind) refl w
           where
             kept : {u : Slot} → Filling s rows index used m₀ p₀ y.next u y.has_member g m p → Kept o u m p m₁ p₁ → Filling s rows index used m₀ p₀ y.next t₁ y.has_member g m₁ p₁
@@ -282,10 +282,10 @@ module _ {s : List ℕ} {rows : List (List ℕ)} {index : List ℕ} {used : ℕ}
             go (Class d) h z = kept (line_class h) z
             go (Member parts) h z = line_member h (rw e at z)
 
-        line_over : o ≡ NoRoom → {sc : Scan} → sc ≡ scan_on g y.has_member (lines (drop y.next s)) → CutShort sc (lines s) (read_back rows p₀) used m₀ p₀
+        line_over : o ≡ Err no_room → {sc : Result Fates Fault} → sc ≡ scan_on g y.has_member (lines (drop y.next s)) → CutShort sc (lines s) (read_back rows p₀) used m₀ p₀
         line_over e i = record { scanned = short_scan i; over = go (role_of y.kind) refl w }
           where
-            none : {u : Slot} → o ≡ At u → Over (members (lines s) (read_back rows p₀)) used m₀ p₀
+            none : {u : Slot} → o ≡ Ok u → Over (members (lines s) (read_back rows p₀)) used m₀ p₀
             none f = absurd (let z : ◌≡◌ {A = ℕ} 0 1 = cc in omega arith)
 
             go : (ro : Role) → role_of y.kind ≡ ro → EnterBy ro o s rows y t m p m₁ p₁ → Over (members (lines s) (read_back rows p₀)) used m₀ p₀
@@ -315,11 +315,11 @@ module _ {s : List ℕ} {rows : List (List ℕ)} {index : List ℕ} {used : ℕ}
       pub filling_room : Within g most_text
       filling_room = step_bounds s k.short filling_rest filling_within
 
-      module _ (o : NextSlot) (m₁ : List (List ℕ)) (p₁ : List ℕ) (w : EnterBy (role_of y.kind) o s rows y t m p m₁ p₁) where
-        pub filling_entered : {t₁ : Slot} → o ≡ At t₁ → Filling s rows index used m₀ p₀ y.next t₁ y.has_member g m₁ p₁
+      module _ (o : Result Slot NoRoom) (m₁ : List (List ℕ)) (p₁ : List ℕ) (w : EnterBy (role_of y.kind) o s rows y t m p m₁ p₁) where
+        pub filling_entered : {t₁ : Slot} → o ≡ Ok t₁ → Filling s rows index used m₀ p₀ y.next t₁ y.has_member g m₁ p₁
         filling_entered e = line_entered st sum o m₁ p₁ w e
 
-        pub filling_over : o ≡ NoRoom → {sc : Scan} → sc ≡ scan_on g y.has_member (lines (drop y.next s)) → CutShort sc (lines s) (read_back rows p₀) used m₀ p₀
+        pub filling_over : o ≡ Err no_room → {sc : Result Fates Fault} → sc ≡ scan_on g y.has_member (lines (drop y.next s)) → CutShort sc (lines s) (read_back rows p₀) used m₀ p₀
         filling_over e i = line_over st sum o m₁ p₁ w e i
 
   -- A line of which nothing is entered.

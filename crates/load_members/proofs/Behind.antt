@@ -1,4 +1,5 @@
 -- Blank lines and comments that were read with the line before them. Assumes nothing.
+use Rattle.std.specs.Prelude.{Option, Result, Ok}
 use mathlib.Core.Path.{◌≡◌, refl, sym, ◌∙◌, ap}
 use mathlib.Core.Bool.{Bool, false}
 use mathlib.Core.List.{List}
@@ -13,7 +14,6 @@ use Rattle.ground.specs.Choice.{both}
 use Rattle.ground.specs.Put.{between}
 use Rattle.ground.specs.Look.{is_known}
 use Rattle.ground.proofs.Parts.{take_rest}
-use Rattle.text_places.specs.declared.find.Place.{Place}
 use Rattle.text_places.specs.Lines.{Taken}
 use Rattle.line.specs.declared.line.Line as line
 use Rattle.line.specs.declared.line.Line.TheVariants as kinds
@@ -35,13 +35,12 @@ use Rattle.load_scan.specs.declared.step.Step.TheVariants as steps
 use Rattle.load_scan.specs.Inner.Steps.{is_entered, StepPassed, StepBy}
 use Rattle.load_scan.proofs.Stepping.{step_fits, step_bounds, passed_there}
 use Rattle.load_members.specs.declared.enter.Slot.{Slot}
-use Rattle.load_members.specs.declared.enter.NextSlot.{NextSlot}
-use Rattle.load_members.specs.declared.enter.NextSlot.TheVariants.{At}
 use Rattle.load_members.specs.Inner.Passed.{passed_fates}
 use Rattle.load_members.specs.Inner.Roles.{role_of}
 use Rattle.load_members.specs.Inner.Enters.{Behind, EnterBy}
 use Rattle.load_members.proofs.Filling.{Filling, filling_starts, filling_ends, filling_none, filling_fault, filling_text, filling_inside_text, filling_counted}
 use Rattle.load_members.proofs.Adding.{filling_rest, filling_falls, filling_passed, filling_passes, filling_within, filling_room, filling_ready, filling_entered, filling_over}
+use Rattle.table_pool.specs.declared.write.NoRoom.{NoRoom}
 
 pub passed_counted : (f : Fates) (k : Passed) →
     record {
@@ -87,7 +86,7 @@ module _ (s : List ℕ) (n : ℕ) (h : n ≤ length s) (classes : ℕ) (member :
   blank_passed : line_of (between (drop n s) a e) ≡ kinds.Blank → StepPassed s (n + at) classes member (n + m) fate.Blank
   blank_passed l = passed_as kinds.Blank l refl refl refl
 
-  comment_passed : {brace : Place} {b : Bool} → line_of (between (drop n s) a e) ≡ kinds.Comment brace →
+  comment_passed : {brace : Option ℕ} {b : Bool} → line_of (between (drop n s) a e) ≡ kinds.Comment brace →
       both member (is_known (signature_at (between (drop n s) a e) brace)) ≡ b → StepPassed s (n + at) classes member (n + m) (comment_fate b)
   comment_passed {brace} l g = passed_as (kinds.Comment brace) l refl refl (ap comment_fate g)
 
@@ -142,8 +141,8 @@ module _ {s : List ℕ} {rows : List (List ℕ)} {index : List ℕ} {used : ℕ}
     pub filling_skips : at < length s → length s - (y.next + n.passed.bytes) < length s - at
     filling_skips i = let z = filling_falls k r x q i in let b = past in omega arith
 
-    pub filling_read : {g : Fates} → g ≡ plus f (one y.fate) → (o : NextSlot) (m₁ : List (List ℕ)) (p₁ : List ℕ) → EnterBy (role_of y.kind) o s rows y t m p m₁ p₁ →
-        {t₁ : Slot} → o ≡ At t₁ → {v : Fates} → v ≡ plus g (passed_fates n.passed) →
+    pub filling_read : {g : Fates} → g ≡ plus f (one y.fate) → (o : Result Slot NoRoom) (m₁ : List (List ℕ)) (p₁ : List ℕ) → EnterBy (role_of y.kind) o s rows y t m p m₁ p₁ →
+        {t₁ : Slot} → o ≡ Ok t₁ → {v : Fates} → v ≡ plus g (passed_fates n.passed) →
         Filling s rows index used m₀ p₀ (y.next + n.passed.bytes) t₁ y.has_member v m₁ p₁
     filling_read sum o m₁ p₁ w e i = rw i (all_read_lem (filling_entered k r x q sum o m₁ p₁ w e) n.passed passes)
 

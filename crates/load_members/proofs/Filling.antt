@@ -1,4 +1,5 @@
 -- What is written up to a place of a text, and what is left: the start and the end. Assumes nothing.
+use Rattle.std.specs.Prelude.{Err}
 use mathlib.Core.Path.{◌≡◌, refl, sym, ◌∙◌, ap}
 use mathlib.Core.Bool.{Bool, false}
 use mathlib.Core.List.{List, [], ◌++◌, append-nil}
@@ -15,9 +16,8 @@ use Rattle.table_rows.specs.Rows.{most_pool}
 use Rattle.tables.specs.Back.{read_back}
 use Rattle.load_raw_types.specs.Inner.Behind.{Indexed}
 use Rattle.load_rule.specs.declared.Fates.{Fates}
-use Rattle.load_rule.specs.declared.Scan.TheVariants as scan
 use Rattle.load_rule.specs.Loading.{most_text}
-use Rattle.load_rule.specs.Fates.{no_fates, faults_from, scan_of}
+use Rattle.load_rule.specs.Fates.{no_fates, faults_from, scan_of, fault_at}
 use Rattle.load_rule.specs.Members.{Entry, under, entries_from}
 use Rattle.load_scan.specs.Inner.Bounds.{Within}
 use Rattle.load_scan.proofs.Stepping.{step_ended, step_faulty}
@@ -91,7 +91,7 @@ module _ {s : List ℕ} {rows : List (List ℕ)} {index : List ℕ} {used : ℕ}
   pub filling_none : (r : Step) → StepBy r s at f.class member → r ≡ steps.End → WrittenAll f (lines s) (read_back rows p₀) used t.place m₀ p₀ m p
   filling_none r w q = ended (step_ended s at f.class member r w q)
 
-  pub filling_fault : (r : Step) → StepBy r s at f.class member → {number : ℕ} → r ≡ steps.Faulty number → scan_of (lines s) ≡ scan.Faulty number (f.lines + 1)
+  pub filling_fault : (r : Step) → StepBy r s at f.class member → {number : ℕ} → r ≡ steps.Faulty number → scan_of (lines s) ≡ Err (fault_at number (f.lines + 1))
   filling_fault r w q = sym (from_nothing (lines s)) ∙ sym k.scanning.decides ∙ step_faulty s at f.class member r w q f refl
 
   pub filling_text : length s ≤ most_text

@@ -1,4 +1,5 @@
 -- The row of a member. Assumes nothing.
+use Rattle.std.specs.Prelude.{Option, Some, None}
 use mathlib.Core.Path.{◌≡◌, sym, ◌∙◌, ap}
 use mathlib.Core.List.{List}
 use Prim.Native.Nat.{ℕ, ◌-◌, ◌≤◌}
@@ -6,15 +7,13 @@ use native.Mathlib.Omega.{arith}
 use lib.ListN.{length}
 use borrow.Author.Rules.{rules}
 use Rattle.text_places.specs.declared.spans.Span.{Span}
-use Rattle.line_parts.specs.declared.method.LineRange.{LineRange}
-use Rattle.line_parts.specs.declared.method.LineRange.TheVariants.{Lines, NoLines}
 use Rattle.line_parts.specs.declared.method.Method as method
 use Rattle.line.specs.declared.line.Refusal.{Refusal}
 use Rattle.line.specs.declared.line.Line.{Line}
 use Rattle.line.specs.declared.line.Line.TheVariants as kinds
 use Rattle.table_rows.specs.declared.rows.Text.{Text}
 use Rattle.table_rows.specs.declared.rows.Ranges.{Ranges}
-use Rattle.table_rows.specs.declared.rows.Ranges.TheVariants.{None, Display, Both}
+use Rattle.table_rows.specs.declared.rows.Ranges.TheVariants as ranges
 use Rattle.table_rows.specs.declared.rows.Member as rows
 use Rattle.table_rows.specs.Rows.{text, pack_member, most_pool}
 use Rattle.load_rule.specs.Members.{ranges_of}
@@ -25,21 +24,23 @@ use Rattle.load_members.specs.declared.role.Role.TheVariants.{Class, Member, Nei
 use Rattle.line_parts.specs.Signatures.{name_span}
 use Rattle.load_members.specs.Inner.Roles.{role_of}
 use Rattle.load_texts.specs.Inner.Places.{Rising, member_placed}
+use Rattle.line_parts.specs.declared.method.LineRange.{LineRange}
+use Rattle.line_parts.specs.Methods.{from_to}
 
 -- Ranges.
-module _ {raw display : LineRange} where
-  pub ranges_none : raw ≡ NoLines → display ≡ NoLines → None ≡ ranges_of raw display
-  ranges_none e f = sym (ap (λ x. ranges_of x display) e ∙ ap (ranges_of NoLines) f)
+module _ {raw display : Option LineRange} where
+  pub ranges_none : raw ≡ None → display ≡ None → ranges.None ≡ ranges_of raw display
+  ranges_none e f = sym (ap (λ x. ranges_of x display) e ∙ ap (ranges_of None) f)
 
-  pub ranges_display : {a e : ℕ} → raw ≡ NoLines → display ≡ Lines a e → Display a e ≡ ranges_of raw display
-  ranges_display e f = sym (ap (λ x. ranges_of x display) e ∙ ap (ranges_of NoLines) f)
+  pub ranges_display : {y : LineRange} → raw ≡ None → display ≡ Some y → ranges.Display y.start y.«end» ≡ ranges_of raw display
+  ranges_display e f = sym (ap (λ x. ranges_of x display) e ∙ ap (ranges_of None) f)
 
-  module _ {p q : ℕ} (e : raw ≡ Lines p q) where
-    pub ranges_raw : display ≡ NoLines → Both p q p q ≡ ranges_of raw display
-    ranges_raw f = sym (ap (λ x. ranges_of x display) e ∙ ap (ranges_of (Lines p q)) f)
+  module _ {y : LineRange} (e : raw ≡ Some y) where
+    pub ranges_raw : display ≡ None → ranges.Both y.start y.«end» y.start y.«end» ≡ ranges_of raw display
+    ranges_raw f = sym (ap (λ x. ranges_of x display) e ∙ ap (ranges_of (Some (from_to y.start y.«end»))) f)
 
-    pub ranges_both : {a z : ℕ} → display ≡ Lines a z → Both p q a z ≡ ranges_of raw display
-    ranges_both f = sym (ap (λ x. ranges_of x display) e ∙ ap (ranges_of (Lines p q)) f)
+    pub ranges_both : {w : LineRange} → display ≡ Some w → ranges.Both y.start y.«end» w.start w.«end» ≡ ranges_of raw display
+    ranges_both f = sym (ap (λ x. ranges_of x display) e ∙ ap (ranges_of (Some (from_to y.start y.«end»))) f)
 
 pub ruleset ranging = (ranges_none, ranges_display, ranges_raw, ranges_both, rules)
 
@@ -64,7 +65,7 @@ pub ruleset roles = (role_class, role_field, role_method, role_refused, rules)
 module _ (c at : ℕ) (q : Places) {body : Body} {raw descriptor name : Text} (a : raw ≡ text at (q.descriptor - at)) (b : descriptor ≡ text q.descriptor (q.name - q.descriptor))
     (e : name ≡ text q.name (q.owner - q.name)) where
   pub row_field : {declared : Span} → body ≡ Field declared → {row : List ℕ} →
-      row ≡ pack_member (record { kind = 0; class = c; raw_name = raw; descriptor = descriptor; name = name; owner = record { place = 0; length = 0 }; ranges = None }) → row ≡ pack_member (member_placed c at q body)
+      row ≡ pack_member (record { kind = 0; class = c; raw_name = raw; descriptor = descriptor; name = name; owner = record { place = 0; length = 0 }; ranges = ranges.None }) → row ≡ pack_member (member_placed c at q body)
   row_field f g = g ∙ rw (a, b, e, f)
 
   module _ {m : method.Method} (f : body ≡ Method m) {owner : Text} (o : owner ≡ text q.owner (q.«end» - q.owner)) {ranges : Ranges} (r : ranges ≡ ranges_of m.raw m.display) where

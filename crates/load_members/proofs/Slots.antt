@@ -1,4 +1,5 @@
 -- What a line adds to the rows and the pool. Assumes nothing.
+use Rattle.std.specs.Prelude.{Result, Ok, Err, Option}
 use mathlib.Core.Path.{◌≡◌, refl, sym, ◌∙◌}
 use mathlib.Core.List.{List}
 use mathlib.Core.Logic.{inl, inr}
@@ -17,26 +18,24 @@ use Rattle.table_rows.specs.Rows.{pack_member, most_pool}
 use Rattle.tables.specs.Back.{read_back}
 use Rattle.load_raw_types.specs.Inner.Behind.{Indexed}
 use Rattle.load_rule.specs.Comments.{residual_in}
-use Rattle.load_residual.specs.declared.residual.Residual.{Residual}
 use Rattle.load_residual.specs.Inner.Residuals.{Gives}
 use Rattle.load_texts.specs.declared.texts.MemberLine.{MemberLine}
 use Rattle.load_texts.specs.declared.texts.Places.{Places}
-use Rattle.load_texts.specs.declared.texts.Entered.{Entered}
-use Rattle.load_texts.specs.declared.texts.Entered.TheVariants as entered
 use Rattle.load_texts.specs.Inner.Texts.{MemberIn, texts_of}
 use Rattle.load_texts.specs.Inner.Places.{EnteredTexts, EnteredTextsBy, Rising, member_placed}
 use Rattle.load_members.specs.declared.role.Role.{Role}
 use Rattle.load_members.specs.declared.role.Role.TheVariants.{Class, Member, Neither}
 use Rattle.load_scan.specs.declared.step.LineStep.{LineStep}
 use Rattle.load_members.specs.declared.enter.Slot.{Slot}
-use Rattle.load_members.specs.declared.enter.NextSlot.{NextSlot}
-use Rattle.load_members.specs.declared.enter.NextSlot.TheVariants.{At, NoRoom}
 use Rattle.load_scan.specs.Inner.Steps.{bytes_of}
 use Rattle.load_members.specs.Inner.Roles.{role_of}
 use Rattle.load_members.specs.Inner.Enters.{slot_at, MemberReady, Behind, RoleReady, Ready, texts_in, WrittenMember, WrittenMemberBy, under_class, EnterBy}
+use Rattle.table_pool.specs.declared.write.NoRoom.{NoRoom}
+use Rattle.table_pool.specs.Inner.Wrote.{no_room}
+use Rattle.load_residual.specs.declared.residual.Residual.{Residual}
 
 -- A member.
-pub member_given : {s : List ℕ} {x : LineStep} {t : Slot} {parts : MemberLine} {r : Residual} → MemberReady s x t parts → Behind s x r →
+pub member_given : {s : List ℕ} {x : LineStep} {t : Slot} {parts : MemberLine} {r : Option Residual} → MemberReady s x t parts → Behind s x r →
     Gives (between s x.next (length s)) r (residual_in (lines (between s x.next (length s))))
 member_given {s} {x} k b = rw (take_rest s x.next) (rw k.lasts at b.gives)
 
@@ -48,18 +47,18 @@ module _ {s : List ℕ} {rows : List (List ℕ)} {index : List ℕ} {x : LineSte
   member_indexed = k.indexed
 
   module _ (parts : MemberLine) (m : List (List ℕ)) where
-    pub member_few : (m₁ : List (List ℕ)) (p₁ : List ℕ) → length m ≤ t.row → WrittenMemberBy NoRoom s rows x parts t m p m₁ p₁
+    pub member_few : (m₁ : List (List ℕ)) (p₁ : List ℕ) → length m ≤ t.row → WrittenMemberBy (Err no_room) s rows x parts t m p m₁ p₁
     member_few m₁ p₁ h = inl h
 
-    module _ (r : Entered) (p₁ : List ℕ)
+    module _ (r : Result Places NoRoom) (p₁ : List ℕ)
         (w : EnteredTextsBy r p t.place (texts_of (read_back rows p) (residual_in (lines (between s x.next (length s)))) (between s t.own t.own_end) (between s x.start x.«end») parts) p₁) where
       as_ruled : EnteredTextsBy r p t.place (texts_in s (read_back rows p) x t parts) p₁
       as_ruled = rw (take_rest s x.next) at w
 
-      pub member_short : (m₁ : List (List ℕ)) → r ≡ entered.NoRoom → WrittenMemberBy NoRoom s rows x parts t m p m₁ p₁
+      pub member_short : (m₁ : List (List ℕ)) → r ≡ Err no_room → WrittenMemberBy (Err no_room) s rows x parts t m p m₁ p₁
       member_short m₁ e = inr (rw e at as_ruled)
 
-      module _ {places : Places} (e : r ≡ entered.At places) where
+      module _ {places : Places} (e : r ≡ Ok places) where
         it : EnteredTexts places p t.place (texts_in s (read_back rows p) x t parts) p₁
         it = rw e at as_ruled
 
@@ -110,13 +109,13 @@ module _ {s : List ℕ} {rows : List (List ℕ)} {index : List ℕ} {x : LineSte
   line_member e = role_member (role_of x.kind) s x t k.role (sym g ∙ e)
 
 module _ (s : List ℕ) (rows : List (List ℕ)) (x : LineStep) (t : Slot) (m : List (List ℕ)) (p : List ℕ) {ro : Role} (g : ro ≡ role_of x.kind) where
-  pub line_neither : ro ≡ Neither → EnterBy (role_of x.kind) (At t) s rows x t m p m p
+  pub line_neither : ro ≡ Neither → EnterBy (role_of x.kind) (Ok t) s rows x t m p m p
   line_neither e = rw (← g, e) (record { answer = refl; rows = refl; pool = refl })
 
-  pub line_class : {d : Span} → ro ≡ Class d → EnterBy (role_of x.kind) (At (under_class x d t)) s rows x t m p m p
+  pub line_class : {d : Span} → ro ≡ Class d → EnterBy (role_of x.kind) (Ok (under_class x d t)) s rows x t m p m p
   line_class {d} e = rw (← g, e) (record { answer = refl; rows = refl; pool = refl })
 
-  pub line_entered : {parts : MemberLine} → ro ≡ Member parts → (r : NextSlot) (m₁ : List (List ℕ)) (p₁ : List ℕ) → WrittenMemberBy r s rows x parts t m p m₁ p₁ →
+  pub line_entered : {parts : MemberLine} → ro ≡ Member parts → (r : Result Slot NoRoom) (m₁ : List (List ℕ)) (p₁ : List ℕ) → WrittenMemberBy r s rows x parts t m p m₁ p₁ →
       EnterBy (role_of x.kind) r s rows x t m p m₁ p₁
   line_entered e r m₁ p₁ w = rw (← g, e) w
 

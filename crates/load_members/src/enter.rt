@@ -7,7 +7,8 @@ use crate::role::{Role, role_of};
 use crate::row::member_row;
 use load_residual::Residual;
 use load_scan::LineStep;
-use load_texts::{Entered, MemberLine, write_texts};
+use load_texts::{MemberLine, write_texts};
+use table_pool::NoRoom;
 use table_rows::{ClassRow, MemberRow};
 
 // Where the next member goes: its row, and the place of its texts. `classes` class lines stand before it; the display name of the last
@@ -19,13 +20,6 @@ pub struct Slot {
     pub classes: u32,
     pub own: usize,
     pub own_end: usize,
-}
-
-#[derive(Clone, Copy)]
-pub enum NextSlot {
-    At(Slot),
-    // Rows or pool do not hold the member.
-    NoRoom,
 }
 
 // Where the first member goes, if the pool is used up to the place `used`.
@@ -47,12 +41,12 @@ fn enter_member(
     pool: &mut [u8],
     text: &[u8],
     line: LineStep,
-    given: Residual,
+    given: Option<Residual>,
     parts: MemberLine,
     slot: Slot,
     classes: &[ClassRow],
     index: &[u16],
-) -> NextSlot
+) -> Result<Slot, NoRoom>
     requires { Ready text.now classes.now index.now line slot pool.old
         × Behind text.now line given
         × MemberReady text.now line slot parts }
@@ -62,7 +56,7 @@ fn enter_member(
     let row = slot.row;
     let place = slot.place;
     if members.len() <= row {
-        return NextSlot::NoRoom;
+        return Err(NoRoom);
     }
     let next = line.next;
     let start = line.start;
@@ -73,15 +67,13 @@ fn enter_member(
     let bytes = &text[start..end];
     let own = &text[first..last];
     let texts = write_texts(pool, place, after, given, bytes, parts, own, classes, index);
-    let Entered::At(places) = texts else {
-        return NextSlot::NoRoom;
-    };
+    let places = texts?;
     let body = parts.body;
     members[row] = member_row(slot.classes - 1, place, places, body);
     let mut following = slot;
     following.row += 1;
     following.place = places.end;
-    NextSlot::At(following)
+    Ok(following)
 }
 
 // A class line names the class of the members after it, a member line is entered.
@@ -90,24 +82,24 @@ pub fn enter_line(
     pool: &mut [u8],
     text: &[u8],
     line: LineStep,
-    given: Residual,
+    given: Option<Residual>,
     slot: Slot,
     classes: &[ClassRow],
     index: &[u16],
-) -> NextSlot
+) -> Result<Slot, NoRoom>
     requires { Ready text.now classes.now index.now line slot pool.old × Behind text.now line given }
     ensures { EnterBy (role_of line.kind) result text.now classes.now line slot members.old
         pool.old members.new pool.new }
 {
     let kind = line.kind;
     match role_of(kind) {
-        Role::Neither => NextSlot::At(slot),
+        Role::Neither => Ok(slot),
         Role::Class(display) => {
             let mut named = slot;
             named.classes += 1;
             named.own = line.start + display.start;
             named.own_end = line.start + display.end;
-            NextSlot::At(named)
+            Ok(named)
         }
         Role::Member(parts) => {
             enter_member(

@@ -7,20 +7,24 @@ ghost use Rattle.load_rule.specs.Loading.{most_text};
 ghost use Rattle.load_raw_types.specs.Inner.Behind.{Indexed};
 ghost use Rattle.load_members.specs.Inner.Filled.{FilledBy};
 
-use crate::enter::{NextSlot, enter_line, first_slot};
+use crate::enter::{enter_line, first_slot};
 use crate::passed::with_passed;
 use load_residual::residual_after;
-use load_rule::{Fates, Scan};
+use load_rule::{Fates, Fault};
 use load_scan::{Step, counted, next_step, no_fates, scan_from};
 use table_rows::{ClassRow, MemberRow};
 
 #[derive(Clone, Copy)]
-pub enum Filled {
-    // What became of the lines, and where the texts end.
-    Written { fates: Fates, end: usize },
-    Faulty { number: u32, line: u32 },
+pub struct Filled {
+    pub fates: Fates,
+    pub end: usize,
+}
+
+#[derive(Clone, Copy)]
+pub enum FillError {
+    Faulty(Fault),
     // Rows or pool do not hold all members.
-    Short(Scan),
+    Short(Result<Fates, Fault>),
 }
 
 // `classes` are the class rows of the text, whose descriptors stand in the pool before the place `used`.
@@ -31,7 +35,7 @@ pub fn write_members(
     members: &mut [MemberRow],
     pool: &mut [u8],
     used: usize,
-) -> Filled
+) -> Result<Filled, FillError>
     requires { (length text.now ≤ most_text) × (length pool.old ≤ most_pool) × Indexed classes.now pool.old index.now used }
     ensures { let cs = read_back classes.now pool.old in
         FilledBy result (lines text.now) cs used members.old pool.old members.new
@@ -45,11 +49,11 @@ pub fn write_members(
         match next_step(text, at, fates.class, member) {
             Step::End => {
                 let end = slot.place;
-                return Filled::Written { fates, end };
+                return Ok(Filled { fates, end });
             }
             Step::Faulty(number) => {
                 let line = fates.lines + 1;
-                return Filled::Faulty { number, line };
+                return Err(FillError::Faulty(Fault { number, line }));
             }
             Step::Passed { next, fate } => {
                 at = next;
@@ -64,8 +68,8 @@ pub fn write_members(
                 let looked = residual_after(&text[at..], member);
                 let given = looked.residual;
                 let next = enter_line(members, pool, text, line, given, slot, classes, index);
-                let NextSlot::At(after) = next else {
-                    return Filled::Short(scan_from(text, at, fates, member));
+                let Ok(after) = next else {
+                    return Err(FillError::Short(scan_from(text, at, fates, member)));
                 };
                 slot = after;
                 let passed = looked.passed;
@@ -75,5 +79,5 @@ pub fn write_members(
         }
     }
     let end = slot.place;
-    Filled::Written { fates, end }
+    Ok(Filled { fates, end })
 }

@@ -7,4 +7,4 @@ mod passed;
 mod role;
 mod row;
 
-pub use fill::{Filled, write_members};
+pub use fill::{FillError, Filled, write_members};

@@ -9,25 +9,27 @@ use load_texts::{Body, Places};
 use table_rows::{Member, MemberRow, Ranges, Text, pack_member, text_between};
 
 // The ranges of a method.
-fn ranges(raw: LineRange, display: LineRange) -> Ranges
+fn ranges(raw: Option<LineRange>, display: Option<LineRange>) -> Ranges
     ensures { result ≡ ranges_of raw display }
 {
     match raw {
-        LineRange::NoLines => match display {
-            LineRange::NoLines => Ranges::None,
-            LineRange::Lines { start, end } => Ranges::Display { start, end },
+        None => match display {
+            None => Ranges::None,
+            Some(LineRange { start, end }) => Ranges::Display { start, end },
         },
-        LineRange::Lines {
-            start: raw_start,
-            end: raw_end,
-        } => match display {
-            LineRange::NoLines => Ranges::Both {
+        Some(
+            LineRange {
+                start: raw_start,
+                end: raw_end,
+            },
+        ) => match display {
+            None => Ranges::Both {
                 raw_start,
                 raw_end,
                 start: raw_start,
                 end: raw_end,
             },
-            LineRange::Lines { start, end } => Ranges::Both {
+            Some(LineRange { start, end }) => Ranges::Both {
                 raw_start,
                 raw_end,
                 start,

@@ -1,4 +1,5 @@
 -- Stretch after stretch of a text, until its last `;`. Assumes nothing.
+use Rattle.std.specs.Prelude.{Ok, Err}
 use mathlib.Core.Path.{◌≡◌, refl, sym, ◌∙◌, ap}
 use mathlib.Core.Bool.{Bool}
 use mathlib.Core.List.{List, [], ◌++◌, append_assoc}
@@ -7,10 +8,9 @@ use native.Mathlib.Omega.{arith}
 use lib.ListN.{length}
 use borrow.Author.Rules.{rules}
 use Rattle.ground.proofs.PutLaws.{put_nothing}
-use Rattle.table_pool.specs.declared.write.Wrote.TheVariants.{Done, NoRoom}
 use Rattle.table_rows.specs.Classes.{back}
 use Rattle.descriptor.specs.Pieces.{turn}
-use Rattle.table_pool.specs.Inner.Wrote.{Written}
+use Rattle.table_pool.specs.Inner.Wrote.{Written, no_room}
 use Rattle.table_pool.proofs.Writes.{written_length, wrote_then}
 use Rattle.tables.specs.Back.{read_back}
 use Rattle.load_raw_types.specs.declared.types.Stretch.{Stretch}
@@ -29,15 +29,15 @@ pub record Left (whole rest pool₀ : List ℕ) (at : ℕ) (pool : List ℕ) (ne
 
 module _ {whole rest pool₀ : List ℕ} {at : ℕ} {pool : List ℕ} {next : ℕ} (k : Left whole rest pool₀ at pool next) where
   left_none : {q : ℕ} {d : List ℕ} → Written q pool next rest d → Written q pool₀ at whole d
-  left_none {q} {d} w = let v : Written q pool₀ at (k.done ++ rest) d = wrote_then (Done q) rest d k.written w in rw k.decides v
+  left_none {q} {d} w = let v : Written q pool₀ at (k.done ++ rest) d = wrote_then (Ok q) rest d k.written w in rw k.decides v
 
   left_no_room : length pool < next + length rest → length pool₀ < at + length whole
-  left_no_room w = let v : length pool₀ < at + length (k.done ++ rest) = wrote_then NoRoom rest pool k.written w in rw k.decides v
+  left_no_room w = let v : length pool₀ < at + length (k.done ++ rest) = wrote_then (Err no_room) rest pool k.written w in rw k.decides v
 
   left_more : {q s start size : ℕ} {after d : List ℕ} → Stretched q s start size rest after pool next d → Left whole after pool₀ at d q
   left_more {q} {after = after} {d = d} w = record {
     done = k.done ++ w.done;
-    written = wrote_then (Done q) w.done d k.written w.written;
+    written = wrote_then (Ok q) w.done d k.written w.written;
     decides = k.decides ∙ ap (λ l. k.done ++ l) w.splits ∙ sym (append_assoc k.done w.done after);
   }
 

@@ -1,4 +1,5 @@
 -- The pieces of `L`, a text, `;`, found in the text: neither `L` nor `;` comes or goes where dots become slashes. Assumes nothing.
+use Rattle.std.specs.Prelude.{Some, None}
 use mathlib.Core.Path.{◌≡◌, refl, sym, ◌∙◌, ap}
 use mathlib.Core.Bool.{Bool, true, false}
 use mathlib.Core.List.{List, [], ◌∷◌, ◌++◌, map, append-nil}
@@ -10,7 +11,6 @@ use lib.ListN.{length, get_or, take, drop, length-append, get_or-map}
 use lib.Seq.{take_all, take-suc, drop-cons, take-append-le, drop-append-le, drop-length}
 use borrow.Author.Tests.{eqb-true}
 use Rattle.ground.specs.Choice.{pick}
-use Rattle.text_places.specs.declared.find.Place.TheVariants.{At, Nowhere}
 use Rattle.text_places.specs.Places.{first_from, first_where, starts}
 use Rattle.text_places.proofs.PlaceLaws.{first_inside}
 use Rattle.text_places.proofs.Holds.{first_is}
@@ -36,46 +36,46 @@ map_drop f (suc n) (x ∷ l) = map_drop f n l
 first_map : (f : ℕ → ℕ) (b : ℕ) → ((x : ℕ) → eqb (f x) b ≡ eqb x b) → (at : ℕ) (l : List ℕ) → first_from (starts b) at (map f l) ≡ first_from (starts b) at l
 unfolding first_from
 first_map f b e at [] = refl
-first_map f b e at (x ∷ l) = rw (e x) (ap (λ k. pick (eqb x b) (At at) k) (first_map f b e (suc at) l))
+first_map f b e at (x ∷ l) = rw (e x) (ap (λ k. pick (eqb x b) (Some at) k) (first_map f b e (suc at) l))
 
-first_more : (b at : ℕ) (l z : List ℕ) {i : ℕ} → first_from (starts b) at l ≡ At i → first_from (starts b) at (l ++ z) ≡ At i
+first_more : (b at : ℕ) (l z : List ℕ) {i : ℕ} → first_from (starts b) at l ≡ Some i → first_from (starts b) at (l ++ z) ≡ Some i
 unfolding first_from
 first_more b at [] z e = absurd (let n : ◌≡◌ {A = ℕ} 0 1 = cc in omega arith)
 first_more b at (x ∷ l) z {i} e = go (eqb x b) e (first_more b (suc at) l z)
   where
-    go : (t : Bool) → pick t (At at) (first_from (starts b) (suc at) l) ≡ At i → (first_from (starts b) (suc at) l ≡ At i → first_from (starts b) (suc at) (l ++ z) ≡ At i) →
-        pick t (At at) (first_from (starts b) (suc at) (l ++ z)) ≡ At i
+    go : (t : Bool) → pick t (Some at) (first_from (starts b) (suc at) l) ≡ Some i → (first_from (starts b) (suc at) l ≡ Some i → first_from (starts b) (suc at) (l ++ z) ≡ Some i) →
+        pick t (Some at) (first_from (starts b) (suc at) (l ++ z)) ≡ Some i
     go true f again = f
     go false f again = again f
 
-first_none : (b at : ℕ) (l z : List ℕ) → first_from (starts b) at l ≡ Nowhere → first_from (starts b) at (l ++ z) ≡ first_from (starts b) (length l + at) z
+first_none : (b at : ℕ) (l z : List ℕ) → first_from (starts b) at l ≡ None → first_from (starts b) at (l ++ z) ≡ first_from (starts b) (length l + at) z
 unfolding first_from
 first_none b at [] z e = let q : at ≡ 0 + at = omega arith in ap (λ k. first_from (starts b) k z) q
 first_none b at (x ∷ l) z e = go (eqb x b) e (first_none b (suc at) l z)
   where
-    go : (t : Bool) → pick t (At at) (first_from (starts b) (suc at) l) ≡ Nowhere →
-        (first_from (starts b) (suc at) l ≡ Nowhere → first_from (starts b) (suc at) (l ++ z) ≡ first_from (starts b) (length l + suc at) z) →
-        pick t (At at) (first_from (starts b) (suc at) (l ++ z)) ≡ first_from (starts b) (suc (length l) + at) z
+    go : (t : Bool) → pick t (Some at) (first_from (starts b) (suc at) l) ≡ None →
+        (first_from (starts b) (suc at) l ≡ None → first_from (starts b) (suc at) (l ++ z) ≡ first_from (starts b) (length l + suc at) z) →
+        pick t (Some at) (first_from (starts b) (suc at) (l ++ z)) ≡ first_from (starts b) (suc (length l) + at) z
     go true f again = absurd (let n : ◌≡◌ {A = ℕ} 0 1 = cc in omega arith)
     go false f again = let q : length l + suc at ≡ suc (length l) + at = omega arith in again f ∙ ap (λ k. first_from (starts b) k z) q
 
-first_later : (b at : ℕ) (l : List ℕ) {i : ℕ} → first_from (starts b) at l ≡ At i → first_from (starts b) (suc at) l ≡ At (suc i)
+first_later : (b at : ℕ) (l : List ℕ) {i : ℕ} → first_from (starts b) at l ≡ Some i → first_from (starts b) (suc at) l ≡ Some (suc i)
 unfolding first_from
 first_later b at [] e = absurd (let n : ◌≡◌ {A = ℕ} 0 1 = cc in omega arith)
 first_later b at (x ∷ l) {i} e = go (eqb x b) e (first_later b (suc at) l)
   where
-    go : (t : Bool) → pick t (At at) (first_from (starts b) (suc at) l) ≡ At i → (first_from (starts b) (suc at) l ≡ At i → first_from (starts b) (suc (suc at)) l ≡ At (suc i)) →
-        pick t (At (suc at)) (first_from (starts b) (suc (suc at)) l) ≡ At (suc i)
+    go : (t : Bool) → pick t (Some at) (first_from (starts b) (suc at) l) ≡ Some i → (first_from (starts b) (suc at) l ≡ Some i → first_from (starts b) (suc (suc at)) l ≡ Some (suc i)) →
+        pick t (Some (suc at)) (first_from (starts b) (suc (suc at)) l) ≡ Some (suc i)
     go true f again = let h : at ≡ i = cc in rw h
     go false f again = again f
 
-first_nowhere : (b at : ℕ) (l : List ℕ) → first_from (starts b) at l ≡ Nowhere → first_from (starts b) (suc at) l ≡ Nowhere
+first_nowhere : (b at : ℕ) (l : List ℕ) → first_from (starts b) at l ≡ None → first_from (starts b) (suc at) l ≡ None
 unfolding first_from
 first_nowhere b at [] e = refl
 first_nowhere b at (x ∷ l) e = go (eqb x b) e (first_nowhere b (suc at) l)
   where
-    go : (t : Bool) → pick t (At at) (first_from (starts b) (suc at) l) ≡ Nowhere → (first_from (starts b) (suc at) l ≡ Nowhere → first_from (starts b) (suc (suc at)) l ≡ Nowhere) →
-        pick t (At (suc at)) (first_from (starts b) (suc (suc at)) l) ≡ Nowhere
+    go : (t : Bool) → pick t (Some at) (first_from (starts b) (suc at) l) ≡ None → (first_from (starts b) (suc at) l ≡ None → first_from (starts b) (suc (suc at)) l ≡ None) →
+        pick t (Some (suc at)) (first_from (starts b) (suc (suc at)) l) ≡ None
     go true f again = absurd (let n : ◌≡◌ {A = ℕ} 0 1 = cc in omega arith)
     go false f again = again f
 
@@ -97,22 +97,22 @@ stored_first b p q dots at l = first_map (slash_if dots) b (stored_keeps b p q d
 -- The text `s` is what stands between an `L` and the last `;`.
 module _ (look : List ℕ → Look) (dots : Bool) (s : List ℕ) where
   -- no `;` in it: one piece
-  pub piece_whole : first_where (starts 0x3B) s ≡ Nowhere → turn look (class_piece dots s) ≡ look_or (class_piece dots s) (look (class_piece dots s))
+  pub piece_whole : first_where (starts 0x3B) s ≡ None → turn look (class_piece dots s) ≡ look_or (class_piece dots s) (look (class_piece dots s))
   unfolding first_from
   piece_whole e =
-      let m : first_from (starts 0x3B) 1 (name_bytes dots s) ≡ Nowhere = stored_first 0x3B refl refl dots 1 s ∙ first_nowhere 0x3B 0 s e in
-      let f : first_where (starts 0x3B) (class_piece dots s) ≡ At (length (name_bytes dots s) + 1) = first_none 0x3B 1 (name_bytes dots s) (0x3B ∷ []) m in
+      let m : first_from (starts 0x3B) 1 (name_bytes dots s) ≡ None = stored_first 0x3B refl refl dots 1 s ∙ first_nowhere 0x3B 0 s e in
+      let f : first_where (starts 0x3B) (class_piece dots s) ≡ Some (length (name_bytes dots s) + 1) = first_none 0x3B 1 (name_bytes dots s) (0x3B ∷ []) m in
       let n : length (class_piece dots s) ≡ length (name_bytes dots s) + 1 + 1 = let k = length-append (name_bytes dots s) (0x3B ∷ []) in omega arith in
       let t = piece_step look 0x4C (name_bytes dots s ++ (0x3B ∷ [])) refl f in
       t ∙ rw (← n, take_all (length (class_piece dots s)) (class_piece dots s) (omega arith), drop-length (class_piece dots s), turn_end look) (append-nil (look_or (class_piece dots s) (look (class_piece dots s))))
 
   -- a `;` in it: the piece up to there, and what follows
-  pub piece_first : {i : ℕ} → first_where (starts 0x3B) s ≡ At i →
+  pub piece_first : {i : ℕ} → first_where (starts 0x3B) s ≡ Some i →
       turn look (class_piece dots s) ≡ look_or (class_piece dots (take i s)) (look (class_piece dots (take i s))) ++ turn look (name_bytes dots (drop (i + 1) s) ++ (0x3B ∷ []))
   unfolding first_from
   piece_first {i} e =
-      let m : first_from (starts 0x3B) 1 (name_bytes dots s) ≡ At (suc i) = stored_first 0x3B refl refl dots 1 s ∙ first_later 0x3B 0 s e in
-      let f : first_where (starts 0x3B) (class_piece dots s) ≡ At (suc i) = first_more 0x3B 1 (name_bytes dots s) (0x3B ∷ []) m in
+      let m : first_from (starts 0x3B) 1 (name_bytes dots s) ≡ Some (suc i) = stored_first 0x3B refl refl dots 1 s ∙ first_later 0x3B 0 s e in
+      let f : first_where (starts 0x3B) (class_piece dots s) ≡ Some (suc i) = first_more 0x3B 1 (name_bytes dots s) (0x3B ∷ []) m in
       let inside = first_inside (starts 0x3B) s e in
       let size = name_length dots s in
       let is : take (suc i) (name_bytes dots s) ≡ name_bytes dots (take i s) ++ (0x3B ∷ []) = cut e in
@@ -127,7 +127,7 @@ module _ (look : List ℕ → Look) (dots : Bool) (s : List ℕ) where
       semicolon true = refl
       semicolon false = refl
 
-      cut : first_where (starts 0x3B) s ≡ At i → take (suc i) (name_bytes dots s) ≡ name_bytes dots (take i s) ++ (0x3B ∷ [])
+      cut : first_where (starts 0x3B) s ≡ Some i → take (suc i) (name_bytes dots s) ≡ name_bytes dots (take i s) ++ (0x3B ∷ [])
       cut f =
           let inside = first_inside (starts 0x3B) s f in
           let size = name_length dots s in
@@ -135,10 +135,10 @@ module _ (look : List ℕ → Look) (dots : Bool) (s : List ℕ) where
           take-suc (name_bytes dots s) i (slash_if dots 0) (omega arith) ∙ rw (map_take (slash_if dots) i s, byte)
 
   -- outside a piece: bytes up to the next `L` stay, or all
-  pub plain_first : {i : ℕ} → first_where (starts 0x4C) s ≡ At i →
+  pub plain_first : {i : ℕ} → first_where (starts 0x4C) s ≡ Some i →
       turn look (name_bytes dots s ++ (0x3B ∷ [])) ≡ name_bytes dots (take i s) ++ turn look (class_piece dots (drop (i + 1) s))
   plain_first {i} e =
-      let m : first_where (starts 0x4C) (name_bytes dots s) ≡ At i = stored_first 0x4C refl refl dots 0 s ∙ e in
+      let m : first_where (starts 0x4C) (name_bytes dots s) ≡ Some i = stored_first 0x4C refl refl dots 0 s ∙ e in
       let inside = first_inside (starts 0x4C) s e in
       let size = name_length dots s in
       let front : take i (name_bytes dots s ++ (0x3B ∷ [])) ≡ name_bytes dots (take i s) = take-append-le i (name_bytes dots s) (0x3B ∷ []) (omega arith) ∙ map_take (slash_if dots) i s in
@@ -148,8 +148,8 @@ module _ (look : List ℕ → Look) (dots : Bool) (s : List ℕ) where
       let back : drop i (name_bytes dots s ++ (0x3B ∷ [])) ≡ class_piece dots (drop (i + 1) s) = drop-append-le i (name_bytes dots s) (0x3B ∷ []) (omega arith) ∙ ap (λ l. l ++ (0x3B ∷ [])) rest in
       plain_step look (name_bytes dots s ++ (0x3B ∷ [])) (first_more 0x4C 0 (name_bytes dots s) (0x3B ∷ []) m) ∙ rw (front, back)
 
-  pub plain_all : first_where (starts 0x4C) s ≡ Nowhere → turn look (name_bytes dots s ++ (0x3B ∷ [])) ≡ name_bytes dots s ++ (0x3B ∷ [])
+  pub plain_all : first_where (starts 0x4C) s ≡ None → turn look (name_bytes dots s ++ (0x3B ∷ [])) ≡ name_bytes dots s ++ (0x3B ∷ [])
   unfolding first_from
   plain_all e =
-      let m : first_where (starts 0x4C) (name_bytes dots s) ≡ Nowhere = stored_first 0x4C refl refl dots 0 s ∙ e in
+      let m : first_where (starts 0x4C) (name_bytes dots s) ≡ None = stored_first 0x4C refl refl dots 0 s ∙ e in
       stays_step look (name_bytes dots s ++ (0x3B ∷ [])) (first_none 0x4C 0 (name_bytes dots s) (0x3B ∷ []) m)

@@ -1,4 +1,5 @@
 -- The raw descriptor of a whole type. Assumes nothing.
+use Rattle.std.specs.Prelude.{Option, None, Result, Ok, Err, IsErr}
 use mathlib.Core.Path.{◌≡◌, refl, sym, ◌∙◌, ap}
 use mathlib.Core.Bool.{Bool, true, false}
 use mathlib.Core.List.{List, [], ◌∷◌, ◌++◌}
@@ -12,11 +13,7 @@ use borrow.Author.Rules.{rules}
 use Rattle.ground.specs.Ascii.{ascii}
 use Rattle.ground.specs.Choice.{pick}
 use Rattle.ground.proofs.Cases.{clash, both_left, both_right}
-use Rattle.text_places.specs.declared.find.Place.{Place}
-use Rattle.text_places.specs.declared.find.Place.TheVariants.{Nowhere}
 use Rattle.text_places.specs.Places.{first_from, first_where, starts, same}
-use Rattle.table_pool.specs.declared.write.Wrote.{Wrote}
-use Rattle.table_pool.specs.declared.write.Wrote.TheVariants.{Done, NoRoom}
 use Rattle.descriptor.specs.declared.types.Base.{Base}
 use Rattle.descriptor.specs.declared.types.Base.TheVariants.{Letter, Kept, Named}
 use Rattle.descriptor.specs.declared.types.TypeShape.{TypeShape}
@@ -26,7 +23,7 @@ use Rattle.ground.specs.Look.{Look, look_or}
 use Rattle.ground.specs.Join.{join}
 use Rattle.table_rows.specs.Classes.{back}
 use Rattle.descriptor.specs.Pieces.{parts_from, turn}
-use Rattle.table_pool.specs.Inner.Wrote.{Written, WroteBy}
+use Rattle.table_pool.specs.Inner.Wrote.{Written, WroteBy, no_room}
 use Rattle.table_pool.proofs.Writes.{wrote_told, wrote_none, wrote_then, none_then, wrote_as}
 use Rattle.descriptor.proofs.Typing.{type_order, type_inside}
 use Rattle.tables.specs.Back.{read_back}
@@ -37,6 +34,7 @@ use Rattle.load_raw_types.specs.Inner.Behind.{Indexed}
 use Rattle.descriptor.proofs.Turning.{stays_step}
 use Rattle.load_raw_types.proofs.Indexing.{indexed_put, read_back_put}
 use Rattle.load_raw_types.proofs.Pieces.{piece_whole}
+use Rattle.table_pool.specs.declared.write.NoRoom.{NoRoom}
 
 -- None of the nine letters is an `L`.
 pick_other : (b : Bool) (x y : ℕ) → eqb x 0x4C ≡ false → eqb y 0x4C ≡ false → eqb (pick b x y) 0x4C ≡ false
@@ -65,7 +63,7 @@ base_kept s e = go (eqb (word_letter s) 0) (kept_text s) refl e
     go true false k f = absurd (let z : ◌≡◌ {A = ℕ} 0 1 = cc in omega arith)
     go false b k f = absurd (let z : ◌≡◌ {A = ℕ} 0 1 = cc in omega arith)
 
-one_nowhere : (x : ℕ) → eqb x 0x4C ≡ false → first_where (starts 0x4C) (x ∷ []) ≡ Nowhere
+one_nowhere : (x : ℕ) → eqb x 0x4C ≡ false → first_where (starts 0x4C) (x ∷ []) ≡ None
 unfolding first_from
 one_nowhere x e = rw e
 
@@ -95,15 +93,15 @@ kept_piece s e = go s e (kept_long s e)
         rw (n, name_plain (take (length l) (y ∷ l)), ← c, a)
 
 -- A class name that is one piece.
-module _ (look : List ℕ → Look) (name : List ℕ) (r : Wrote) (d : List ℕ) (at : ℕ) (d₁ : List ℕ) where
-  pub name_whole : {p : Place} → p ≡ first_where (starts 0x3B) name → p ≡ Nowhere →
+module _ (look : List ℕ → Look) (name : List ℕ) (r : Result ℕ NoRoom) (d : List ℕ) (at : ℕ) (d₁ : List ℕ) where
+  pub name_whole : {p : Option ℕ} → p ≡ first_where (starts 0x3B) name → p ≡ None →
       WroteBy r d at (look_or (class_piece true name) (look (class_piece true name))) d₁ → WroteBy r d at (turn look (class_piece true name)) d₁
   name_whole e f w = wrote_as r d at d₁ (sym (piece_whole look true name (sym e ∙ f))) w
 
 pub ruleset raw_names = (name_whole, rules)
 
 -- The type without its `[]`s.
-module _ (look : List ℕ → Look) (text : List ℕ) {base : Base} (e : base ≡ base_of text) (r : Wrote) (d : List ℕ) (at : ℕ) (d₁ : List ℕ) where
+module _ (look : List ℕ → Look) (text : List ℕ) {base : Base} (e : base ≡ base_of text) (r : Result ℕ NoRoom) (d : List ℕ) (at : ℕ) (d₁ : List ℕ) where
   pub base_letter_turned : {x : ℕ} → base ≡ Letter x → WroteBy r d at (replicate 1 x) d₁ → WroteBy r d at (turn look (base_bytes base text)) d₁
   base_letter_turned {x} f w =
       let g : eqb x 0x4C ≡ false = ap (λ y. eqb y 0x4C) (sym (base_letter_lem text (sym f ∙ e))) ∙ word_other text in
@@ -137,33 +135,38 @@ module _ (text : List ℕ) {t : TypeShape} (e : t ≡ shape_of text) where
   pub shape_base : t.base ≡ base_of (between text t.start t.«end»)
   shape_base = rw e
 
-module _ {rows : List (List ℕ)} {pool index : List ℕ} {at : ℕ} (x : Indexed rows pool index at) (text : List ℕ) {t : TypeShape} (e : t ≡ shape_of text) (r : Wrote) (d : List ℕ) (w : WroteBy r pool at (replicate t.brackets 0x5B) d) where
+module _ {rows : List (List ℕ)} {pool index : List ℕ} {at : ℕ} (x : Indexed rows pool index at) (text : List ℕ) {t : TypeShape} (e : t ≡ shape_of text) (r : Result ℕ NoRoom) (d : List ℕ) (w : WroteBy r pool at (replicate t.brackets 0x5B) d) where
   whole : raw_type_of (read_back rows pool) text ≡ replicate t.brackets 0x5B ++ turn (back (read_back rows pool)) (base_bytes t.base (between text t.start t.«end»))
   whole = ap (λ s. turn (back (read_back rows pool)) (shape_bytes s text)) (sym e) ∙ turn_brackets (back (read_back rows pool)) t.brackets (base_bytes t.base (between text t.start t.«end»))
 
-  pub raw_no_room : r ≡ NoRoom → length pool < at + length (raw_type_of (read_back rows pool) text)
+  pub raw_no_room : r ≡ Err no_room → length pool < at + length (raw_type_of (read_back rows pool) text)
   raw_no_room f =
       rw whole (none_then pool at (replicate t.brackets 0x5B) (turn (back (read_back rows pool)) (base_bytes t.base (between text t.start t.«end»)))
       (wrote_none r pool at (replicate t.brackets 0x5B) d w f))
 
-  module _ {q : ℕ} (f : r ≡ Done q) where
+  module _ {q : ℕ} (f : r ≡ Ok q) where
     bracketed : Written q pool at (replicate t.brackets 0x5B) d
     bracketed = wrote_told r pool at (replicate t.brackets 0x5B) d w f
 
     pub raw_indexed : Indexed rows d index q
     raw_indexed = indexed_put x bracketed
 
-    module _ (v : Wrote) (d₁ : List ℕ) (u : WroteBy v d q (turn (back (read_back rows d)) (base_bytes t.base (between text t.start t.«end»))) d₁) where
+    module _ (v : Result ℕ NoRoom) (d₁ : List ℕ) (u : WroteBy v d q (turn (back (read_back rows d)) (base_bytes t.base (between text t.start t.«end»))) d₁) where
       put : WroteBy v pool at (raw_type_of (read_back rows pool) text) d₁
       put =
           let b : List ℕ = turn (back (read_back rows pool)) (base_bytes t.base (between text t.start t.«end»)) in
           let same : WroteBy v d q b d₁ = rw (read_back_put x bracketed) at u in
           wrote_as v pool at d₁ (sym whole) (wrote_then v b d₁ bracketed same)
 
-      pub raw_none : v ≡ NoRoom → length pool < at + length (raw_type_of (read_back rows pool) text)
+      pub raw_none : v ≡ Err no_room → length pool < at + length (raw_type_of (read_back rows pool) text)
       raw_none g = wrote_none v pool at (raw_type_of (read_back rows pool) text) d₁ put g
 
-      pub raw_done : {z : ℕ} → v ≡ Done z → Written z pool at (raw_type_of (read_back rows pool) text) d₁
+      pub raw_done : {z : ℕ} → v ≡ Ok z → Written z pool at (raw_type_of (read_back rows pool) text) d₁
       raw_done g = wrote_told v pool at (raw_type_of (read_back rows pool) text) d₁ put g
 
-pub ruleset raw_types = (type_order, type_inside, shape_base, raw_no_room, raw_indexed, raw_none, raw_done, rules)
+-- What `?` hands on where there is no room.
+pub wrote_err : (r : Result ℕ NoRoom) (d : List ℕ) (at : ℕ) (b d₁ : List ℕ) → IsErr r → length d < at + length b → WroteBy r d at b d₁
+wrote_err (Ok q) d at b d₁ e h = absurd (let z : ◌≡◌ {A = ℕ} 0 1 = cc in omega arith)
+wrote_err (Err _) d at b d₁ e h = h
+
+pub ruleset raw_types = (wrote_err, type_order, type_inside, shape_base, raw_no_room, raw_indexed, raw_none, raw_done, rules)

@@ -14,10 +14,10 @@ ghost use Rattle.load_raw_types.specs.Inner.Stretches.{InsideBy, OutsideBy};
 
 use descriptor::{Base, type_shape};
 use table_index::{NameForm, last_named};
-use table_pool::{Wrote, put_bytes, put_closed, put_copy, put_name, put_piece};
+use table_pool::{NoRoom, put_bytes, put_closed, put_copy, put_name, put_piece};
 use table_rows::{ClassRow, unpack_class};
-use tables::{Found, Side};
-use text_places::{Place, first_byte};
+use tables::Side;
+use text_places::first_byte;
 
 fn wide(x: u32) -> usize
     ensures { result ≡ x }
@@ -33,7 +33,7 @@ fn put_raw_piece(
     dots: bool,
     classes: &[ClassRow],
     index: &[u16],
-) -> Wrote
+) -> Result<usize, NoRoom>
     requires { Indexed classes.now pool.old index.now at }
     ensures { let cs = read_back classes.now pool.old in
         WroteBy result pool.old at
@@ -41,25 +41,25 @@ fn put_raw_piece(
 {
     let form = NameForm::Piece(dots);
     match last_named(index, Side::Display, classes, pool, name, form) {
-        Found::Row(row) => {
+        Some(row) => {
             let class = unpack_class(classes[row]);
             let place = wide(class.raw.place);
             let size = wide(class.raw.length);
             put_copy(pool, at, place, size)
         }
-        Found::Unknown => put_piece(pool, at, name, dots),
+        None => put_piece(pool, at, name, dots),
     }
 }
 
 // The first place of a byte. Pieces often follow each other at once: that is seen here, and no search is called.
-fn first_place(s: &[u8], b: u8) -> Place
+fn first_place(s: &[u8], b: u8) -> Option<usize>
     ensures { result ≡ first_where (starts b) s.now }
 {
     if s.len() == 0 {
-        return Place::Nowhere;
+        return None;
     }
     if s[0] == b {
-        return Place::At(0);
+        return Some(0);
     }
     first_byte(s, b)
 }
@@ -88,16 +88,14 @@ fn put_first(
     ensures { let cs = read_back classes.now pool.old in
         InsideBy result (back cs) dots text.now start pool.old at pool.new }
 {
-    let Place::At(gap) = first_place(&text[start..], b';') else {
-        let Wrote::Done(ended) = put_raw_piece(pool, at, &text[start..], dots, classes, index)
-        else {
+    let Some(gap) = first_place(&text[start..], b';') else {
+        let Ok(ended) = put_raw_piece(pool, at, &text[start..], dots, classes, index) else {
             return Stretch::NoRoom;
         };
         return Stretch::Last(ended);
     };
     let end = start + gap;
-    let Wrote::Done(turned) = put_raw_piece(pool, at, &text[start..end], dots, classes, index)
-    else {
+    let Ok(turned) = put_raw_piece(pool, at, &text[start..end], dots, classes, index) else {
         return Stretch::NoRoom;
     };
     Stretch::More(turned, end + 1)
@@ -108,14 +106,14 @@ fn put_plain(pool: &mut [u8], at: usize, text: &[u8], start: usize, dots: bool) 
     requires { start ≤ length text.now }
     ensures { OutsideBy result dots text.now start pool.old at pool.new }
 {
-    let Place::At(gap) = first_place(&text[start..], b'L') else {
-        let Wrote::Done(ended) = put_closed(pool, at, &text[start..], dots) else {
+    let Some(gap) = first_place(&text[start..], b'L') else {
+        let Ok(ended) = put_closed(pool, at, &text[start..], dots) else {
             return Stretch::NoRoom;
         };
         return Stretch::Last(ended);
     };
     let end = start + gap;
-    let Wrote::Done(after) = put_name(pool, at, &text[start..end], dots) else {
+    let Ok(after) = put_name(pool, at, &text[start..end], dots) else {
         return Stretch::NoRoom;
     };
     Stretch::More(after, end + 1)
@@ -129,7 +127,7 @@ fn put_raw_pieces(
     dots: bool,
     classes: &[ClassRow],
     index: &[u16],
-) -> Wrote
+) -> Result<usize, NoRoom>
     requires { Indexed classes.now pool.old index.now at }
     ensures { let cs = read_back classes.now pool.old in
         WroteBy result pool.old at (turn (back cs) (class_piece dots text.now)) pool.new }
@@ -139,17 +137,17 @@ fn put_raw_pieces(
     loop {
         match put_first(pool, next, text, start, dots, classes, index) {
             Stretch::NoRoom => {
-                return Wrote::NoRoom;
+                return Err(NoRoom);
             }
             Stretch::Last(ended) => {
-                return Wrote::Done(ended);
+                return Ok(ended);
             }
             Stretch::More(turned, plain) => match put_plain(pool, turned, text, plain, dots) {
                 Stretch::NoRoom => {
-                    return Wrote::NoRoom;
+                    return Err(NoRoom);
                 }
                 Stretch::Last(closed) => {
-                    return Wrote::Done(closed);
+                    return Ok(closed);
                 }
                 Stretch::More(after, begun) => {
                     next = after;
@@ -167,12 +165,12 @@ fn put_raw_name(
     name: &[u8],
     classes: &[ClassRow],
     index: &[u16],
-) -> Wrote
+) -> Result<usize, NoRoom>
     requires { Indexed classes.now pool.old index.now at }
     ensures { let cs = read_back classes.now pool.old in
         WroteBy result pool.old at (turn (back cs) (class_piece true name.now)) pool.new }
 {
-    let Place::At(_) = first_place(name, b';') else {
+    let Some(_) = first_place(name, b';') else {
         return put_raw_piece(pool, at, name, true, classes, index);
     };
     put_raw_pieces(pool, at, name, true, classes, index)
@@ -186,7 +184,7 @@ fn put_raw_base(
     base: Base,
     classes: &[ClassRow],
     index: &[u16],
-) -> Wrote
+) -> Result<usize, NoRoom>
     requires { (base ≡ base_of text.now) × Indexed classes.now pool.old index.now at }
     ensures { let cs = read_back classes.now pool.old in
         WroteBy result pool.old at (turn (back cs) (base_bytes base text.now)) pool.new }
@@ -208,7 +206,7 @@ pub fn put_raw_type(
     text: &[u8],
     classes: &[ClassRow],
     index: &[u16],
-) -> Wrote
+) -> Result<usize, NoRoom>
     requires { Indexed classes.now pool.old index.now at }
     ensures { let cs = read_back classes.now pool.old in
         WroteBy result pool.old at (raw_type_of cs text.now) pool.new }
@@ -217,13 +215,8 @@ pub fn put_raw_type(
     let start = shape.start;
     let end = shape.end;
     let base = shape.base;
-    let Wrote::Done(after) = put_bytes(pool, at, b'[', shape.brackets) else {
-        return Wrote::NoRoom;
-    };
+    let after = put_bytes(pool, at, b'[', shape.brackets)?;
     // an answer that is handed on is copied from between two words, and that copy is waited for; its number alone is not
-    let Wrote::Done(ended) = put_raw_base(pool, after, &text[start..end], base, classes, index)
-    else {
-        return Wrote::NoRoom;
-    };
-    Wrote::Done(ended)
+    let ended = put_raw_base(pool, after, &text[start..end], base, classes, index)?;
+    Ok(ended)
 }

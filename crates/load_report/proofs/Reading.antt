@@ -1,4 +1,5 @@
 -- The decimal digits of a number read as that number, by document 01's own rule of numbers. Assumes nothing.
+use Rattle.std.specs.Prelude.{Some, None}
 use mathlib.Core.Path.{◌≡◌, refl, sym, ◌∙◌, ap}
 use mathlib.Core.Bool.{Bool, true, false}
 use mathlib.Core.List.{List, [], ◌∷◌, ◌++◌, append_assoc, append-nil}
@@ -11,7 +12,6 @@ use lib.ListN.{length, length-append}
 use borrow.Author.Tests.{le-leb, eqb-true}
 use Rattle.ground.specs.Choice.{pick}
 use Rattle.ground.proofs.Cases.{le_or_lt}
-use Rattle.number.specs.declared.read.Number.TheVariants.{Value, Unread}
 use Rattle.number.specs.Numbers as number
 use Rattle.load_report.specs.Digits.{decimal_from, decimal}
 use Rattle.load_report.proofs.Spelling.{one_digit, more_digits}
@@ -42,17 +42,17 @@ digits_read (suc k) n t h =
         ∙ again ∙ digit_read (n / 10) (n % 10) t (omega arith) ∙ ap (λ x. number.digits_from x t) value
 
 -- what reads as digits has no sign in front
-no_sign : (x : ℕ) (s : List ℕ) → x ≡ 0x2B → number.digits_from 0 (x ∷ s) ≡ Unread
+no_sign : (x : ℕ) (s : List ℕ) → x ≡ 0x2B → number.digits_from 0 (x ∷ s) ≡ None
 unfolding number.digits_from
 no_sign x s e = rw e
 
-numbered : (s : List ℕ) (n : ℕ) → 0 < length s → number.digits_from 0 s ≡ Value n → number.number_of s ≡ Value n
+numbered : (s : List ℕ) (n : ℕ) → 0 < length s → number.digits_from 0 s ≡ Some n → number.number_of s ≡ Some n
 unfolding number.number_of number.plain
 numbered [] n l e = absurd (omega arith)
 numbered (x ∷ s) n l e = go (eqb x 0x2B) refl
   where
-    go : (b : Bool) → eqb x 0x2B ≡ b → pick b (number.plain s) (number.digits_from 0 (x ∷ s)) ≡ Value n
-    go true f = absurd (let u : Unread ≡ Value n = sym (no_sign x s (eqb-true x 0x2B f)) ∙ e in let z : ◌≡◌ {A = ℕ} 0 1 = cc in omega arith)
+    go : (b : Bool) → eqb x 0x2B ≡ b → pick b (number.plain s) (number.digits_from 0 (x ∷ s)) ≡ Some n
+    go true f = absurd (let u : None ≡ Some n = sym (no_sign x s (eqb-true x 0x2B f)) ∙ e in let z : ◌≡◌ {A = ℕ} 0 1 = cc in omega arith)
     go false f = e
 
 some_digit : (k n : ℕ) → 0 < length (decimal_from (suc k) n)
@@ -63,9 +63,9 @@ some_digit k n = go (le_or_lt n 9)
     go (inr l) = let e = ap length (more_digits k n l) in let m = length-append (decimal_from k (n / 10)) ((48 + n % 10) ∷ []) in omega arith
 
 -- a count that is printed can be read again
-pub decimal_read : (n : ℕ) → n ≤ 4294967295 → number.number_of (decimal n) ≡ Value n
+pub decimal_read : (n : ℕ) → n ≤ 4294967295 → number.number_of (decimal n) ≡ Some n
 unfolding number.digits_from
 decimal_read n h =
     let whole : number.digits_from 0 (decimal n) ≡ number.digits_from n [] = ap (number.digits_from 0) (sym (append-nil (decimal n))) ∙ digits_read 10 n [] (omega arith) in
-    let value : number.digits_from n [] ≡ Value n = rw (le-leb n 4294967295 h) in
+    let value : number.digits_from n [] ≡ Some n = rw (le-leb n 4294967295 h) in
     numbered (decimal n) n (some_digit 9 n) (whole ∙ value)

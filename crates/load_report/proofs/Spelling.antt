@@ -1,4 +1,5 @@
 -- Decimal digits, from the last to the first. Assumes nothing.
+use Rattle.std.specs.Prelude.{Result}
 use mathlib.Core.Path.{◌≡◌, sym, ◌∙◌, ap}
 use mathlib.Core.List.{List, [], ◌∷◌, ◌++◌, append_assoc, append-nil}
 use Prim.Native.Nat.{ℕ, zero, suc, ◌+◌, ◌-◌, ◌*◌, ◌/◌, ◌%◌, ◌^◌, ◌≤◌, ◌<◌}
@@ -12,10 +13,10 @@ use borrow.Author.Tests.{le-leb, lt-leb}
 use borrow.Author.Rules.{rules}
 use Rattle.ground.specs.Put.{between}
 use Rattle.ground.proofs.Parts.{take_rest}
-use Rattle.table_pool.specs.declared.write.Wrote.{Wrote}
 use Rattle.table_pool.specs.Inner.Wrote.{WroteBy}
 use Rattle.table_pool.proofs.Writes.{wrote_as}
 use Rattle.load_report.specs.Digits.{decimal_from, decimal}
+use Rattle.table_pool.specs.declared.write.NoRoom.{NoRoom}
 
 pub one_digit : (k n : ℕ) → n ≤ 9 → decimal_from (suc k) n ≡ (48 + n % 10) ∷ []
 unfolding decimal_from
@@ -89,7 +90,7 @@ module _ {n : ℕ} {d : List ℕ} {first rest : ℕ} (s : Spelling n d first res
         ∙ take_rest (set d first (48 + rest % 10)) first ∙ drop_set d first (48 + rest % 10) spelling_inside
         ∙ ap (λ l. l ++ drop (suc first) d) (sym (one_digit first rest h)) ∙ s.is
 
-    pub spelling_ends : (r : Wrote) (out : List ℕ) (at : ℕ) (out₁ : List ℕ) →
+    pub spelling_ends : (r : Result ℕ NoRoom) (out : List ℕ) (at : ℕ) (out₁ : List ℕ) →
         WroteBy r out at (between (set d first (48 + rest % 10)) first 10) out₁ → WroteBy r out at (decimal n) out₁
     spelling_ends r out at out₁ w = wrote_as r out at out₁ whole w
 

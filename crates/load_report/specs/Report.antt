@@ -1,11 +1,12 @@
 -- Document 01 "Fates of lines": the line that the loading program prints.
-use Rattle.std.specs.Prelude.{List, [], ◌∷◌, ◌++◌, ℕ}
+use Rattle.std.specs.Prelude.{List, [], ◌∷◌, ◌++◌, ℕ, Result, Ok, Err}
 use Prim.Native.String.{String}
 use Rattle.ground.specs.Ascii.{ascii}
 use Rattle.load_rule.specs.declared.Fates.{Fates}
-use Rattle.load_rule.specs.declared.Load.{Load}
-use Rattle.load_rule.specs.declared.Load.TheVariants.{Loaded, TooLong, NotUtf8, Faulty, NoClasses, FewClassRows, FewMemberRows, ShortPool}
 use Rattle.load_report.specs.Digits.{decimal}
+use Rattle.load_rule.specs.declared.Loaded.{Loaded}
+use Rattle.load_rule.specs.declared.LoadError.{LoadError}
+use Rattle.load_rule.specs.declared.LoadError.TheVariants.{Faulty, NotUtf8, TooLong, NoClasses, FewClassRows, FewMemberRows, ShortPool}
 
 -- LF, which ends the line
 abbrev pub line_end : List ℕ
@@ -32,13 +33,13 @@ row_items f =
     ++ (labelled " method " f.method ++ labelled " short " f.short))
 
 -- "names is pool bytes used"
-abbrev pub report_of : Load → List ℕ
-report_of (Loaded f names) = line_items f ++ (row_items f ++ (labelled " names " names ++ line_end))
-report_of TooLong = refused_line 1 0
+abbrev pub report_of : Result Loaded LoadError → List ℕ
+report_of (Ok r) = line_items r.fates ++ (row_items r.fates ++ (labelled " names " r.names ++ line_end))
+report_of (Err TooLong) = refused_line 1 0
 -- "for 2, `refused 2 at 1 length 1`"
-report_of (NotUtf8 valid len) = labelled "refused " 2 ++ (labelled " at " valid ++ (labelled " length " len ++ line_end))
-report_of (Faulty number line) = refused_line number line
-report_of NoClasses = refused_line 8 0
-report_of FewClassRows = refused_line 9 0
-report_of FewMemberRows = refused_line 10 0
-report_of ShortPool = refused_line 11 0
+report_of (Err (NotUtf8 valid len)) = labelled "refused " 2 ++ (labelled " at " valid ++ (labelled " length " len ++ line_end))
+report_of (Err (Faulty r)) = refused_line r.number r.line
+report_of (Err NoClasses) = refused_line 8 0
+report_of (Err FewClassRows) = refused_line 9 0
+report_of (Err FewMemberRows) = refused_line 10 0
+report_of (Err ShortPool) = refused_line 11 0

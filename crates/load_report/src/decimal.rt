@@ -2,10 +2,10 @@
 ghost use Rattle.table_pool.specs.Inner.Wrote.{WroteBy};
 ghost use Rattle.load_report.specs.Digits.{decimal};
 
-use table_pool::{Wrote, put_text};
+use table_pool::{NoRoom, put_text};
 
 // The digits, written from the last to the first, and then into place.
-pub fn put_decimal(out: &mut [u8], at: usize, n: u32) -> Wrote
+pub fn put_decimal(out: &mut [u8], at: usize, n: u32) -> Result<usize, NoRoom>
     ensures { WroteBy result out.old at (decimal n) out.new }
 {
     let mut digits = [0u8; 10];

@@ -1,4 +1,5 @@
 -- The signature of a comment, from its `#` on. Assumes nothing.
+use Rattle.std.specs.Prelude.{Option, Some, None}
 use mathlib.Core.Path.{◌≡◌, refl, sym, ◌∙◌, ap}
 use mathlib.Core.Bool.{Bool, true, false, not}
 use mathlib.Core.List.{List}
@@ -12,20 +13,17 @@ use borrow.Author.Rules.{rules}
 use Rattle.ground.specs.Put.{between}
 use Rattle.ground.proofs.Cases.{clash}
 use Rattle.ground.proofs.Parts.{drop_take}
-use Rattle.text_places.specs.declared.find.Place.{Place}
-use Rattle.text_places.specs.declared.find.Place.TheVariants.{At, Nowhere}
 use Rattle.text_places.specs.Places.{first_where, starts}
 use Rattle.text_places.proofs.PlaceLaws.{first_inside}
 use Rattle.text_white.specs.Trim.{trim_end}
 use Rattle.text_white.proofs.TrimLaws.{trim_end_inside}
 use Rattle.load_rule.specs.Comments.{signature_of}
-use Rattle.load_residual.specs.declared.residual.Residual.{Residual}
-use Rattle.load_residual.specs.declared.residual.Residual.TheVariants.{Nothing}
 use Rattle.load_residual.specs.Inner.Residuals.{Gives, heeded, braced_gives, hash_gives}
 use Rattle.load_residual.proofs.Giving.{nothing_lies}
+use Rattle.load_residual.specs.declared.residual.Residual.{Residual}
 
 module _ (s : List ℕ) (hash e : ℕ) where
-  pub unheeded : (member : Bool) → not member ≡ true → Gives s Nothing (heeded member (hash_gives (between s hash e)))
+  pub unheeded : (member : Bool) → not member ≡ true → Gives s None (heeded member (hash_gives (between s hash e)))
   unheeded false n = record { look = refl; lies = nothing_lies (length s) }
   unheeded true n = clash n refl
 
@@ -46,18 +44,18 @@ module _ (s : List ℕ) (hash e : ℕ) where
         let w : hash + size - hash ≡ size = omega arith in
         rw (w, ← f) (sym (take-take size (e - hash) (drop hash s) n))
 
-    module _ {q : Place} (g : q ≡ first_where (starts 0x7B) (between s hash (hash + size))) where
+    module _ {q : Option ℕ} (g : q ≡ first_where (starts 0x7B) (between s hash (hash + size))) where
       found : hash_gives (between s hash e) ≡ braced_gives (between s hash (hash + size)) q
       found = sym (rw (g, trimmed))
 
-      pub no_brace : (member : Bool) → not member ≡ false → q ≡ Nowhere → Gives s Nothing (heeded member (hash_gives (between s hash e)))
+      pub no_brace : (member : Bool) → not member ≡ false → q ≡ None → Gives s None (heeded member (hash_gives (between s hash e)))
       no_brace member m z = go member m
         where
-          go : (b : Bool) → not b ≡ false → Gives s Nothing (heeded b (hash_gives (between s hash e)))
+          go : (b : Bool) → not b ≡ false → Gives s None (heeded b (hash_gives (between s hash e)))
           go true r = record { look = sym (found ∙ ap (braced_gives (between s hash (hash + size))) z); lies = nothing_lies (length s) }
           go false r = record { look = refl; lies = nothing_lies (length s) }
 
-      module _ {gap : ℕ} (z : q ≡ At gap) where
+      module _ {gap : ℕ} (z : q ≡ Some gap) where
         inside : gap < size
         inside =
             let n = few in
@@ -80,7 +78,7 @@ module _ (s : List ℕ) (hash e : ℕ) where
         given : hash_gives (between s hash e) ≡ signature_of (between s (hash + gap) (hash + size))
         given = found ∙ ap (braced_gives (between s hash (hash + size))) z ∙ ap signature_of json
 
-        pub brace_gives : {r : Residual} → Gives s r (signature_of (between s (hash + gap) (hash + size))) → (member : Bool) → not member ≡ false →
+        pub brace_gives : {r : Option Residual} → Gives s r (signature_of (between s (hash + gap) (hash + size))) → (member : Bool) → not member ≡ false →
             Gives s r (heeded member (hash_gives (between s hash e)))
         brace_gives {r} w member m = go member m
           where

@@ -1,4 +1,5 @@
 -- White space at the start of a line, and what it opens with behind that. Assumes nothing.
+use Rattle.std.specs.Prelude.{Some}
 use mathlib.Core.Path.{◌≡◌, refl, sym, ◌∙◌, ap}
 use mathlib.Core.Bool.{Bool, true, false}
 use mathlib.Core.List.{List, [], ◌∷◌, ◌++◌, append-nil, append_assoc}
@@ -17,9 +18,8 @@ use Rattle.ground.specs.Choice.{pick, both}
 use Rattle.ground.specs.Put.{between}
 use Rattle.ground.proofs.Cases.{le_or_lt, both_right, within_yes}
 use Rattle.ground.proofs.Parts.{drop_take, between_length, between_byte, parts_join}
-use Rattle.text_places.specs.declared.lines.NextLine.TheVariants.{Line}
 use Rattle.text_places.specs.Lines.{cr_end, lines, Taken}
-use Rattle.text_places.specs.Inner.NextLine.{to_lf, next_line}
+use Rattle.text_places.specs.Inner.NextLine.{to_lf, next_line, taken_line}
 use Rattle.text_places.proofs.LineLaws.{ToLf, lf_starts, lf_none, lf_found, cr_end_le, to_lf_le, line_ends_in_lf, line_ends_text, line_split}
 use Rattle.text_places.proofs.BlockLaws.{lf_past}
 use Rattle.text_utf8.specs.declared.sequence.Sequence.TheVariants.{Good}
@@ -38,6 +38,8 @@ use Rattle.load_residual.specs.declared.residual.Opening.TheVariants.{Blank, Com
 use Rattle.load_residual.specs.Inner.Openings.{OpensBy}
 use Rattle.load_residual.proofs.Local.{white_headed, dark_cut, dark_ends}
 use Rattle.load_residual.proofs.Opened.{other_gives}
+use Rattle.ground.proofs.Answered.{some_part}
+use Rattle.text_places.specs.declared.lines.NextLine.{NextLine}
 
 cr_white : (x : ℕ) → x ≡ 0x0D → is_white x ≡ true
 unfolding is_white in_ranges white_ranges
@@ -271,8 +273,8 @@ module _ {s : List ℕ} {at i : ℕ} (k : Leading s at i) (h : i < length s) (z 
   record Ends : Type 0 where
     «end» : ℕ
     next : ℕ
-    here : next_line s i ≡ Line i «end» next
-    there : next_line s at ≡ Line at «end» next
+    here : next_line s i ≡ Some (taken_line i «end» next)
+    there : next_line s at ≡ Some (taken_line at «end» next)
     behind : i < «end»
     inside : «end» ≤ length s
 
@@ -295,7 +297,7 @@ module _ {s : List ℕ} {at i : ℕ} (k : Leading s at i) (h : i < length s) (z 
         «end» = i + cr_end (between s i last);
         next = last;
         here = sym (line_ends_text s i refl h refl l);
-        there = sym (line_ends_text s at k.lf.decides start refl l) ∙ ap (λ e. Line at e last) cr_same;
+        there = sym (line_ends_text s at k.lf.decides start refl l) ∙ ap (λ e. Some (taken_line at e last)) cr_same;
         behind = let c = cr_past in omega arith;
         inside = few;
       }
@@ -303,7 +305,7 @@ module _ {s : List ℕ} {at i : ℕ} (k : Leading s at i) (h : i < length s) (z 
         «end» = i + cr_end (between s i last);
         next = last + 1;
         here = sym (line_ends_in_lf s i refl h refl l);
-        there = sym (line_ends_in_lf s at k.lf.decides start refl l) ∙ ap (λ e. Line at e (last + 1)) cr_same;
+        there = sym (line_ends_in_lf s at k.lf.decides start refl l) ∙ ap (λ e. Some (taken_line at e (last + 1))) cr_same;
         behind = let c = cr_past in omega arith;
         inside = few;
       }
@@ -337,11 +339,16 @@ module _ {s : List ℕ} {at i : ℕ} (k : Leading s at i) (h : i < length s) (z 
     past = λ e n q. behind e n q;
   }
     where
-      taken : (e n : ℕ) → next_line s i ≡ Line i e n → Taken s at at e n
-      taken e n q = let v = ends in let j = sym v.here ∙ q in line_split s at (v.there ∙ cc)
+      taken : (e n : ℕ) → next_line s i ≡ Some (taken_line i e n) → Taken s at at e n
+      taken e n q =
+          let v = ends in
+          let j = sym v.here ∙ q in
+          let stops : v.«end» ≡ e = some_part (λ (r : NextLine). r.«end») j in
+          let goes_on : v.next ≡ n = some_part (λ (r : NextLine). r.next) j in
+          line_split s at (v.there ∙ ap (λ b. Some (taken_line at b v.next)) stops ∙ ap (λ b. Some (taken_line at e b)) goes_on)
 
-      behind : (e n : ℕ) → next_line s i ≡ Line i e n → i < e
-      behind e n q = let v = ends in let j : Line i v.«end» v.next ≡ Line i e n = sym v.here ∙ q in let g : v.«end» ≡ e = cc in let b = v.behind in omega arith
+      behind : (e n : ℕ) → next_line s i ≡ Some (taken_line i e n) → i < e
+      behind e n q = let v = ends in let j : Some (taken_line i v.«end» v.next) ≡ Some (taken_line i e n) = sym v.here ∙ q in let g : v.«end» ≡ e = some_part (λ (r : NextLine). r.«end») j in let b = v.behind in omega arith
 
 module _ {s : List ℕ} {at i : ℕ} (k : Leading s at i) (h : i < length s) where
   pub lead_hash : get_or s i 0 ≡ 0x23 → OpensBy (Comment i) s at

@@ -11,18 +11,15 @@ ghost use Rattle.load_residual.specs.Inner.Openings.{OpensBy};
 ghost use Rattle.load_residual.specs.Inner.Passes.{passed_of, Looks};
 
 use json_comment::{Comment, Stands, is_residual, read_comment};
-use text_places::{NextLine, Place, first_byte, next_line};
+use text_places::{NextLine, first_byte, next_line};
 use text_white::{is_wide, trim_both, trim_end, white_length};
 
 // A string in a text: its JSON runs from `start` to `end`, and its first char stands at the place `string` of the JSON.
 #[derive(Clone, Copy)]
-pub enum Residual {
-    Text {
-        start: usize,
-        end: usize,
-        string: usize,
-    },
-    Nothing,
+pub struct Residual {
+    pub start: usize,
+    pub end: usize,
+    pub string: usize,
 }
 
 // Blank lines and comments that stand behind a class line or a member line: how many bytes they are in all, how many of them are blank,
@@ -38,7 +35,7 @@ pub struct Passed {
 // What the lines behind a line give, and those that were read for it: who goes over the lines need not read these again.
 #[derive(Clone, Copy)]
 pub struct Looked {
-    pub residual: Residual,
+    pub residual: Option<Residual>,
     pub passed: Passed,
 }
 
@@ -53,67 +50,65 @@ pub enum Opening {
 }
 
 // The place of the string under `signature`, if there is one and the id says that it counts.
-fn string_of(json: &[u8]) -> Place
+fn string_of(json: &[u8]) -> Option<usize>
     ensures { place_look json.now result ≡ signature_of json.now }
 {
     match read_comment(json) {
-        Comment::Unreadable => Place::Nowhere,
-        Comment::Readable { id, signature } => match id {
-            Stands::Missing => Place::Nowhere,
-            Stands::Other => Place::Nowhere,
+        None => None,
+        Some(Comment { id, signature }) => match id {
+            Stands::Missing => None,
+            Stands::Other => None,
             Stands::Text(named) => {
                 if is_residual(json, named) {
                     return match signature {
-                        Stands::Missing => Place::Nowhere,
-                        Stands::Other => Place::Nowhere,
-                        Stands::Text(string) => Place::At(string),
+                        Stands::Missing => None,
+                        Stands::Other => None,
+                        Stands::Text(string) => Some(string),
                     };
                 }
-                Place::Nowhere
+                None
             }
         },
     }
 }
 
 // The signature that a comment's JSON gives, which runs from `start` to `end`.
-fn signature_between(text: &[u8], start: usize, end: usize) -> Residual
+fn signature_between(text: &[u8], start: usize, end: usize) -> Option<Residual>
     requires { (start ≤ «end») × («end» ≤ length text.now) }
     ensures { Gives text.now result (signature_of (between text.now start «end»)) }
 {
-    let Place::At(string) = string_of(&text[start..end]) else {
-        return Residual::Nothing;
-    };
-    Residual::Text { start, end, string }
+    let string = string_of(&text[start..end])?;
+    Some(Residual { start, end, string })
 }
 
 // The signature that a comment gives, whose `{` stands at `brace`.
-fn signature_at(line: &[u8], brace: Place) -> Residual
+fn signature_at(line: &[u8], brace: Option<usize>) -> Option<Residual>
     requires { line_of line.now ≡ kinds.Comment brace }
     ensures { Gives line.now result (signature_at line.now brace) }
 {
-    let Place::At(start) = brace else {
-        return Residual::Nothing;
-    };
+    let start = brace?;
     let part = trim_both(line);
     signature_between(line, start, part.end)
 }
 
 // Whether there is a signature.
-fn is_given(residual: Residual) -> bool
+fn is_given(residual: Option<Residual>) -> bool
     ensures { result ≡ is_given residual }
 {
     match residual {
-        Residual::Text {
-            start: _,
-            end: _,
-            string: _,
-        } => true,
-        Residual::Nothing => false,
+        Some(
+            Residual {
+                start: _,
+                end: _,
+                string: _,
+            },
+        ) => true,
+        None => false,
     }
 }
 
 // Whether a comment gives a signature.
-pub fn gives_signature(line: &[u8], brace: Place) -> bool
+pub fn gives_signature(line: &[u8], brace: Option<usize>) -> bool
     requires { line_of line.now ≡ kinds.Comment brace }
     ensures { result ≡ is_known (signature_at line.now brace) }
 {
@@ -166,17 +161,17 @@ fn opening_at(text: &[u8], at: usize) -> Opening
 
 // The signature that a comment gives, by places in the text: its `#` stands at `hash`, and its line ends at `end`. It counts only where
 // there is a member before it.
-fn signature_in(text: &[u8], hash: usize, end: usize, member: bool) -> Residual
+fn signature_in(text: &[u8], hash: usize, end: usize, member: bool) -> Option<Residual>
     requires { (hash ≤ «end») × («end» ≤ length text.now) }
     ensures { Gives text.now result (heeded member (hash_gives (between text.now hash «end»))) }
 {
     if !member {
-        return Residual::Nothing;
+        return None;
     }
     let size = trim_end(&text[hash..end]);
     let stop = hash + size;
-    let Place::At(gap) = first_byte(&text[hash..stop], b'{') else {
-        return Residual::Nothing;
+    let Some(gap) = first_byte(&text[hash..stop], b'{') else {
+        return None;
     };
     signature_between(text, hash + gap, stop)
 }
@@ -199,7 +194,7 @@ pub fn residual_after(text: &[u8], member: bool) -> Looked
     requires { length text.now ≤ most_text }
     ensures { Looks member text.now result }
 {
-    let mut residual = Residual::Nothing;
+    let mut residual = None;
     let mut passed = none_passed();
     while passed.bytes < text.len() {
         let at = passed.bytes;
@@ -209,11 +204,13 @@ pub fn residual_after(text: &[u8], member: bool) -> Looked
                 passed.blank += 1;
             }
             Opening::Comment(hash) => {
-                let NextLine::Line {
-                    start: _,
-                    end,
-                    next,
-                } = next_line(text, hash)
+                let Some(
+                    NextLine {
+                        start: _,
+                        end,
+                        next,
+                    },
+                ) = next_line(text, hash)
                 else {
                     return Looked { residual, passed };
                 };

@@ -1,4 +1,5 @@
 -- Document 01, refusal 14, "tables malformed": never of what an accepted load leaves. Assumes nothing.
+use Rattle.std.specs.Prelude.{Ok}
 use mathlib.Core.Path.{◌≡◌, refl, sym, ◌∙◌, ap}
 use mathlib.Core.Bool.{true, false}
 use mathlib.Core.List.{List, [], ◌∷◌, ◌++◌}
@@ -26,9 +27,8 @@ use Rattle.tables.specs.Check.{all_of, class_fine, member_fine, well_formed}
 use Rattle.tables.proofs.Checking.{FineText, all_none, all_cons, FineCounts, class_fine_lem, member_fine_lem, well_formed_rows}
 use Rattle.tables.proofs.Holding.{Holds, holds_all, holds_as, holds_first, holds_second, holds_fine, nothing_fine}
 use Rattle.load_rule.specs.declared.Fates.{Fates}
-use Rattle.load_rule.specs.declared.Load.TheVariants.{Loaded}
 use Rattle.load_rule.specs.Comments.{residual_in}
-use Rattle.load_rule.specs.Fates.{fates_from, ownerless, fault_of, class_line}
+use Rattle.load_rule.specs.Fates.{fates_from, ownerless, fault_of, class_line, loaded_with}
 use Rattle.load_rule.specs.Classes.{classes_of, class_text, class_pool, class_row, class_rows}
 use Rattle.load_rule.specs.Members.{MemberKind, field, method, Entry, Under, under, under_after, entry_in, entries_from, display_text, entry_text, entry_pool, kind_number, owner_at, entry_row, entry_rows}
 use Rattle.load_rule.specs.Loading.{Lent, entries_of, pool_of, class_rows_of, member_rows_of, answer_of, lines_str, lines_parse, classes_left, members_left, pool_left}
@@ -40,6 +40,7 @@ use Rattle.load_rule.proofs.Exactly.{loaded_iff, loaded_leaves}
 use Rattle.load_rule.proofs.Octets.{KindOctets, EntryOctets, Entries, no_entry_lem, an_entry, str_texts, parse_texts, pool_texts}
 use Rattle.load_rule.specs.Laid.{rows_from}
 use Rattle.text_white.proofs.Cuts.{texts_as}
+use Rattle.load_rule.specs.declared.Loaded.{Loaded}
 
 -- A member's class row: a member line is sound only behind a class line.
 data Below (count : ℕ) : List Entry → Type 0 where
@@ -155,44 +156,44 @@ module _ (pool : List ℕ) (used : Used) where
 filled_length : {A : Type 0} (z : A) (used : List A) (n : ℕ) → length used ≤ n → length (used ++ replicate (n - length used) z) ≡ n
 filled_length z used n h = let a = length-append used (replicate (n - length used) z) in let b = length-replicate (n - length used) z in omega arith
 
-module _ (s : List ℕ) (ls : List (List ℕ)) (n : Lent) {f : Fates} {names : ℕ} (e : answer_of s ls n ≡ Loaded f names) where
-  fitted : Fitted s ls n f names
-  fitted = (loaded_iff s ls n f names).0 e
+module _ (s : List ℕ) (ls : List (List ℕ)) (n : Lent) {z : Loaded} (e : answer_of s ls n ≡ Ok z) where
+  fitted : Fitted s ls n z.fates z.names
+  fitted = (loaded_iff s ls n z.fates z.names).0 e
 
-  class_total : f.class ≡ length (classes_of ls)
+  class_total : z.fates.class ≡ length (classes_of ls)
   class_total = ap (λ x. x.class) (fates_sum ls fitted.passed.sound).is ∙ class_count false ls
 
-  member_total : f.field + f.method ≡ length (entries_of ls)
+  member_total : z.fates.field + z.fates.method ≡ length (entries_of ls)
   member_total = ap (λ x. x.field + x.method) (fates_sum ls fitted.passed.sound).is ∙ member_count false (classes_of ls) (under 0 []) ls
 
-  pub class_rows_total : length (class_rows_of ls) ≡ f.class
+  pub class_rows_total : length (class_rows_of ls) ≡ z.fates.class
   class_rows_total = rows_length class_row class_text 0 (classes_of ls) ∙ sym class_total
 
-  pub member_rows_total : length (member_rows_of ls) ≡ f.field + f.method
+  pub member_rows_total : length (member_rows_of ls) ≡ z.fates.field + z.fates.method
   member_rows_total = rows_length entry_row entry_text (length (class_pool (classes_of ls))) (entries_of ls) ∙ sym member_total
 
-  under_classes : Below f.class (entries_of ls)
+  under_classes : Below z.fates.class (entries_of ls)
   under_classes =
       let c = sound_clean (fates_from false ls) 1 0 ls fitted.passed.sound in
       let t = class_total in
       below_as (omega arith) (entries_below (classes_of ls) (under 0 []) ls c)
 
   module _ (rest : List ℕ) where
-    pub whole : Holds (pool_of ls ++ rest) (used_of f names) 0 (pool_of ls)
-    whole = holds_all (pool_of ls) rest (used_of f names) fitted.named
+    pub whole : Holds (pool_of ls ++ rest) (used_of z.fates z.names) 0 (pool_of ls)
+    whole = holds_all (pool_of ls) rest (used_of z.fates z.names) fitted.named
 
-    classes_fine : Pairs (classes_of ls) → all_of (class_fine (pool_of ls ++ rest) (used_of f names)) (class_rows_of ls) ≡ true
-    classes_fine p = class_rows_fine (pool_of ls ++ rest) (used_of f names) p 0 (holds_first (class_pool (classes_of ls)) (entry_pool (entries_of ls)) whole)
+    classes_fine : Pairs (classes_of ls) → all_of (class_fine (pool_of ls ++ rest) (used_of z.fates z.names)) (class_rows_of ls) ≡ true
+    classes_fine p = class_rows_fine (pool_of ls ++ rest) (used_of z.fates z.names) p 0 (holds_first (class_pool (classes_of ls)) (entry_pool (entries_of ls)) whole)
 
-    members_fine : Entries (entries_of ls) → all_of (member_fine (pool_of ls ++ rest) (used_of f names)) (member_rows_of ls) ≡ true
+    members_fine : Entries (entries_of ls) → all_of (member_fine (pool_of ls ++ rest) (used_of z.fates z.names)) (member_rows_of ls) ≡ true
     members_fine q =
-        entry_rows_fine (pool_of ls ++ rest) (used_of f names) q under_classes (length (class_pool (classes_of ls)))
+        entry_rows_fine (pool_of ls ++ rest) (used_of z.fates z.names) q under_classes (length (class_pool (classes_of ls)))
         (holds_as (omega arith) (holds_second (class_pool (classes_of ls)) (entry_pool (entries_of ls)) whole))
 
   counts_fine_lem :
       FineCounts (length (class_rows_of ls ++ replicate (n.classes - length (class_rows_of ls)) zero_class))
       (length (member_rows_of ls ++ replicate (n.members - length (member_rows_of ls)) zero_member))
-      (length (pool_of ls ++ replicate (n.pool - length (pool_of ls)) 0)) (used_of f names)
+      (length (pool_of ls ++ replicate (n.pool - length (pool_of ls)) 0)) (used_of z.fates z.names)
   counts_fine_lem =
       let k = fitted in
       let a = k.class_rows_lem in
@@ -207,7 +208,7 @@ module _ (s : List ℕ) (ls : List (List ℕ)) (n : Lent) {f : Fates} {names : �
       record { class_rows_lem = rw classes a; member_rows = rw members b; pool_bytes = rw (pool, d) c }
 
   -- where the lines are well formed
-  lines_formed : Texts ls → well_formed (classes_left s ls n) (members_left s ls n) (pool_left s ls n) (used_of f names) ≡ true
+  lines_formed : Texts ls → well_formed (classes_left s ls n) (members_left s ls n) (pool_left s ls n) (used_of z.fates z.names) ≡ true
   lines_formed t =
       let (a, b, c) = loaded_leaves s ls n e in
       let (p, q) = pool_texts t in
@@ -215,13 +216,13 @@ module _ (s : List ℕ) (ls : List (List ℕ)) (n : Lent) {f : Fates} {names : �
       rw (a, b, c)
       (well_formed_rows (class_rows_of ls) (replicate (n.classes - length (class_rows_of ls)) zero_class)
       (member_rows_of ls) (replicate (n.members - length (member_rows_of ls)) zero_member)
-      (pool_of ls ++ rest) (used_of f names) class_rows_total member_rows_total counts_fine_lem (classes_fine rest p) (members_fine rest q))
+      (pool_of ls ++ rest) (used_of z.fates z.names) class_rows_total member_rows_total counts_fine_lem (classes_fine rest p) (members_fine rest q))
 
   octets : Utf8Octets s
   octets = (valid_iff s).0 fitted.passed.valid
 
 -- the rows and the pool of an accepted load are never refused with 14, be it by `parse_str` or by `parse`
-pub never_malformed : (s : List ℕ) (ls : List (List ℕ)) (n : Lent) {f : Fates} {names : ℕ} → (ls ≡ lines_str s) ⊎ (ls ≡ lines_parse s) → answer_of s ls n ≡ Loaded f names →
-    well_formed (classes_left s ls n) (members_left s ls n) (pool_left s ls n) (used_of f names) ≡ true
-never_malformed s ls n {f} {names} (inl q) e = lines_formed s ls n e (texts_as (sym q) (str_texts (octets s ls n e)))
-never_malformed s ls n {f} {names} (inr q) e = lines_formed s ls n e (texts_as (sym q) (parse_texts (octets s ls n e)))
+pub never_malformed : (s : List ℕ) (ls : List (List ℕ)) (n : Lent) {x : Loaded} → (ls ≡ lines_str s) ⊎ (ls ≡ lines_parse s) → answer_of s ls n ≡ Ok x →
+    well_formed (classes_left s ls n) (members_left s ls n) (pool_left s ls n) (used_of x.fates x.names) ≡ true
+never_malformed s ls n {x} (inl q) e = lines_formed s ls n e (texts_as (sym q) (str_texts (octets s ls n e)))
+never_malformed s ls n {x} (inr q) e = lines_formed s ls n e (texts_as (sym q) (parse_texts (octets s ls n e)))

@@ -1,6 +1,7 @@
 -- Every text of a mapping is well formed where the text that it is loaded from is: the classes' descriptors, and the members' names,
 -- descriptors and owners.
 -- Assumes nothing.
+use Rattle.std.specs.Prelude.{Some, None, Option}
 use mathlib.Core.Path.{◌≡◌, refl}
 use mathlib.Core.Bool.{Bool, true, false}
 use mathlib.Core.List.{List, [], ◌∷◌, ◌++◌, map}
@@ -9,16 +10,13 @@ use native.Mathlib.Omega.{arith}
 use lib.Dec.{eqb}
 use Rattle.ground.specs.Abnf.{none}
 use Rattle.ground.specs.Choice.{pick}
-use Rattle.text_places.specs.declared.find.Place.TheVariants.{At, Nowhere}
 use Rattle.text_utf8.specs.Grammar.{Utf8Octets}
 use Rattle.text_utf8.proofs.Boundaries.{append_octets, cons_octets, Texts, no_text, text}
 use Rattle.text_white.specs.Trim.{trim_both}
 use Rattle.text_white.proofs.Cuts.{run_octets, lines_texts}
 use Rattle.json_comment.specs.declared.answer.Stands.{Stands}
 use Rattle.json_comment.specs.declared.answer.Stands.TheVariants as stands
-use Rattle.json_comment.specs.declared.answer.Comment as comment
-use Rattle.json_comment.specs.declared.answer.Comment.TheVariants.{Unreadable, Readable}
-use Rattle.json_comment.specs.Answer.{comment_of}
+use Rattle.json_comment.specs.Answer.{comment_of, comment_with}
 use Rattle.json_comment.proofs.Strings.{signature_octets}
 use Rattle.line_parts.specs.declared.signature.Qualified.{Qualified}
 use Rattle.line_parts.specs.declared.signature.Qualified.TheVariants.{Owned, Plain}
@@ -36,6 +34,7 @@ use Rattle.load_rule.specs.Classes.{class_in, classes_of}
 use Rattle.descriptor.specs.Raw.{raw_type_of}
 use Rattle.load_rule.specs.Members.{field_descriptor, types_descriptor, method_descriptor, MemberKind, field, method, Entry, Under, under, under_after, name_text, owner_of, entry_in, entries_from}
 use Rattle.load_rule.specs.Loading.{entries_of, lines_str, lines_parse}
+use Rattle.json_comment.specs.declared.answer.Comment as comments
 
 -- Signatures of comments.
 abbrev pub LookOctets : Look → Type 0
@@ -49,20 +48,20 @@ look_first unknown b o w = w
 signature_look : (s : List ℕ) → Utf8Octets s → LookOctets (signature_of s)
 signature_look s o = go (comment_of s) refl
   where
-    by_id : (b : Bool) {i : Stands} (g : Stands) → comment_of s ≡ Readable i g → LookOctets (pick b (string_at s g) unknown)
+    by_id : (b : Bool) {i : Stands} (g : Stands) → comment_of s ≡ Some (comment_with i g) → LookOctets (pick b (string_at s g) unknown)
     by_id true stands.Missing e = tt
     by_id true stands.Other e = tt
     by_id true (stands.Text p) e = signature_octets s e refl o
     by_id false g e = tt
 
-    go : (c : comment.Comment) → comment_of s ≡ c → LookOctets (signature_by s c)
-    go Unreadable e = tt
-    go (Readable i g) e = by_id (says_residual s i) g e
+    go : (c : Option comments.Comment) → comment_of s ≡ c → LookOctets (signature_by s c)
+    go None e = tt
+    go (Some r) e = by_id (says_residual s r.id) r.signature e
 
 residual_look_lem : (l : List ℕ) (k : Line) → LineOctets l (trim_both l).«end» k → (later : Look) → LookOctets later → LookOctets (residual_by l k later)
 residual_look_lem l Blank o later w = w
-residual_look_lem l (Comment Nowhere) o later w = look_first later unknown w tt
-residual_look_lem l (Comment (At brace)) o later w = look_first later (signature_at l (At brace)) w (signature_look (part_of l (record { start = brace; «end» = (trim_both l).«end» })) o)
+residual_look_lem l (Comment None) o later w = look_first later unknown w tt
+residual_look_lem l (Comment (Some brace)) o later w = look_first later (signature_at l (Some brace)) w (signature_look (part_of l (record { start = brace; «end» = (trim_both l).«end» })) o)
 residual_look_lem l (Class display raw) o later w = tt
 residual_look_lem l (Field declared name raw) o later w = tt
 residual_look_lem l (Method m raw) o later w = tt

@@ -1,4 +1,5 @@
 -- Fates of lines as a whole: they add up to the lines, and there are as many rows as class lines and as member lines. Assumes nothing.
+use Rattle.std.specs.Prelude.{Ok, Err}
 use mathlib.Core.Path.{◌≡◌, refl}
 use mathlib.Core.Bool.{Bool, true, false}
 use mathlib.Core.List.{List, [], ◌∷◌}
@@ -14,9 +15,8 @@ use Rattle.line.specs.Kinds.{line_of}
 use Rattle.ground.specs.Look.{Look, unknown, is_known}
 use Rattle.table_rows.specs.Classes.{Pair}
 use Rattle.load_rule.specs.declared.Fates.{Fates}
-use Rattle.load_rule.specs.declared.Scan.TheVariants.{Sound, Faulty}
 use Rattle.load_rule.specs.Comments.{signature_at, residual_in}
-use Rattle.load_rule.specs.Fates.{one, comment_fate, method_fate, fate_of, member_after, fates_from, fault_of, class_line, faults_from, scan_of}
+use Rattle.load_rule.specs.Fates.{one, comment_fate, method_fate, fate_of, member_after, fates_from, fault_of, class_line, faults_from, scan_of, fault_at}
 use Rattle.load_rule.specs.Classes.{class_in, classes_of}
 use Rattle.load_rule.specs.Members.{Under, under, under_after, entry_in, entries_from}
 use Rattle.load_rule.specs.Theorems.{Counts}
@@ -45,24 +45,24 @@ kind_one classes member l (Refused r) e = absurd (refused_faulty classes r e)
 -- a sound line, and sound ones after it
 pub record Sounder (all : Fates) (number classes : ℕ) (l : List ℕ) (ls : List (List ℕ)) (f : Fates) : Type 0 where
   pub here : fault_of classes (line_of l) ≡ 0
-  pub later : faults_from all (suc number) (classes + class_line (line_of l)) ls ≡ Sound f
+  pub later : faults_from all (suc number) (classes + class_line (line_of l)) ls ≡ Ok f
 
-pub sound_cons : (all : Fates) (number classes : ℕ) (l : List ℕ) (ls : List (List ℕ)) {f : Fates} → faults_from all number classes (l ∷ ls) ≡ Sound f →
+pub sound_cons : (all : Fates) (number classes : ℕ) (l : List ℕ) (ls : List (List ℕ)) {f : Fates} → faults_from all number classes (l ∷ ls) ≡ Ok f →
     Sounder all number classes l ls f
 unfolding faults_from
 sound_cons all number classes l ls {f} e = go (eqb (fault_of classes (line_of l)) 0) refl e
   where
     go : (b : Bool) → eqb (fault_of classes (line_of l)) 0 ≡ b →
-        pick b (faults_from all (suc number) (classes + class_line (line_of l)) ls) (Faulty (fault_of classes (line_of l)) number) ≡ Sound f → Sounder all number classes l ls f
+        pick b (faults_from all (suc number) (classes + class_line (line_of l)) ls) (Err (fault_at (fault_of classes (line_of l)) number)) ≡ Ok f → Sounder all number classes l ls f
     go true q g = record { here = eqb-true (fault_of classes (line_of l)) 0 q; later = g }
     go false q g = absurd (let z : ◌≡◌ {A = ℕ} 0 1 = cc in omega arith)
 
-sound_all : (all : Fates) (number classes : ℕ) (ls : List (List ℕ)) {f : Fates} → faults_from all number classes ls ≡ Sound f → f ≡ all
+sound_all : (all : Fates) (number classes : ℕ) (ls : List (List ℕ)) {f : Fates} → faults_from all number classes ls ≡ Ok f → f ≡ all
 unfolding faults_from
 sound_all all number classes [] e = cc
 sound_all all number classes (l ∷ ls) e = sound_all all (suc number) (classes + class_line (line_of l)) ls (sound_cons all number classes l ls e).later
 
-sound_kinds : (all : Fates) (number classes : ℕ) (member : Bool) (ls : List (List ℕ)) {f : Fates} → faults_from all number classes ls ≡ Sound f →
+sound_kinds : (all : Fates) (number classes : ℕ) (member : Bool) (ls : List (List ℕ)) {f : Fates} → faults_from all number classes ls ≡ Ok f →
     kinds (fates_from member ls) ≡ length ls
 unfolding fates_from
 sound_kinds all number classes member [] e = refl
@@ -103,7 +103,7 @@ short_few member (l ∷ ls) =
     let b = short_few (member_after member (line_of l)) ls in
     omega arith
 
-pub fates_sum : (ls : List (List ℕ)) {f : Fates} → scan_of ls ≡ Sound f → Counts ls f
+pub fates_sum : (ls : List (List ℕ)) {f : Fates} → scan_of ls ≡ Ok f → Counts ls f
 fates_sum ls {f} e =
     let all : f ≡ fates_from false ls = sound_all (fates_from false ls) 1 0 ls e in
     let a = sound_kinds (fates_from false ls) 1 0 false ls e in

@@ -1,21 +1,18 @@
 -- Document 01 "Comments": the signature that a comment gives.
-use Rattle.std.specs.Prelude.{Bool, false, List, [], ◌∷◌, ℕ, drop}
+use Rattle.std.specs.Prelude.{Bool, false, List, [], ◌∷◌, ℕ, drop, Option, Some, None}
 use Rattle.ground.specs.Choice.{pick}
-use Rattle.text_places.specs.declared.find.Place.{Place}
-use Rattle.text_places.specs.declared.find.Place.TheVariants.{At, Nowhere}
 use Rattle.text_white.specs.Trim.{trim_both}
 use Rattle.json_grammar.specs.Reader.{chars_from}
 use Rattle.json_decode.specs.Decoded.{decoded}
 use Rattle.json_comment.specs.declared.answer.Stands.{Stands}
 use Rattle.json_comment.specs.declared.answer.Stands.TheVariants as stands
-use Rattle.json_comment.specs.declared.answer.Comment as comment
-use Rattle.json_comment.specs.declared.answer.Comment.TheVariants.{Unreadable, Readable}
 use Rattle.json_comment.specs.Answer.{comment_of, residual_of}
 use Rattle.line.specs.declared.line.Line.{Line}
 use Rattle.line.specs.declared.line.Line.TheVariants.{Blank, Comment, Class, Field, Method, Refused}
 use Rattle.text_places.specs.Spans.{span, part_of}
 use Rattle.line.specs.Kinds.{line_of}
 use Rattle.ground.specs.Look.{Look, known, unknown, or_look}
+use Rattle.json_comment.specs.declared.answer.Comment as comments
 
 -- "`id` is compared with `com.android.tools.r8.residualsignature`"
 abbrev pub says_residual : List ℕ → Stands → Bool
@@ -30,9 +27,9 @@ string_at s stands.Other = unknown
 string_at s (stands.Text at) = known (decoded (chars_from 0 (drop at s)))
 
 -- "Everything else is idle."
-abbrev pub signature_by : List ℕ → comment.Comment → Look
-signature_by s Unreadable = unknown
-signature_by s (Readable id signature) = pick (says_residual s id) (string_at s signature) unknown
+abbrev pub signature_by : List ℕ → Option comments.Comment → Look
+signature_by s None = unknown
+signature_by s (Some r) = pick (says_residual s r.id) (string_at s r.signature) unknown
 
 -- the signature that a JSON text gives
 abbrev pub signature_of : List ℕ → Look
@@ -42,9 +39,9 @@ signature_of s = signature_by s (comment_of s)
 abbrev pub json_of : List ℕ → ℕ → List ℕ
 json_of l brace = part_of l (span brace (trim_both l).«end»)
 
-abbrev pub signature_at : List ℕ → Place → Look
-signature_at l Nowhere = unknown
-signature_at l (At brace) = signature_of (json_of l brace)
+abbrev pub signature_at : List ℕ → Option ℕ → Look
+signature_at l None = unknown
+signature_at l (Some brace) = signature_of (json_of l brace)
 
 -- "then a string `signature` replaces the raw signature of the last member of the current class": what comments after a member, before any
 -- other class line or member line, give; each replaces what one before it gave. `later` is what the lines after this one give.

@@ -1,5 +1,5 @@
 -- Document 01 "Fates of lines", and the first faulty line.
-use Rattle.std.specs.Prelude.{Bool, true, false, List, [], ◌∷◌, ℕ, suc, ◌+◌, eqb}
+use Rattle.std.specs.Prelude.{Bool, true, false, List, [], ◌∷◌, ℕ, suc, ◌+◌, eqb, Result, Ok, Err}
 use Rattle.ground.specs.Choice.{pick, both, bit}
 use Rattle.line.specs.declared.line.Refusal.{Refusal}
 use Rattle.line.specs.declared.line.Refusal.TheVariants as refusal
@@ -10,9 +10,15 @@ use Rattle.ground.specs.Look.{is_known}
 use Rattle.load_rule.specs.declared.Fate.{Fate}
 use Rattle.load_rule.specs.declared.Fate.TheVariants as fate
 use Rattle.load_rule.specs.declared.Fates.{Fates}
-use Rattle.load_rule.specs.declared.Scan.{Scan}
-use Rattle.load_rule.specs.declared.Scan.TheVariants.{Sound, Faulty}
 use Rattle.load_rule.specs.Comments.{signature_at}
+use Rattle.load_rule.specs.declared.Fault.{Fault}
+use Rattle.load_rule.specs.declared.Loaded.{Loaded}
+
+abbrev pub fault_at : ℕ → ℕ → Fault
+fault_at number line = record { number = number; line = line }
+
+abbrev pub loaded_with : Fates → ℕ → Loaded
+loaded_with fates names = record { fates = fates; names = names }
 
 -- the fates of a line, told apart by numbers
 abbrev pub fate_number : Fate → ℕ
@@ -120,12 +126,12 @@ class_line (Method m raw) = 0
 class_line (Refused r) = 0
 
 -- the first faulty line, else what became of all lines: `all`
-unfoldable pub faults_from : Fates → ℕ → ℕ → List (List ℕ) → Scan
-faults_from all number classes [] = Sound all
+unfoldable pub faults_from : Fates → ℕ → ℕ → List (List ℕ) → Result Fates Fault
+faults_from all number classes [] = Ok all
 faults_from all number classes (l ∷ ls) =
     let later = faults_from all (suc number) (classes + class_line (line_of l)) ls in
-    pick (eqb (fault_of classes (line_of l)) 0) later (Faulty (fault_of classes (line_of l)) number)
+    pick (eqb (fault_of classes (line_of l)) 0) later (Err (fault_at (fault_of classes (line_of l)) number))
 
 -- "3 to 7 for the first faulty line"; counting starts at 1
-abbrev pub scan_of : List (List ℕ) → Scan
+abbrev pub scan_of : List (List ℕ) → Result Fates Fault
 scan_of ls = faults_from (fates_from false ls) 1 0 ls

@@ -1,9 +1,7 @@
 -- Document 01 "Rows and names": members.
-use Rattle.std.specs.Prelude.{true, false, List, [], ◌∷◌, ◌++◌, map, ℕ, ◌+◌, ◌-◌, length}
+use Rattle.std.specs.Prelude.{true, false, List, [], ◌∷◌, ◌++◌, map, ℕ, ◌+◌, ◌-◌, length, Option, Some, None}
 use Rattle.line_parts.specs.declared.signature.Qualified.{Qualified}
 use Rattle.line_parts.specs.declared.signature.Qualified.TheVariants.{Owned, Plain}
-use Rattle.line_parts.specs.declared.method.LineRange.{LineRange}
-use Rattle.line_parts.specs.declared.method.LineRange.TheVariants.{Lines, NoLines}
 use Rattle.line.specs.declared.line.Line.{Line}
 use Rattle.line.specs.declared.line.Line.TheVariants.{Blank, Comment, Class, Field, Method, Refused}
 use Rattle.text_places.specs.Spans.{part_of}
@@ -16,11 +14,12 @@ use Rattle.ground.specs.Join.{join}
 use Rattle.table_rows.specs.Classes.{Pair}
 use Rattle.table_rows.specs.declared.rows.Text.{Text}
 use Rattle.table_rows.specs.declared.rows.Ranges.{Ranges}
-use Rattle.table_rows.specs.declared.rows.Ranges.TheVariants.{None, Display, Both}
+use Rattle.table_rows.specs.declared.rows.Ranges.TheVariants as ranges
 use Rattle.table_rows.specs.Rows.{text, pack_member}
 use Rattle.descriptor.specs.Raw.{raw_type_of}
 use Rattle.load_rule.specs.Comments.{residual_in}
 use Rattle.load_rule.specs.Laid.{rows_from}
+use Rattle.line_parts.specs.declared.method.LineRange.{LineRange}
 
 -- the raw descriptor of a field: that of its residual signature, else that of its display type
 abbrev pub field_descriptor : List Pair → Look → List ℕ → List ℕ
@@ -39,11 +38,11 @@ method_descriptor cs (known s) arguments returned = raw_signature true s
 method_descriptor cs unknown arguments returned = types_descriptor cs arguments returned
 
 -- "range flag (0 none, 1 display only, 2 both)": the display range is there wherever the raw one is
-abbrev pub ranges_of : LineRange → LineRange → Ranges
-ranges_of NoLines NoLines = None
-ranges_of NoLines (Lines a e) = Display a e
-ranges_of (Lines p q) NoLines = Both p q p q
-ranges_of (Lines p q) (Lines a e) = Both p q a e
+abbrev pub ranges_of : Option LineRange → Option LineRange → Ranges
+ranges_of None None = ranges.None
+ranges_of None (Some r) = ranges.Display r.start r.«end»
+ranges_of (Some r) None = ranges.Both r.start r.«end» r.start r.«end»
+ranges_of (Some r) (Some x) = ranges.Both r.start r.«end» x.start x.«end»
 
 -- what only a method has: its display owner and its ranges
 pub data MemberKind : Type 0 where
@@ -136,7 +135,7 @@ owner_at p field = text 0 0
 owner_at p (method o g) = text p (length o)
 
 abbrev pub kind_ranges : MemberKind → Ranges
-kind_ranges field = None
+kind_ranges field = ranges.None
 kind_ranges (method o g) = g
 
 -- the row of a member whose texts stand at the place `p`

@@ -36,19 +36,24 @@ pub struct Fates {
 
 // The lines of a text: what became of them, or the first faulty one.
 #[derive(Clone, Copy)]
-pub enum Scan {
-    Sound(Fates),
-    Faulty { number: u32, line: u32 },
+pub struct Fault {
+    pub number: u32,
+    pub line: u32,
 }
 
 #[derive(Clone, Copy)]
-pub enum Load {
-    // `names` is how many bytes of the pool are used.
-    Loaded { fates: Fates, names: u32 },
+pub struct Loaded {
+    pub fates: Fates,
+    pub names: u32,
+}
+
+// Why a text is refused.
+#[derive(Clone, Copy)]
+pub enum LoadError {
     TooLong,
     // How many bytes before it are valid, and the length of what is not.
     NotUtf8 { valid: u32, length: u32 },
-    Faulty { number: u32, line: u32 },
+    Faulty(Fault),
     NoClasses,
     FewClassRows,
     FewMemberRows,

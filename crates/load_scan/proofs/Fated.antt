@@ -1,11 +1,11 @@
 -- What becomes of a line, by what it is. Assumes nothing.
+use Rattle.std.specs.Prelude.{Option}
 use mathlib.Core.Path.{◌≡◌, sym, ◌∙◌, ap}
 use mathlib.Core.Bool.{Bool, true, false}
 use mathlib.Core.List.{List}
 use Prim.Native.Nat.{ℕ}
 use borrow.Author.Rules.{rules}
 use Rattle.ground.specs.Look.{is_known}
-use Rattle.text_places.specs.declared.find.Place.{Place}
 use Rattle.text_places.specs.declared.spans.Span.{Span}
 use Rattle.line_parts.specs.declared.method.Method.{Method}
 use Rattle.line.specs.declared.line.Refusal.{Refusal}
@@ -33,7 +33,7 @@ module _ (member : Bool) (l : List ℕ) {k : Line} where
   pub fated_method : {m : Method} {r : Span} → k ≡ kinds.Method m r → {x : Fate} → x ≡ method_fate m.short → x ≡ fate_of member l k
   fated_method e g = g ∙ sym (ap (fate_of member l) e)
 
-  module _ {brace : Place} (e : k ≡ kinds.Comment brace) where
+  module _ {brace : Option ℕ} (e : k ≡ kinds.Comment brace) where
     pub fated_kind : line_of l ≡ k → line_of l ≡ kinds.Comment brace
     fated_kind h = h ∙ e
 

@@ -1,4 +1,5 @@
 -- All lines, one after the other. Assumes nothing.
+use Rattle.std.specs.Prelude.{Ok}
 use mathlib.Core.Path.{◌≡◌, sym, ◌∙◌, ap}
 use mathlib.Core.Bool.{Bool}
 use mathlib.Core.List.{List, [], ◌∷◌}
@@ -11,7 +12,6 @@ use Rattle.line.specs.Kinds.{line_of}
 use Rattle.load_rule.specs.declared.Fate.{Fate}
 use Rattle.load_rule.specs.declared.Fate.TheVariants as fate
 use Rattle.load_rule.specs.declared.Fates.{Fates}
-use Rattle.load_rule.specs.declared.Scan.TheVariants.{Sound}
 use Rattle.load_rule.specs.Fates.{plus, one, fate_of, member_after, fates_from, fault_of, faults_from}
 use Rattle.load_rule.proofs.Tally.{plus_none, plus_plus, fate_class}
 use Rattle.load_scan.specs.declared.step.LineStep.{LineStep}
@@ -61,9 +61,9 @@ unfolding fates_from faults_from
 scan_line f member l ls e =
     rw (e, plus_plus f (one (fate_of member l (line_of l))) (fates_from (member_after member (line_of l)) ls), ← fate_class member l (line_of l), add-one (f.lines + 1))
 
-pub scan_end : (f : Fates) (member : Bool) → scan_on f member [] ≡ Sound f
+pub scan_end : (f : Fates) (member : Bool) → scan_on f member [] ≡ Ok f
 unfolding fates_from faults_from
-scan_end f member = ap Sound (plus_none f)
+scan_end f member = ap Ok (plus_none f)
 
 -- what is counted up to the place `at`, where the rest decides as the whole does
 pub record Scanning (s : List ℕ) («from» : ℕ) (before : Fates) (has : Bool) (at : ℕ) (f : Fates) (member : Bool) : Type 0 where

@@ -1,4 +1,5 @@
 -- One line. Assumes nothing.
+use Rattle.std.specs.Prelude.{Option, Some, Err}
 use mathlib.Core.Path.{◌≡◌, refl, sym, ◌∙◌, ap}
 use mathlib.Core.Bool.{Bool, true, false, not}
 use mathlib.Core.List.{List, [], ◌∷◌}
@@ -12,24 +13,22 @@ use borrow.Author.Tests.{eq-eqb, ne_eqb, eqb-true, eqb-false, not-true, not-fals
 use borrow.Author.Rules.{rules}
 use Rattle.ground.specs.Choice.{pick}
 use Rattle.ground.specs.Put.{between}
-use Rattle.text_places.specs.declared.lines.NextLine.{NextLine}
-use Rattle.text_places.specs.declared.lines.NextLine.TheVariants.{Line}
 use Rattle.text_places.specs.Lines.{lines, Taken}
-use Rattle.text_places.specs.Inner.NextLine.{next_line}
+use Rattle.text_places.specs.Inner.NextLine.{next_line, taken_line}
 use Rattle.text_places.proofs.Taking.{line_taken, none_taken, line_order, line_ends}
 use Rattle.line.specs.declared.line.Line as line
 use Rattle.line.specs.declared.line.Line.TheVariants as kinds
 use Rattle.line.specs.Kinds.{line_of}
 use Rattle.load_rule.specs.declared.Fate.{Fate}
 use Rattle.load_rule.specs.declared.Fates.{Fates}
-use Rattle.load_rule.specs.declared.Scan.TheVariants as scan
-use Rattle.load_rule.specs.Fates.{fate_of, member_after, fault_of, fates_from, faults_from}
+use Rattle.load_rule.specs.Fates.{fate_of, member_after, fault_of, fates_from, faults_from, fault_at}
 use Rattle.load_rule.specs.Loading.{most_text}
 use Rattle.load_scan.specs.declared.step.LineStep.{LineStep}
 use Rattle.load_scan.specs.declared.step.Step.{Step}
 use Rattle.load_scan.specs.declared.step.Step.TheVariants as steps
 use Rattle.load_scan.specs.Inner.Bounds.{Within}
 use Rattle.load_scan.specs.Inner.Steps.{is_entered, scan_on, line_step, step_of, StepLine, StepPassed, StepFault, StepBy}
+use Rattle.text_places.specs.declared.lines.NextLine.{NextLine}
 
 pub within_more : (f : Fates) (a n : ℕ) → Within f a → a ≤ n → Within f n
 within_more f a n v h = record {
@@ -44,7 +43,7 @@ within_more f a n v h = record {
 }
 
 pub scan_fault : (f : Fates) (member : Bool) (l : List ℕ) (ls : List (List ℕ)) → (fault_of f.class (line_of l) ≡ 0 → ⊥) →
-    scan_on f member (l ∷ ls) ≡ scan.Faulty (fault_of f.class (line_of l)) (f.lines + 1)
+    scan_on f member (l ∷ ls) ≡ Err (fault_at (fault_of f.class (line_of l)) (f.lines + 1))
 unfolding fates_from faults_from
 scan_fault f member l ls n = rw (ne_eqb (fault_of f.class (line_of l)) 0 n)
 
@@ -93,7 +92,7 @@ module _ (s : List ℕ) (at classes : ℕ) (member : Bool) {a e n : ℕ} (t : Ta
   fault_there z f g =
       let same : fault_of f.class (line_of (between s a e)) ≡ fault_of classes (line_of (between s a e)) = ap (λ y. fault_of y (line_of (between s a e))) g in
       ap (scan_on f member) t.split ∙ scan_fault f member (between s a e) (lines (drop n s)) (λ y. z (sym same ∙ y))
-      ∙ ap (λ y. scan.Faulty y (f.lines + 1)) same
+      ∙ ap (λ y. Err (fault_at y (f.lines + 1))) same
 
   line_there : fault_of classes (line_of (between s a e)) ≡ 0 → StepLine s at classes member (line_step (between s a e) a e n member)
   line_there z = record { taken = t; is = refl; clean = z; fate = refl; after = refl }
@@ -119,8 +118,8 @@ module _ (s : List ℕ) (at classes : ℕ) (member : Bool) {a e n : ℕ} (t : Ta
       go true z false i = passed_there (eqb-true (fault_of classes (line_of (between s a e))) 0 z) i
       go false z c i = fault_there (eqb-false (fault_of classes (line_of (between s a e))) 0 z)
 
-module _ (s : List ℕ) (at classes : ℕ) (member : Bool) {t : NextLine} (b : t ≡ next_line s at) where
-  pub step_next : {a e n : ℕ} → t ≡ Line a e n → (r : Step) → r ≡ step_of (between s a e) a e n classes member → StepBy r s at classes member
+module _ (s : List ℕ) (at classes : ℕ) (member : Bool) {t : Option NextLine} (b : t ≡ next_line s at) where
+  pub step_next : {x : NextLine} → t ≡ Some x → (r : Step) → r ≡ step_of (between s x.start x.«end») x.start x.«end» x.next classes member → StepBy r s at classes member
   step_next q r w = rw w (step_there s at classes member (line_taken s at b q))
 
 pub ruleset next_stepping = (none_taken, line_order, line_ends, step_next, rules)

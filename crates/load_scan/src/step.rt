@@ -83,7 +83,7 @@ pub fn step_of(
 pub fn next_step(text: &[u8], at: usize, classes: u32, member: bool) -> Step
     ensures { StepBy result text.now at classes member }
 {
-    let NextLine::Line { start, end, next } = next_line(text, at) else {
+    let Some(NextLine { start, end, next }) = next_line(text, at) else {
         return Step::End;
     };
     step_of(text, start, end, next, classes, member)

@@ -1,4 +1,5 @@
 -- The texts of a member, one after the other. Assumes nothing.
+use Rattle.std.specs.Prelude.{Result, Ok, Err, Option, Some, None}
 use mathlib.Core.Path.{◌≡◌, sym, ◌∙◌, ap}
 use mathlib.Core.Bool.{Bool}
 use mathlib.Core.List.{List, [], ◌++◌, append_assoc}
@@ -17,13 +18,11 @@ use Rattle.text_places.specs.Spans.{Lies}
 use Rattle.line_parts.specs.Signatures.{NameIn}
 use Rattle.line_parts.specs.Methods.{MethodIn}
 use Rattle.line_parts.specs.Arguments.{arguments_of}
-use Rattle.table_pool.specs.declared.write.Wrote.{Wrote}
-use Rattle.table_pool.specs.declared.write.Wrote.TheVariants.{Done, NoRoom}
 use Rattle.table_pool.specs.Names.{class_descriptor}
 use Rattle.descriptor.specs.Signatures.{raw_signature}
 use Rattle.ground.specs.Look.{Look, known, unknown}
 use Rattle.table_rows.specs.Classes.{Pair}
-use Rattle.table_pool.specs.Inner.Wrote.{WroteBy, TwoAt, TwoBy}
+use Rattle.table_pool.specs.Inner.Wrote.{WroteBy, TwoAt, TwoBy, no_room, two_texts}
 use Rattle.table_pool.proofs.Writes.{written_length, wrote_told, wrote_then, wrote_as, two_no_first, two_no_second, two_done, two_told, two_none}
 use Rattle.tables.specs.Back.{read_back}
 use Rattle.descriptor.specs.Raw.{raw_type_of}
@@ -31,18 +30,16 @@ use Rattle.load_raw_types.specs.Inner.Behind.{Indexed}
 use Rattle.load_raw_types.proofs.Indexing.{read_back_put}
 use Rattle.load_rule.specs.Comments.{residual_in}
 use Rattle.load_rule.specs.Members.{owner_of, types_descriptor}
-use Rattle.load_residual.specs.declared.residual.Residual.{Residual}
-use Rattle.load_residual.specs.declared.residual.Residual.TheVariants.{Text, Nothing}
-use Rattle.load_residual.specs.Inner.Residuals.{json_part, residual_look, Gives}
+use Rattle.load_residual.specs.Inner.Residuals.{json_part, residual_look, Gives, residual_string}
 use Rattle.load_texts.specs.declared.texts.Body.{Body}
 use Rattle.load_texts.specs.declared.texts.Body.TheVariants.{Field, Method}
 use Rattle.load_texts.specs.declared.texts.MemberLine.{MemberLine}
-use Rattle.load_texts.specs.declared.texts.Entered.TheVariants as entered
 use Rattle.load_texts.specs.Inner.Texts.{BodyIn, MemberIn, is_method, display_types, descriptor_text, owner_text, MemberTexts, all_texts}
-use Rattle.table_pool.specs.declared.write.TwoTexts.{TwoTexts}
-use Rattle.table_pool.specs.declared.write.TwoTexts.TheVariants as two
 use Rattle.load_texts.specs.Inner.Places.{EnteredTexts}
 use Rattle.load_texts.proofs.Typing.{indexed_after}
+use Rattle.table_pool.specs.declared.write.NoRoom.{NoRoom}
+use Rattle.table_pool.specs.declared.write.TwoTexts.{TwoTexts}
+use Rattle.load_residual.specs.declared.residual.Residual.{Residual}
 
 -- Parts of a body lie in its line.
 module _ {b : Body} (n : ℕ) (i : BodyIn b n) where
@@ -83,7 +80,7 @@ module _ {b : Body} (n : ℕ) (i : BodyIn b n) where
       owner_inside = owner_lies.0.within
 
 -- The owner.
-module _ (own l : List ℕ) {b : Body} (r : Wrote) (d : List ℕ) (at : ℕ) (d₁ : List ℕ) where
+module _ (own l : List ℕ) {b : Body} (r : Result ℕ NoRoom) (d : List ℕ) (at : ℕ) (d₁ : List ℕ) where
   pub owner_none : {declared : Span} → b ≡ Field declared → WroteBy r d at [] d₁ → WroteBy r d at (owner_text own l b) d₁
   owner_none e w = wrote_as r d at d₁ (sym (ap (owner_text own l) e)) w
 
@@ -98,7 +95,7 @@ module _ (own l : List ℕ) {b : Body} (r : Wrote) (d : List ℕ) (at : ℕ) (d�
 pub ruleset owning = (owner_order, owner_inside, owner_none, owner_named, owner_own, rules)
 
 -- Display types.
-module _ (cs : List Pair) (l : List ℕ) {b : Body} (r : Wrote) (d : List ℕ) (at : ℕ) (d₁ : List ℕ) where
+module _ (cs : List Pair) (l : List ℕ) {b : Body} (r : Result ℕ NoRoom) (d : List ℕ) (at : ℕ) (d₁ : List ℕ) where
   pub display_field : {declared : Span} → b ≡ Field declared → WroteBy r d at (raw_type_of cs (between l declared.start declared.«end»)) d₁ →
       WroteBy r d at (display_types cs l b) d₁
   display_field e w = wrote_as r d at d₁ (sym (ap (display_types cs l) e)) w
@@ -112,24 +109,24 @@ pub ruleset displaying =
     (declared_order, declared_inside, arguments_order, arguments_inside, returned_order, returned_inside, display_field, display_method, rules)
 
 -- The raw descriptor.
-module _ (s : List ℕ) {r : Residual} (g : Gives s r (residual_in (lines s))) where
-  module _ {a e p : ℕ} (f : r ≡ Text a e p) where
-    json_lies : Lies (json_part (Text a e p)) (length s)
+module _ (s : List ℕ) {r : Option Residual} (g : Gives s r (residual_in (lines s))) where
+  module _ {y : Residual} (f : r ≡ Some y) where
+    json_lies : Lies (json_part (Some (residual_string y.start y.«end» y.string))) (length s)
     json_lies = rw f at g.lies
 
-    pub json_order : a ≤ e
+    pub json_order : y.start ≤ y.«end»
     json_order = json_lies.order
 
-    pub json_inside : e ≤ length s
+    pub json_inside : y.«end» ≤ length s
     json_inside = json_lies.within
 
-    pub descriptor_signed : (cs : List Pair) (l : List ℕ) (b : Body) {m : Bool} → m ≡ is_method b → (w : Wrote) (d : List ℕ) (at : ℕ) (d₁ : List ℕ) →
-        WroteBy w d at (raw_signature m (decoded (chars_from 0 (drop p (between s a e))))) d₁ → WroteBy w d at (descriptor_text cs (residual_in (lines s)) l b) d₁
+    pub descriptor_signed : (cs : List Pair) (l : List ℕ) (b : Body) {m : Bool} → m ≡ is_method b → (w : Result ℕ NoRoom) (d : List ℕ) (at : ℕ) (d₁ : List ℕ) →
+        WroteBy w d at (raw_signature m (decoded (chars_from 0 (drop y.string (between s y.start y.«end»))))) d₁ → WroteBy w d at (descriptor_text cs (residual_in (lines s)) l b) d₁
     descriptor_signed cs l b h w d at d₁ k =
-        let known_as : residual_in (lines s) ≡ known (decoded (chars_from 0 (drop p (between s a e)))) = sym (sym (ap (residual_look s) f) ∙ g.look) in
-        wrote_as w d at d₁ (ap (λ x. raw_signature x (decoded (chars_from 0 (drop p (between s a e))))) h ∙ sym (ap (λ o. descriptor_text cs o l b) known_as)) k
+        let known_as : residual_in (lines s) ≡ known (decoded (chars_from 0 (drop y.string (between s y.start y.«end»)))) = sym (sym (ap (residual_look s) f) ∙ g.look) in
+        wrote_as w d at d₁ (ap (λ x. raw_signature x (decoded (chars_from 0 (drop y.string (between s y.start y.«end»))))) h ∙ sym (ap (λ o. descriptor_text cs o l b) known_as)) k
 
-  pub descriptor_displayed : r ≡ Nothing → (cs : List Pair) (l : List ℕ) (b : Body) (w : Wrote) (d : List ℕ) (at : ℕ) (d₁ : List ℕ) →
+  pub descriptor_displayed : r ≡ None → (cs : List Pair) (l : List ℕ) (b : Body) (w : Result ℕ NoRoom) (d : List ℕ) (at : ℕ) (d₁ : List ℕ) →
       WroteBy w d at (display_types cs l b) d₁ → WroteBy w d at (descriptor_text cs (residual_in (lines s)) l b) d₁
   descriptor_displayed f cs l b w d at d₁ k =
       let unknown_as : residual_in (lines s) ≡ unknown = sym (sym (ap (residual_look s) f) ∙ g.look) in
@@ -157,16 +154,16 @@ module _ {m : MemberLine} {n : ℕ} (i : MemberIn m n) where
 pub ruleset display_part = (name_order, name_inside_lem, body_inside, two_no_first, two_no_second, two_done, rules)
 
 -- The raw part: its second text is made from the classes.
-module _ (rows : List (List ℕ)) (index d : List ℕ) (at : ℕ) (x : Indexed rows d index at) (a : List ℕ) (o : Look) (l : List ℕ) (b : Body) (r : Wrote) (d₁ : List ℕ) (w : WroteBy r d at a d₁) where
-  module _ {m : ℕ} (e : r ≡ Done m) where
-    module _ (r₂ : Wrote) (d₂ : List ℕ) (v : WroteBy r₂ d₁ m (descriptor_text (read_back rows d₁) o l b) d₂) where
+module _ (rows : List (List ℕ)) (index d : List ℕ) (at : ℕ) (x : Indexed rows d index at) (a : List ℕ) (o : Look) (l : List ℕ) (b : Body) (r : Result ℕ NoRoom) (d₁ : List ℕ) (w : WroteBy r d at a d₁) where
+  module _ {m : ℕ} (e : r ≡ Ok m) where
+    module _ (r₂ : Result ℕ NoRoom) (d₂ : List ℕ) (v : WroteBy r₂ d₁ m (descriptor_text (read_back rows d₁) o l b) d₂) where
       same : WroteBy r₂ d₁ m (descriptor_text (read_back rows d) o l b) d₂
       same = wrote_as r₂ d₁ m d₂ (ap (λ cs. descriptor_text cs o l b) (read_back_put x (wrote_told r d at a d₁ w e))) v
 
-      pub raw_no_second : r₂ ≡ NoRoom → length d < at + length (a ++ descriptor_text (read_back rows d) o l b)
+      pub raw_no_second : r₂ ≡ Err no_room → length d < at + length (a ++ descriptor_text (read_back rows d) o l b)
       raw_no_second f = two_no_second d at a (descriptor_text (read_back rows d) o l b) r d₁ w e r₂ d₂ same f
 
-      pub raw_done : {q : ℕ} → r₂ ≡ Done q → TwoAt m q d at a (descriptor_text (read_back rows d) o l b) d₂
+      pub raw_done : {q : ℕ} → r₂ ≡ Ok q → TwoAt m q d at a (descriptor_text (read_back rows d) o l b) d₂
       raw_done f = two_done d at a (descriptor_text (read_back rows d) o l b) r d₁ w e r₂ d₂ same f
 
 pub ruleset raw_part = (raw_order, raw_inside, body_inside, two_no_first, indexed_after, raw_no_second, raw_done, rules)
@@ -175,32 +172,32 @@ pub ruleset raw_part = (raw_order, raw_inside, body_inside, two_no_first, indexe
 abbrev four : List ℕ → List ℕ → List ℕ → List ℕ → MemberTexts
 four a b c e = record { raw = a; descriptor = b; name = c; owner = e }
 
-module _ (d : List ℕ) (at : ℕ) (a b c e : List ℕ) (r : TwoTexts) (d₁ : List ℕ) (w : TwoBy r d at a b d₁) where
-  pub texts_no_raw : r ≡ two.NoRoom → length d < at + length (all_texts (four a b c e))
+module _ (d : List ℕ) (at : ℕ) (a b c e : List ℕ) (r : Result TwoTexts NoRoom) (d₁ : List ℕ) (w : TwoBy r d at a b d₁) where
+  pub texts_no_raw : r ≡ Err no_room → length d < at + length (all_texts (four a b c e))
   texts_no_raw f =
       let h = two_none r d at a b d₁ w f in
       omega (arith, length-append a b, length-append a (b ++ (c ++ e)), length-append b (c ++ e))
 
-  module _ {m q : ℕ} (f : r ≡ two.At m q) (r₂ : TwoTexts) (d₂ : List ℕ) (v : TwoBy r₂ d₁ q c e d₂) where
-    front : TwoAt m q d at a b d₁
+  module _ {x : TwoTexts} (f : r ≡ Ok x) (r₂ : Result TwoTexts NoRoom) (d₂ : List ℕ) (v : TwoBy r₂ d₁ x.next c e d₂) where
+    front : TwoAt x.second x.next d at a b d₁
     front = two_told r d at a b d₁ w f
 
     together : (a ++ b) ++ (c ++ e) ≡ all_texts (four a b c e)
     together = append_assoc a b (c ++ e)
 
-    pub texts_no_display : r₂ ≡ two.NoRoom → length d < at + length (all_texts (four a b c e))
+    pub texts_no_display : r₂ ≡ Err no_room → length d < at + length (all_texts (four a b c e))
     texts_no_display g =
-        let h = two_none r₂ d₁ q c e d₂ v g in
+        let h = two_none r₂ d₁ x.next c e d₂ v g in
         let n = written_length front.written in
         let s = ap length together in
         omega (arith, front.written.past, length-append (a ++ b) (c ++ e))
 
-    pub texts_done : {m₂ q₂ : ℕ} → r₂ ≡ two.At m₂ q₂ → EnteredTexts (record { descriptor = m; name = q; owner = m₂; «end» = q₂ }) d at (four a b c e) d₂
-    texts_done {m₂} {q₂} g =
-        let later = two_told r₂ d₁ q c e d₂ v g in
+    pub texts_done : {y : TwoTexts} → r₂ ≡ Ok y → EnteredTexts (record { descriptor = x.second; name = x.next; owner = y.second; «end» = y.next }) d at (four a b c e) d₂
+    texts_done {y} g =
+        let later = two_told r₂ d₁ x.next c e d₂ v g in
         record {
           placed = record { descriptor = front.second; name = front.next; owner = later.second; «end» = later.next };
-          written = wrote_as (Done q₂) d at d₂ together (wrote_then (Done q₂) (c ++ e) d₂ front.written later.written);
+          written = wrote_as (Ok y.next) d at d₂ together (wrote_then (Ok y.next) (c ++ e) d₂ front.written later.written);
         }
 
 pub ruleset texts = (texts_no_raw, texts_no_display, texts_done, rules)

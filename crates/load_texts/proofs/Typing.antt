@@ -1,4 +1,5 @@
 -- Raw descriptors of methods by their display types. Assumes nothing.
+use Rattle.std.specs.Prelude.{Result, Ok, Err, Option, Some, None}
 use mathlib.Core.Path.{◌≡◌, refl, sym, ◌∙◌, ap}
 use mathlib.Core.List.{List, [], ◌∷◌, ◌++◌, append_assoc, append-nil}
 use Prim.Native.Nat.{ℕ, ◌+◌, ◌-◌, ◌≤◌, ◌<◌}
@@ -8,16 +9,12 @@ use lib.ListN.{length, drop, length-append, drop_of_length-le}
 use borrow.Author.Rules.{rules}
 use Rattle.ground.specs.Put.{between}
 use Rattle.ground.proofs.PutLaws.{put_nothing}
-use Rattle.line_parts.specs.declared.arguments.NextArgument.{NextArgument}
-use Rattle.line_parts.specs.declared.arguments.NextArgument.TheVariants.{Argument, NoArgument}
 use Rattle.line_parts.specs.Arguments.{arguments_of, Splits}
-use Rattle.line_parts.specs.Inner.NextArgument.{next_argument}
+use Rattle.line_parts.specs.Inner.NextArgument.{next_argument, taken_argument}
 use Rattle.line_parts.proofs.Listed.{no_arguments, arguments_split, arguments_end}
-use Rattle.table_pool.specs.declared.write.Wrote.{Wrote}
-use Rattle.table_pool.specs.declared.write.Wrote.TheVariants.{Done, NoRoom}
 use Rattle.ground.specs.Join.{join}
 use Rattle.table_rows.specs.Classes.{Pair}
-use Rattle.table_pool.specs.Inner.Wrote.{Written, WroteBy}
+use Rattle.table_pool.specs.Inner.Wrote.{Written, WroteBy, no_room}
 use Rattle.table_pool.proofs.Writes.{written_length, wrote_told, wrote_none, wrote_then, wrote_as, two_no_first}
 use Rattle.tables.specs.Back.{read_back}
 use Rattle.descriptor.specs.Raw.{raw_type_of}
@@ -25,6 +22,9 @@ use Rattle.load_raw_types.specs.Inner.Behind.{Indexed}
 use Rattle.load_raw_types.proofs.Indexing.{read_back_put, indexed_put}
 use Rattle.load_rule.specs.Members.{argument_types, types_descriptor}
 use Rattle.ground.proofs.Joins.{join_more, join_append}
+use Rattle.table_pool.specs.declared.write.NoRoom.{NoRoom}
+use Rattle.line_parts.specs.declared.arguments.NextArgument.{NextArgument}
+use Rattle.load_raw_types.proofs.Typed.{wrote_err}
 
 -- nothing is written yet
 pub written_nothing : (d : List ℕ) (at : ℕ) → at ≤ length d → Written at d at [] d
@@ -56,96 +56,96 @@ module _ {rows : List (List ℕ)} {index d : List ℕ} {at : ℕ} {s : List ℕ}
   pub arguing_indexed : Indexed rows d₁ index to
   arguing_indexed = k.indexed
 
-  ended : arguments_of (drop «from» s) ≡ [] → WroteBy (Done to) d at (argument_types (read_back rows d) (arguments_of s)) d₁
+  ended : arguments_of (drop «from» s) ≡ [] → WroteBy (Ok to) d at (argument_types (read_back rows d) (arguments_of s)) d₁
   ended e =
       let all : arguments_of s ≡ k.done = k.split ∙ ap (λ l. k.done ++ l) e ∙ append-nil k.done in
       rw all k.written
 
-  pub arguing_ends : length s ≤ «from» → WroteBy (Done to) d at (argument_types (read_back rows d) (arguments_of s)) d₁
+  pub arguing_ends : length s ≤ «from» → WroteBy (Ok to) d at (argument_types (read_back rows d) (arguments_of s)) d₁
   arguing_ends h = ended (ap arguments_of (drop_of_length-le s h) ∙ no_arguments)
 
-  module _ {t : NextArgument} (p : t ≡ next_argument s «from») where
-    pub arguing_none : t ≡ NoArgument → WroteBy (Done to) d at (argument_types (read_back rows d) (arguments_of s)) d₁
+  module _ {t : Option NextArgument} (p : t ≡ next_argument s «from») where
+    pub arguing_none : t ≡ None → WroteBy (Ok to) d at (argument_types (read_back rows d) (arguments_of s)) d₁
     arguing_none q = ended (arguments_end s «from» (sym p ∙ q))
 
-    module _ (h : «from» < length s) {a e n : ℕ} (q : t ≡ Argument a e n) where
-      splits : Splits s «from» a e n
+    module _ (h : «from» < length s) {y : NextArgument} (q : t ≡ Some y) where
+      splits : Splits s «from» y.start y.«end» y.next
       splits = arguments_split s «from» h (sym p ∙ q)
 
-      pub arguing_order : a ≤ e
+      pub arguing_order : y.start ≤ y.«end»
       arguing_order = splits.order
 
-      pub arguing_inside : e ≤ length s
+      pub arguing_inside : y.«end» ≤ length s
       arguing_inside = let x = splits.ends in let w = splits.within in omega arith
 
-      pub arguing_falls : length s - n < length s - «from»
+      pub arguing_falls : length s - y.next < length s - «from»
       arguing_falls = let x = splits.past in let w = splits.within in omega arith
 
-      next : arguments_of s ≡ k.done ++ (between s a e ∷ arguments_of (drop n s))
+      next : arguments_of s ≡ k.done ++ (between s y.start y.«end» ∷ arguments_of (drop y.next s))
       next = k.split ∙ ap (λ l. k.done ++ l) splits.split
 
-      module _ (r : Wrote) (d₂ : List ℕ) (w : WroteBy r d₁ to (raw_type_of (read_back rows d₁) (between s a e)) d₂) where
-        here : WroteBy r d₁ to (raw_type_of (read_back rows d) (between s a e)) d₂
+      module _ (r : Result ℕ NoRoom) (d₂ : List ℕ) (w : WroteBy r d₁ to (raw_type_of (read_back rows d₁) (between s y.start y.«end»)) d₂) where
+        here : WroteBy r d₁ to (raw_type_of (read_back rows d) (between s y.start y.«end»)) d₂
         here = rw k.same at w
 
-        pub arguing_room : r ≡ NoRoom → length d < at + length (argument_types (read_back rows d) (arguments_of s))
+        pub arguing_room : r ≡ Err no_room → length d < at + length (argument_types (read_back rows d) (arguments_of s))
         unfolding join
         arguing_room f =
             let cs : List Pair = read_back rows d in
-            let all : argument_types cs (arguments_of s) ≡ argument_types cs k.done ++ (raw_type_of cs (between s a e) ++ argument_types cs (arguments_of (drop n s))) =
-            ap (argument_types cs) next ∙ join_append (raw_type_of cs) k.done (between s a e ∷ arguments_of (drop n s)) in
-            rw all (none_after d (raw_type_of cs (between s a e)) (argument_types cs (arguments_of (drop n s))) k.written (wrote_none r d₁ to (raw_type_of cs (between s a e)) d₂ here f))
+            let all : argument_types cs (arguments_of s) ≡ argument_types cs k.done ++ (raw_type_of cs (between s y.start y.«end») ++ argument_types cs (arguments_of (drop y.next s))) =
+            ap (argument_types cs) next ∙ join_append (raw_type_of cs) k.done (between s y.start y.«end» ∷ arguments_of (drop y.next s)) in
+            rw all (none_after d (raw_type_of cs (between s y.start y.«end»)) (argument_types cs (arguments_of (drop y.next s))) k.written (wrote_none r d₁ to (raw_type_of cs (between s y.start y.«end»)) d₂ here f))
 
-        pub arguing_more : {q : ℕ} → r ≡ Done q → Arguing rows index d at s q n d₂
+        pub arguing_more : {q : ℕ} → r ≡ Ok q → Arguing rows index d at s q y.next d₂
         arguing_more {q} f =
-            let one : Written q d₁ to (raw_type_of (read_back rows d) (between s a e)) d₂ = wrote_told r d₁ to (raw_type_of (read_back rows d) (between s a e)) d₂ here f in
-            let more : argument_types (read_back rows d) (k.done ++ (between s a e ∷ [])) ≡ argument_types (read_back rows d) k.done ++ raw_type_of (read_back rows d) (between s a e) =
-            join_more (raw_type_of (read_back rows d)) k.done (between s a e) in
+            let one : Written q d₁ to (raw_type_of (read_back rows d) (between s y.start y.«end»)) d₂ = wrote_told r d₁ to (raw_type_of (read_back rows d) (between s y.start y.«end»)) d₂ here f in
+            let more : argument_types (read_back rows d) (k.done ++ (between s y.start y.«end» ∷ [])) ≡ argument_types (read_back rows d) k.done ++ raw_type_of (read_back rows d) (between s y.start y.«end») =
+            join_more (raw_type_of (read_back rows d)) k.done (between s y.start y.«end») in
             record {
-              done = k.done ++ (between s a e ∷ []);
-              split = next ∙ sym (append_assoc k.done (between s a e ∷ []) (arguments_of (drop n s)));
-              written = rw more (wrote_then (Done q) (raw_type_of (read_back rows d) (between s a e)) d₂ k.written one);
+              done = k.done ++ (between s y.start y.«end» ∷ []);
+              split = next ∙ sym (append_assoc k.done (between s y.start y.«end» ∷ []) (arguments_of (drop y.next s)));
+              written = rw more (wrote_then (Ok q) (raw_type_of (read_back rows d) (between s y.start y.«end»)) d₂ k.written one);
               indexed = indexed_put k.indexed one;
               same = read_back_put k.indexed one ∙ k.same;
               size = written_length one ∙ k.size;
             }
 
-pub ruleset arguing = (arguing_starts, arguing_indexed, arguing_ends, arguing_none, arguing_order, arguing_inside, arguing_falls, arguing_room, arguing_more, rules)
+pub ruleset arguing = (wrote_err, arguing_starts, arguing_indexed, arguing_ends, arguing_none, arguing_order, arguing_inside, arguing_falls, arguing_room, arguing_more, rules)
 
 -- One text after another, of which the second is made from the classes.
-module _ (rows : List (List ℕ)) (index d : List ℕ) (at : ℕ) (x : Indexed rows d index at) (a : List ℕ) (r : Wrote) (d₁ : List ℕ) (w : WroteBy r d at a d₁) where
-  module _ {q : ℕ} (e : r ≡ Done q) where
+module _ (rows : List (List ℕ)) (index d : List ℕ) (at : ℕ) (x : Indexed rows d index at) (a : List ℕ) (r : Result ℕ NoRoom) (d₁ : List ℕ) (w : WroteBy r d at a d₁) where
+  module _ {q : ℕ} (e : r ≡ Ok q) where
     pub indexed_after : Indexed rows d₁ index q
     indexed_after = indexed_put x (wrote_told r d at a d₁ w e)
 
-    both_done : (f : List Pair → List ℕ) (r₂ : Wrote) (d₂ : List ℕ) → WroteBy r₂ d₁ q (f (read_back rows d₁)) d₂ → WroteBy r₂ d at (a ++ f (read_back rows d)) d₂
+    both_done : (f : List Pair → List ℕ) (r₂ : Result ℕ NoRoom) (d₂ : List ℕ) → WroteBy r₂ d₁ q (f (read_back rows d₁)) d₂ → WroteBy r₂ d at (a ++ f (read_back rows d)) d₂
     both_done f r₂ d₂ v =
         let first = wrote_told r d at a d₁ w e in
         wrote_then r₂ (f (read_back rows d)) d₂ first (wrote_as r₂ d₁ q d₂ (ap f (read_back_put x first)) v)
 
 -- `(` and the arguments, `)` and the return type
-module _ (rows : List (List ℕ)) (index d : List ℕ) (at : ℕ) (x : Indexed rows d index at) (r : Wrote) (d₁ : List ℕ) where
+module _ (rows : List (List ℕ)) (index d : List ℕ) (at : ℕ) (x : Indexed rows d index at) (r : Result ℕ NoRoom) (d₁ : List ℕ) where
   module _ (arguments : List (List ℕ)) (w : WroteBy r d at (0x28 ∷ []) d₁) where
-    pub opening_none : r ≡ NoRoom → length d < at + length (0x28 ∷ argument_types (read_back rows d) arguments)
+    pub opening_none : r ≡ Err no_room → length d < at + length (0x28 ∷ argument_types (read_back rows d) arguments)
     opening_none e = two_no_first d at (0x28 ∷ []) (argument_types (read_back rows d) arguments) r d₁ w e
 
-    pub opening_done : {q : ℕ} → r ≡ Done q → (r₂ : Wrote) (d₂ : List ℕ) → WroteBy r₂ d₁ q (argument_types (read_back rows d₁) arguments) d₂ →
+    pub opening_done : {q : ℕ} → r ≡ Ok q → (r₂ : Result ℕ NoRoom) (d₂ : List ℕ) → WroteBy r₂ d₁ q (argument_types (read_back rows d₁) arguments) d₂ →
         WroteBy r₂ d at (0x28 ∷ argument_types (read_back rows d) arguments) d₂
     opening_done e r₂ d₂ v = both_done rows index d at x (0x28 ∷ []) r d₁ w e (λ cs. argument_types cs arguments) r₂ d₂ v
 
   module _ (returned : List ℕ) (w : WroteBy r d at (0x29 ∷ []) d₁) where
-    pub returned_none : r ≡ NoRoom → length d < at + length (0x29 ∷ raw_type_of (read_back rows d) returned)
+    pub returned_none : r ≡ Err no_room → length d < at + length (0x29 ∷ raw_type_of (read_back rows d) returned)
     returned_none e = two_no_first d at (0x29 ∷ []) (raw_type_of (read_back rows d) returned) r d₁ w e
 
-    pub returned_done : {q : ℕ} → r ≡ Done q → (r₂ : Wrote) (d₂ : List ℕ) → WroteBy r₂ d₁ q (raw_type_of (read_back rows d₁) returned) d₂ →
+    pub returned_done : {q : ℕ} → r ≡ Ok q → (r₂ : Result ℕ NoRoom) (d₂ : List ℕ) → WroteBy r₂ d₁ q (raw_type_of (read_back rows d₁) returned) d₂ →
         WroteBy r₂ d at (0x29 ∷ raw_type_of (read_back rows d) returned) d₂
     returned_done e r₂ d₂ v = both_done rows index d at x (0x29 ∷ []) r d₁ w e (λ cs. raw_type_of cs returned) r₂ d₂ v
 
   module _ (arguments : List (List ℕ)) (returned : List ℕ) (w : WroteBy r d at (0x28 ∷ argument_types (read_back rows d) arguments) d₁) where
-    pub types_none : r ≡ NoRoom → length d < at + length (types_descriptor (read_back rows d) arguments returned)
+    pub types_none : r ≡ Err no_room → length d < at + length (types_descriptor (read_back rows d) arguments returned)
     types_none e = two_no_first d at (0x28 ∷ argument_types (read_back rows d) arguments) (0x29 ∷ raw_type_of (read_back rows d) returned) r d₁ w e
 
-    pub types_done : {q : ℕ} → r ≡ Done q → (r₂ : Wrote) (d₂ : List ℕ) → WroteBy r₂ d₁ q (0x29 ∷ raw_type_of (read_back rows d₁) returned) d₂ →
+    pub types_done : {q : ℕ} → r ≡ Ok q → (r₂ : Result ℕ NoRoom) (d₂ : List ℕ) → WroteBy r₂ d₁ q (0x29 ∷ raw_type_of (read_back rows d₁) returned) d₂ →
         WroteBy r₂ d at (types_descriptor (read_back rows d) arguments returned) d₂
     types_done e r₂ d₂ v = both_done rows index d at x (0x28 ∷ argument_types (read_back rows d) arguments) r d₁ w e (λ cs. 0x29 ∷ raw_type_of cs returned) r₂ d₂ v
 

@@ -11,37 +11,45 @@ ghost use Rattle.load_raw_types.specs.Inner.Behind.{Indexed};
 ghost use Rattle.load_rule.specs.Members.{argument_types, types_descriptor};
 
 use descriptor::settle_signature;
-use json_decode::{Written, decode_at, plain_string};
+use json_decode::{WriteError, decode_at, plain_string};
 use line_parts::{NextArgument, next_argument};
 use load_raw_types::put_raw_type;
-use table_pool::{Wrote, put_text};
+use table_pool::{NoRoom, put_text};
 use table_rows::ClassRow;
-use text_places::Place;
 
 // A raw signature as it stands in a text: it is copied, and then settled where it stands.
-fn copy_signature(pool: &mut [u8], at: usize, signature: &[u8], method: bool) -> Wrote
+fn copy_signature(
+    pool: &mut [u8],
+    at: usize,
+    signature: &[u8],
+    method: bool,
+) -> Result<usize, NoRoom>
     ensures { WroteBy result pool.old at (raw_signature method signature.now) pool.new }
 {
-    let Wrote::Done(end) = put_text(pool, at, signature) else {
-        return Wrote::NoRoom;
-    };
+    let end = put_text(pool, at, signature)?;
     settle_signature(pool, at, end, method)
 }
 
 // A residual signature: the string of a comment, whose first char stands at the place `string`. It is decoded, or copied where it has no
 // escapes, and then settled where it stands.
-pub fn put_signature(pool: &mut [u8], at: usize, json: &[u8], string: usize, method: bool) -> Wrote
+pub fn put_signature(
+    pool: &mut [u8],
+    at: usize,
+    json: &[u8],
+    string: usize,
+    method: bool,
+) -> Result<usize, NoRoom>
     requires { at ≤ length pool.old }
     ensures { WroteBy result pool.old at (raw_signature method (decoded (chars_from 0 (drop string json.now))))
         pool.new }
 {
-    if let Place::At(end) = plain_string(json, string) {
+    if let Some(end) = plain_string(json, string) {
         return copy_signature(pool, at, &json[string..end], method);
     }
     match decode_at(pool, at, json, string) {
-        Written::Done(end) => settle_signature(pool, at, end, method),
-        Written::NoRoom => Wrote::NoRoom,
-        Written::NoString => settle_signature(pool, at, at, method),
+        Ok(end) => settle_signature(pool, at, end, method),
+        Err(WriteError::NoRoom) => Err(NoRoom),
+        Err(WriteError::NoString) => settle_signature(pool, at, at, method),
     }
 }
 
@@ -52,7 +60,7 @@ fn put_arguments(
     arguments: &[u8],
     classes: &[ClassRow],
     index: &[u16],
-) -> Wrote
+) -> Result<usize, NoRoom>
     requires { Indexed classes.now pool.old index.now at }
     ensures { let cs = read_back classes.now pool.old in
         WroteBy result pool.old at (argument_types cs (arguments_of arguments.now)) pool.new }
@@ -60,17 +68,14 @@ fn put_arguments(
     let mut to = at;
     let mut from = 0;
     while from < arguments.len() {
-        let NextArgument::Argument { start, end, next } = next_argument(arguments, from) else {
-            return Wrote::Done(to);
+        let Some(NextArgument { start, end, next }) = next_argument(arguments, from) else {
+            return Ok(to);
         };
-        let Wrote::Done(after) = put_raw_type(pool, to, &arguments[start..end], classes, index)
-        else {
-            return Wrote::NoRoom;
-        };
+        let after = put_raw_type(pool, to, &arguments[start..end], classes, index)?;
         to = after;
         from = next;
     }
-    Wrote::Done(to)
+    Ok(to)
 }
 
 // `(` and the arguments.
@@ -80,14 +85,12 @@ fn put_opening(
     arguments: &[u8],
     classes: &[ClassRow],
     index: &[u16],
-) -> Wrote
+) -> Result<usize, NoRoom>
     requires { Indexed classes.now pool.old index.now at }
     ensures { let cs = read_back classes.now pool.old in
         WroteBy result pool.old at (0x28 ∷ argument_types cs (arguments_of arguments.now)) pool.new }
 {
-    let Wrote::Done(opened) = put_text(pool, at, b"(") else {
-        return Wrote::NoRoom;
-    };
+    let opened = put_text(pool, at, b"(")?;
     put_arguments(pool, opened, arguments, classes, index)
 }
 
@@ -98,14 +101,12 @@ fn put_returned(
     returned: &[u8],
     classes: &[ClassRow],
     index: &[u16],
-) -> Wrote
+) -> Result<usize, NoRoom>
     requires { Indexed classes.now pool.old index.now at }
     ensures { let cs = read_back classes.now pool.old in
         WroteBy result pool.old at (0x29 ∷ raw_type_of cs returned.now) pool.new }
 {
-    let Wrote::Done(closed) = put_text(pool, at, b")") else {
-        return Wrote::NoRoom;
-    };
+    let closed = put_text(pool, at, b")")?;
     put_raw_type(pool, closed, returned, classes, index)
 }
 
@@ -117,14 +118,12 @@ pub fn put_types(
     returned: &[u8],
     classes: &[ClassRow],
     index: &[u16],
-) -> Wrote
+) -> Result<usize, NoRoom>
     requires { Indexed classes.now pool.old index.now at }
     ensures { let cs = read_back classes.now pool.old in
         WroteBy result pool.old at (types_descriptor cs (arguments_of arguments.now) returned.now)
         pool.new }
 {
-    let Wrote::Done(taken) = put_opening(pool, at, arguments, classes, index) else {
-        return Wrote::NoRoom;
-    };
+    let taken = put_opening(pool, at, arguments, classes, index)?;
     put_returned(pool, taken, returned, classes, index)
 }

@@ -4,4 +4,4 @@
 mod descriptors;
 mod texts;
 
-pub use texts::{Body, Entered, MemberLine, Places, write_texts};
+pub use texts::{Body, MemberLine, Places, write_texts};

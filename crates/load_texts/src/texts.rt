@@ -14,7 +14,7 @@ use crate::descriptors::{put_signature, put_types};
 use line_parts::{Method, Qualified};
 use load_raw_types::put_raw_type;
 use load_residual::Residual;
-use table_pool::{TwoTexts, Wrote, put_class, put_text};
+use table_pool::{NoRoom, TwoTexts, put_class, put_text};
 use table_rows::ClassRow;
 use text_places::Span;
 
@@ -43,12 +43,6 @@ pub struct Places {
     pub end: usize,
 }
 
-#[derive(Clone, Copy)]
-pub enum Entered {
-    At(Places),
-    NoRoom,
-}
-
 fn is_method(body: Body) -> bool
     ensures { result ≡ is_method body }
 {
@@ -66,7 +60,7 @@ fn put_display_types(
     body: Body,
     classes: &[ClassRow],
     index: &[u16],
-) -> Wrote
+) -> Result<usize, NoRoom>
     requires { Indexed classes.now pool.old index.now at × BodyIn body (length line.now) }
     ensures { let cs = read_back classes.now pool.old in
         WroteBy result pool.old at (display_types cs line.now body) pool.new }
@@ -99,12 +93,12 @@ fn put_descriptor(
     pool: &mut [u8],
     at: usize,
     after: &[u8],
-    residual: Residual,
+    residual: Option<Residual>,
     line: &[u8],
     body: Body,
     classes: &[ClassRow],
     index: &[u16],
-) -> Wrote
+) -> Result<usize, NoRoom>
     requires { Indexed classes.now pool.old index.now at × BodyIn body (length line.now)
         × Gives after.now residual (residual_in (lines after.now)) }
     ensures { let cs = read_back classes.now pool.old in
@@ -112,19 +106,25 @@ fn put_descriptor(
         pool.new }
 {
     match residual {
-        Residual::Text { start, end, string } => put_signature(
+        Some(Residual { start, end, string }) => put_signature(
             pool,
             at,
             &after[start..end],
             string,
             is_method(body),
         ),
-        Residual::Nothing => put_display_types(pool, at, line, body, classes, index),
+        None => put_display_types(pool, at, line, body, classes, index),
     }
 }
 
 // The owner of a method, by its name or by that of the class line; a field has none.
-fn put_owner(pool: &mut [u8], at: usize, line: &[u8], body: Body, own: &[u8]) -> Wrote
+fn put_owner(
+    pool: &mut [u8],
+    at: usize,
+    line: &[u8],
+    body: Body,
+    own: &[u8],
+) -> Result<usize, NoRoom>
     requires { BodyIn body (length line.now) }
     ensures { WroteBy result pool.old at (owner_text own.now line.now body) pool.new }
 {
@@ -149,12 +149,12 @@ fn put_raw_part(
     pool: &mut [u8],
     at: usize,
     after: &[u8],
-    residual: Residual,
+    residual: Option<Residual>,
     line: &[u8],
     member: MemberLine,
     classes: &[ClassRow],
     index: &[u16],
-) -> TwoTexts
+) -> Result<TwoTexts, NoRoom>
     requires { Indexed classes.now pool.old index.now at × MemberIn member (length line.now)
         × Gives after.now residual (residual_in (lines after.now)) }
     ensures { let cs = read_back classes.now pool.old in
@@ -164,14 +164,10 @@ fn put_raw_part(
     let body = member.body;
     let start = member.raw.start;
     let end = member.raw.end;
-    let Wrote::Done(second) = put_text(pool, at, &line[start..end]) else {
-        return TwoTexts::NoRoom;
-    };
+    let second = put_text(pool, at, &line[start..end])?;
     let described = put_descriptor(pool, second, after, residual, line, body, classes, index);
-    let Wrote::Done(next) = described else {
-        return TwoTexts::NoRoom;
-    };
-    TwoTexts::At { second, next }
+    let next = described?;
+    Ok(TwoTexts { second, next })
 }
 
 // The display name and the display owner of a member. `own` is the display name of its class line.
@@ -181,7 +177,7 @@ fn put_display_part(
     line: &[u8],
     member: MemberLine,
     own: &[u8],
-) -> TwoTexts
+) -> Result<TwoTexts, NoRoom>
     requires { MemberIn member (length line.now) }
     ensures { TwoBy result pool.old at (part_of line.now member.name)
         (owner_text own.now line.now member.body) pool.new }
@@ -189,13 +185,9 @@ fn put_display_part(
     let body = member.body;
     let start = member.name.start;
     let end = member.name.end;
-    let Wrote::Done(second) = put_text(pool, at, &line[start..end]) else {
-        return TwoTexts::NoRoom;
-    };
-    let Wrote::Done(next) = put_owner(pool, second, line, body, own) else {
-        return TwoTexts::NoRoom;
-    };
-    TwoTexts::At { second, next }
+    let second = put_text(pool, at, &line[start..end])?;
+    let next = put_owner(pool, second, line, body, own)?;
+    Ok(TwoTexts { second, next })
 }
 
 // All texts of a member. `residual` is the signature that the lines `after` it give.
@@ -203,34 +195,28 @@ pub fn write_texts(
     pool: &mut [u8],
     at: usize,
     after: &[u8],
-    residual: Residual,
+    residual: Option<Residual>,
     line: &[u8],
     member: MemberLine,
     own: &[u8],
     classes: &[ClassRow],
     index: &[u16],
-) -> Entered
+) -> Result<Places, NoRoom>
     requires { Indexed classes.now pool.old index.now at × MemberIn member (length line.now)
         × Gives after.now residual (residual_in (lines after.now)) }
     ensures { let cs = read_back classes.now pool.old in
         EnteredTextsBy result pool.old at
         (texts_of cs (residual_in (lines after.now)) own.now line.now member) pool.new }
 {
-    let TwoTexts::At {
+    let TwoTexts {
         second: descriptor,
         next: name,
-    } = put_raw_part(pool, at, after, residual, line, member, classes, index)
-    else {
-        return Entered::NoRoom;
-    };
-    let TwoTexts::At {
+    } = put_raw_part(pool, at, after, residual, line, member, classes, index)?;
+    let TwoTexts {
         second: owner,
         next: end,
-    } = put_display_part(pool, name, line, member, own)
-    else {
-        return Entered::NoRoom;
-    };
-    Entered::At(Places {
+    } = put_display_part(pool, name, line, member, own)?;
+    Ok(Places {
         descriptor,
         name,
         owner,

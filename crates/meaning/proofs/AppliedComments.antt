@@ -1,4 +1,5 @@
 -- Comments that are applied, forward from a member and back from a comment. Assumes nothing.
+use Rattle.std.specs.Prelude.{Option}
 use mathlib.Core.Path.{◌≡◌, refl, sym, ◌∙◌, ap, subst}
 use mathlib.Core.Bool.{Bool, true, false}
 use mathlib.Core.List.{List, [], ◌∷◌}
@@ -9,7 +10,6 @@ use lib.ListN.{length}
 use Rattle.ground.specs.Choice.{pick}
 use Rattle.ground.specs.Look.{Look, known, unknown, is_known, or_look}
 use Rattle.ground.proofs.Cases.{both_left, both_right, clash}
-use Rattle.text_places.specs.declared.find.Place.{Place}
 use Rattle.line.specs.declared.line.Line.{Line}
 use Rattle.line.specs.declared.line.Line.TheVariants.{Blank, Comment, Class, Field, Method, Refused}
 use Rattle.line.specs.Kinds.{line_of}
@@ -37,7 +37,7 @@ Told ls (known v) = LastApplied true ls v
 Told ls unknown = (v : List ℕ) → AppliedIn true ls v → ⊥
 
 -- a comment behind a member that gives a signature is applied
-gives_applied : (l : List ℕ) (brace : Place) {v : List ℕ} → signature_at l brace ≡ known v → fate_of true l (Comment brace) ≡ fate.Applied
+gives_applied : (l : List ℕ) (brace : Option ℕ) {v : List ℕ} → signature_at l brace ≡ known v → fate_of true l (Comment brace) ≡ fate.Applied
 gives_applied l brace e = rw e
 
 -- one line more, between a member and what is applied
@@ -56,7 +56,7 @@ module _ (l : List ℕ) (ls : List (List ℕ)) where
   blank_told q (known v) t = last_further {l = l} (rw q) t
   blank_told q unknown t = none_here (rw q) t
 
-  comment_told : (brace : Place) → line_of l ≡ Comment brace → (k : Look) → Told ls k → (g : Look) → signature_at l brace ≡ g →
+  comment_told : (brace : Option ℕ) → line_of l ≡ Comment brace → (k : Look) → Told ls k → (g : Look) → signature_at l brace ≡ g →
       Told (l ∷ ls) (or_look k g)
   comment_told brace q (known v) t g e = last_further {l = l} (rw q) t
   comment_told brace q unknown t (known v) e = last_here {l = l} {v = v} (rw q (gives_applied l brace e)) (rw q e) t

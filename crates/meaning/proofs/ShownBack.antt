@@ -1,5 +1,6 @@
 -- Demand 3, over the entry points: after an accepted load and an accepted application, turning each shown class back gives the raw
 -- descriptor. So different raw descriptors never show alike. Assumes nothing.
+use Rattle.std.specs.Prelude.{Ok}
 use mathlib.Core.Path.{◌≡◌, sym, ◌∙◌, ap}
 use mathlib.Core.Bool.{true}
 use mathlib.Core.List.{List}
@@ -12,7 +13,6 @@ use Rattle.tables.specs.declared.check.Used.{Used}
 use Rattle.tables.proofs.Checking.{all_at}
 use Rattle.descriptor.specs.Pieces.{turn}
 use Rattle.load_rule.specs.declared.Fates.{Fates}
-use Rattle.load_rule.specs.declared.Load.TheVariants.{Loaded}
 use Rattle.load_rule.specs.Classes.{classes_of}
 use Rattle.load_rule.specs.Theorems.{used_of}
 use Rattle.load.specs.Loads.{Loads}
@@ -24,7 +24,6 @@ use Rattle.tree_rule.specs.Files.{read_tree, all_tokens}
 use Rattle.tree_rule.specs.Theorems.{SoundTree}
 use Rattle.tree_rule.proofs.Formed.{formed_tree}
 use Rattle.tree_rule.proofs.Sound.{read_sound}
-use Rattle.apply_rule.specs.declared.Applied.TheVariants.{Done}
 use Rattle.apply_rule.specs.Applying.{applied_tree, apply_answer}
 use Rattle.apply_rule.specs.Theorems.{GivenWhen, when_done}
 use Rattle.apply_rule.proofs.Answers.{given_iff, accepted_reads_back}
@@ -32,13 +31,14 @@ use Rattle.meaning.specs.TurnedBack.{displays_once, names_closed, shows_raw, nam
 use Rattle.meaning.specs.Outcomes.{Applies, Typed}
 use Rattle.meaning.proofs.LoadedTables.{tables_back}
 use Rattle.meaning.proofs.TokensBack.{tree_back}
+use Rattle.load_rule.specs.Fates.{loaded_with}
 
 -- the tree of an accepted file
 accepted_sound : (t : Tables) (used : Used) (class file : List ℕ) (room : ℕ) → ((i : ℕ) → get_or file i 0 < 256) → {n : ℕ} →
-    apply_answer t used class file room ≡ Done n → SoundTree (read_tree file)
-accepted_sound t used class file room small {n} e = go ((given_iff t used class file room (Done n)).0 e)
+    apply_answer t used class file room ≡ Ok n → SoundTree (read_tree file)
+accepted_sound t used class file room small {n} e = go ((given_iff t used class file room (Ok n)).0 e)
   where
-    go : {k : ℕ} → GivenWhen t used class file room (Done k) → SoundTree (read_tree file)
+    go : {k : ℕ} → GivenWhen t used class file room (Ok k) → SoundTree (read_tree file)
     go (when_done a b c d f) = read_sound file small (formed_tree file c)
 
 -- An accepted load, whose display descriptors stand on one class line each, with no `;` in a display class name.
@@ -48,16 +48,16 @@ module _
     {before t : Tables}
     {f : Fates}
     {names : ℕ}
-    (load : Loads (Loaded f names) s ls before t)
+    (load : Loads (Ok (loaded_with f names)) s ls before t)
     (once : displays_once ls ≡ true)
     (closed : names_closed ls ≡ true) where
   -- An accepted application, of a tree whose descriptors show their raw names and name no class that is unknown as raw yet a display.
-  pub shown_back : {class file lent out : List ℕ} {n : ℕ} → Applies (Done n) t (used_of f names) class file lent out → Typed t file →
+  pub shown_back : {class file lent out : List ℕ} {n : ℕ} → Applies (Ok n) t (used_of f names) class file lent out → Typed t file →
       of_tokens shows_raw (read_tree file) ≡ true → of_tokens (names_unmistaken (classes_of ls)) (read_tree file) ≡ true →
       of_tokens (turns_back (classes_of ls)) (read_tree (take n out)) ≡ true
   shown_back {class} {file} {lent} {out} {n} a typed raw clear =
       let room : ℕ = length lent in
-      let accepted : apply_answer t (used_of f names) class file room ≡ Done n = sym a.answer in
+      let accepted : apply_answer t (used_of f names) class file room ≡ Ok n = sym a.answer in
       let tree : read_tree (take n out) ≡ applied_tree (mapping_of t (used_of f names)) class (read_tree file) =
       ap (λ o. read_tree (take n o)) a.output
       ∙ accepted_reads_back t (used_of f names) class file room typed.rows typed.bytes accepted in

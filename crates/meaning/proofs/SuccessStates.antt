@@ -1,4 +1,5 @@
 -- What a success states: its counts, and the raw descriptor of each member. Assumes nothing.
+use Rattle.std.specs.Prelude.{Ok}
 use mathlib.Core.Path.{◌≡◌, refl, sym, ◌∙◌, ap, subst}
 use mathlib.Core.Bool.{Bool, true, false}
 use mathlib.Core.List.{List, [], ◌∷◌, ◌++◌}
@@ -14,10 +15,9 @@ use Rattle.line.specs.Kinds.{line_of}
 use Rattle.table_rows.specs.Tables.{Tables}
 use Rattle.table_rows.specs.Classes.{Pair}
 use Rattle.load_rule.specs.declared.Fates.{Fates}
-use Rattle.load_rule.specs.declared.Load.TheVariants.{Loaded}
 use Rattle.load_rule.specs.Comments.{residual_in}
 use Rattle.load_rule.specs.declared.Fate.TheVariants as fate
-use Rattle.load_rule.specs.Fates.{one, no_fates, plus, fate_of, member_after, fates_from, fault_of, class_line}
+use Rattle.load_rule.specs.Fates.{one, no_fates, plus, fate_of, member_after, fates_from, fault_of, class_line, loaded_with}
 use Rattle.load_rule.specs.Classes.{classes_of}
 use Rattle.load_rule.specs.Members.{Under, under, under_after, Entry, entry_in, entries_from}
 use Rattle.load_rule.specs.Theorems.{Counts, used_of}
@@ -37,7 +37,7 @@ use Rattle.meaning.proofs.AppliedComments.{residual_iff, residual_none, is_read,
 
 -- "Accepted loads count lines ..; the last six sum to lines."
 pub success_counts : {s : List ℕ} {ls : List (List ℕ)} {before t : Tables} {f : Fates} {names : ℕ} →
-    Loads (Loaded f names) s ls before t → Counts ls f
+    Loads (Ok (loaded_with f names)) s ls before t → Counts ls f
 success_counts {s} {ls} {before} {t} {f} {names} l =
     fates_sum ls ((loaded_iff s ls (lent_of before) f names).0 (sym l.answer)).passed.sound
 
@@ -138,7 +138,7 @@ clean_read classes [] c = refl
 clean_read classes (l ∷ ls) (e, c) = rw (clean_line classes (line_of l) e, clean_read (classes + class_line (line_of l)) ls c)
 
 -- Over the entry points.
-module _ {s : List ℕ} {ls : List (List ℕ)} {lent t : Tables} {f : Fates} {names : ℕ} (load : Loads (Loaded f names) s ls lent t) where
+module _ {s : List ℕ} {ls : List (List ℕ)} {lent t : Tables} {f : Fates} {names : ℕ} (load : Loads (Ok (loaded_with f names)) s ls lent t) where
   -- the row of a member has the signature of the last comment that is applied to it, and one exactly where there is such a comment
   pub success_signatures : (before : List (List ℕ)) (l : List ℕ) (after : List (List ℕ)) → ls ≡ before ++ (l ∷ after) →
       is_member (line_of l) ≡ true → SignatureStated (classes_of ls) (mapping_of t (used_of f names)).members before l after

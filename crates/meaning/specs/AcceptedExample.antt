@@ -1,5 +1,5 @@
 -- The same over the entry points: a text that is loaded, a tree file to which it is applied, and what comes out.
-use Rattle.std.specs.Prelude.{◌≡◌, refl, List, [], ◌∷◌, ℕ, take}
+use Rattle.std.specs.Prelude.{◌≡◌, refl, List, [], ◌∷◌, ℕ, take, Ok}
 use Rattle.ground.specs.Ascii.{ascii}
 use Rattle.ground.specs.Join.{join}
 use Rattle.text_places.specs.Places.{first_from, last_from, same}
@@ -24,7 +24,6 @@ use Rattle.tree_rule.specs.Trees.{no_parent, descriptor, meaning_of}
 use Rattle.tree_rule.specs.Files.{nodes_from, all_tokens, read_tree, written_tree}
 use Rattle.tree_rule.specs.Checks.{first_faulty}
 use Rattle.tree_rule.specs.Signatures.{first_token, last_token}
-use Rattle.apply_rule.specs.declared.Applied.TheVariants.{Done}
 use Rattle.apply_rule.specs.Changes.{piece_known, changed_from, changed_nodes}
 use Rattle.apply_rule.specs.Applying.{new_names, numbered, numbered_nodes, all_changed, name_rows, apply_answer, apply_output}
 
@@ -56,7 +55,7 @@ file =
 -- number, place, length, lines, blank, applied, idle, class, field, method, short, names; then an output of 80 bytes, of which 63 are used
 accepted :
     (load_numbers (answer_of source (lines_parse source) room) ≡ 0 ∷ 0 ∷ 0 ∷ 1 ∷ 0 ∷ 0 ∷ 0 ∷ 1 ∷ 0 ∷ 0 ∷ 0 ∷ 11 ∷ [])
-    × (apply_answer loaded used (ascii "Lx;") file 80 ≡ Done 63)
+    × (apply_answer loaded used (ascii "Lx;") file 80 ≡ Ok 63)
     × (meaning_of (read_tree (take 63 (apply_output loaded used (ascii "Lx;") file 80))) ≡
     record { parent = no_parent; tokens = descriptor (ascii "Lx;") (ascii "La/Main;") ∷ [] } ∷ [])
 unfolding ascii raw_lines cr_end first_from last_from check_from classes_of same parts_from piece_known join shown run_of trim_end all_white pieces_from

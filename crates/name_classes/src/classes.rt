@@ -2,28 +2,10 @@
 ghost use Rattle.std.specs.Prelude.{◌≡◌, [], ◌<◌, length, get_or};
 ghost use Rattle.table_rows.specs.Rows.{unpack_class};
 ghost use Rattle.table_rows.specs.Tables.{tables};
-ghost use Rattle.name_classes.specs.ClassNames.{found_at, display_of_class, raw_of_class, mapped_class, class_name_numbers, display_numbers, raw_numbers};
+ghost use Rattle.name_classes.specs.ClassNames.{display_of_class, raw_of_class, mapped_class, class_name_numbers, display_numbers, raw_numbers};
 
 use table_rows::{Class, ClassRow, MemberRow, Text, unpack_class};
-use tables::{Found, Used, last_with_display, last_with_raw, text_in, well_formed};
-
-#[derive(Clone, Copy)]
-pub enum ClassName {
-    // Where it stands in the pool.
-    Found { place: u32, length: u32 },
-    Unknown,
-    // The tables are malformed.
-    Malformed,
-}
-
-fn found(text: Text) -> ClassName
-    ensures { result ≡ found_at text }
-{
-    ClassName::Found {
-        place: text.place,
-        length: text.length,
-    }
-}
+use tables::{Malformed, Used, last_with_display, last_with_raw, text_in, well_formed};
 
 fn class_at(rows: &[ClassRow], row: usize) -> Class
     requires { row < length rows.now }
@@ -32,50 +14,50 @@ fn class_at(rows: &[ClassRow], row: usize) -> Class
     unpack_class(rows[row])
 }
 
-// The display descriptor of a class, by its raw one.
+// Where the display descriptor of a class stands in the pool, by its raw one.
 pub fn display_class_name(
     classes: &[ClassRow],
     members: &[MemberRow],
     pool: &[u8],
     used: Used,
     raw: &[u8],
-) -> ClassName
+) -> Result<Option<Text>, Malformed>
     ensures { let lent = tables classes.now members.now pool.now in
         let name = raw.now in
         (result ≡ display_of_class lent used name) × (class_name_numbers result ≡ display_numbers lent used name) }
 {
     if !well_formed(classes, members, pool, used) {
-        return ClassName::Malformed;
+        return Err(Malformed);
     }
     let count = used.classes as usize;
     let rows = &classes[..count];
-    let Found::Row(row) = last_with_raw(rows, pool, raw) else {
-        return ClassName::Unknown;
+    let Some(row) = last_with_raw(rows, pool, raw) else {
+        return Ok(None);
     };
-    found(class_at(rows, row).display)
+    Ok(Some(class_at(rows, row).display))
 }
 
-// The raw descriptor of a class, by its display one.
+// Where the raw descriptor of a class stands in the pool, by its display one.
 pub fn raw_class_name(
     classes: &[ClassRow],
     members: &[MemberRow],
     pool: &[u8],
     used: Used,
     display: &[u8],
-) -> ClassName
+) -> Result<Option<Text>, Malformed>
     ensures { let lent = tables classes.now members.now pool.now in
         let name = display.now in
         (result ≡ raw_of_class lent used name) × (class_name_numbers result ≡ raw_numbers lent used name) }
 {
     if !well_formed(classes, members, pool, used) {
-        return ClassName::Malformed;
+        return Err(Malformed);
     }
     let count = used.classes as usize;
     let rows = &classes[..count];
-    let Found::Row(row) = last_with_display(rows, pool, display) else {
-        return ClassName::Unknown;
+    let Some(row) = last_with_display(rows, pool, display) else {
+        return Ok(None);
     };
-    found(class_at(rows, row).raw)
+    Ok(Some(class_at(rows, row).raw))
 }
 
 // What a raw descriptor shows as: a part of the pool, or the descriptor itself where the class is unknown or the tables are malformed.
@@ -94,7 +76,7 @@ pub fn mapped_class_name<'a>(
     }
     let count = used.classes as usize;
     let rows = &classes[..count];
-    let Found::Row(last) = last_with_raw(rows, pool, raw) else {
+    let Some(last) = last_with_raw(rows, pool, raw) else {
         return raw;
     };
     text_in(pool, class_at(rows, last).display)

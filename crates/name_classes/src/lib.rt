@@ -3,4 +3,4 @@
 
 mod classes;
 
-pub use classes::{ClassName, display_class_name, mapped_class_name, raw_class_name};
+pub use classes::{display_class_name, mapped_class_name, raw_class_name};

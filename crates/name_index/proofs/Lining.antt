@@ -1,4 +1,5 @@
 -- Lines by the last row of a method. Assumes nothing.
+use Rattle.std.specs.Prelude.{Option, Some, None}
 use mathlib.Core.Path.{◌≡◌, refl, sym, ◌∙◌, ap}
 use mathlib.Core.Bool.{Bool, true, false}
 use mathlib.Core.List.{List, []}
@@ -17,15 +18,11 @@ use Rattle.table_rows.specs.declared.rows.Ranges.{Ranges}
 use Rattle.table_rows.specs.declared.rows.Text.{Text}
 use Rattle.table_rows.specs.Classes.{Pair, shown}
 use Rattle.table_rows.specs.Rows.{unpack_class, unpack_member}
-use Rattle.tables.specs.declared.search.Found.{Found}
-use Rattle.tables.specs.declared.search.Found.TheVariants.{Row, Unknown}
 use Rattle.tables.specs.Back.{text_in, read_back}
 use Rattle.tables.specs.Search.{last_raw}
 use Rattle.tables.proofs.Searching.{scanning_from, scanning_found, raw_found}
 use Rattle.load_rule.specs.Members.{field, method, Entry}
 use Rattle.name_lines.specs.declared.lines.RawLine.{RawLine}
-use Rattle.name_lines.specs.declared.lines.LineName.{LineName}
-use Rattle.name_lines.specs.declared.lines.LineName.TheVariants as line
 use Rattle.name_lines.specs.LineNames.{holds_line, line_name}
 use Rattle.name_rule.specs.Mappings.{kind_back, member_back, entry_back, entries_back, mapping}
 use Rattle.name_rule.specs.MemberNames.{Key, key, matches, owned_by, owner_matches, line_of_method}
@@ -36,6 +33,7 @@ use Rattle.name_members.specs.Inner.Sought.{answers_by}
 use Rattle.name_index.specs.Inner.Chains.{mark_at, Chained, Behind, key_of_row, own_row}
 use Rattle.name_index.proofs.LastRows.{LastAt, last_told}
 use Rattle.name_index.proofs.Walking.{mark_told, behind_more}
+use Rattle.name_lines.specs.declared.lines.DisplayLine.{DisplayLine}
 
 -- What a row says.
 module _ (pool r : List ℕ) {m : Member} (e : m ≡ unpack_member r) where
@@ -83,10 +81,10 @@ module _ (classes : List (List ℕ)) (rows : List (List ℕ)) (pool : List ℕ) 
   abbrev owns : List ℕ → Bool
   owns r = owner_matches cs k (entry_back pool r)
 
-  pub home_inside : last_raw classes pool raw ≡ Row class → class < length classes
+  pub home_inside : last_raw classes pool raw ≡ Some class → class < length classes
   home_inside e = (raw_found classes pool raw e).0
 
-  module _ (own : own_row classes rows pool k ≡ Row row) where
+  module _ (own : own_row classes rows pool k ≡ Some row) where
     last_own : LastAt owns 0 rows row
     last_own = last_told owns 0 rows own
 
@@ -121,11 +119,11 @@ module _ (classes : List (List ℕ)) (rows : List (List ℕ)) (pool : List ℕ) 
 
       module _ {g : Ranges} (e : g ≡ m.ranges) {b : Bool} (f : b ≡ holds_line g n) where
         -- the row itself holds the line
-        pub line_here : b ≡ true → {l : LineName} → l ≡ line_name g n → l ≡ line_of_method (mapping cs (entries_back rows pool)) k n
+        pub line_here : b ≡ true → {l : Option DisplayLine} → l ≡ line_name g n → l ≡ line_of_method (mapping cs (entries_back rows pool)) k n
         line_here t {l} q =
             let inside = own_inside in
-            let last : Row row ≡ line_row cs k n rows pool =
-            ap Row (sym (add_sub row))
+            let last : Some row ≡ line_row cs k n rows pool =
+            ap Some (sym (add_sub row))
             ∙ scanning_found (scanning_from holds rows (row + 1) (omega arith) holds_later) (omega arith)
             (ap (λ i. holds (get_or rows i [])) (add_sub row) ∙ here) in
             q ∙ ap (λ x. line_name x n) e ∙ sym (line_found cs k rows pool n (sym last)).1
@@ -139,7 +137,7 @@ module _ (classes : List (List ℕ)) (rows : List (List ℕ)) (pool : List ℕ) 
         line_missing t = ap (λ x. holds_line x n) (sym e) ∙ sym f ∙ t
 
       -- it does not: the rows before it with the same mark are asked
-      module _ (last : last_raw classes pool raw ≡ Row class) {d : List ℕ} (h : d ≡ display) {owner : List ℕ} (o : owner ≡ raw)
+      module _ (last : last_raw classes pool raw ≡ Some class) {d : List ℕ} (h : d ≡ display) {owner : List ℕ} (o : owner ≡ raw)
           {name : List ℕ} (i : name ≡ text_in pool m.raw_name) {descriptor : List ℕ} (j : descriptor ≡ text_in pool m.descriptor) where
         look : shown cs raw ≡ known d
         look = (raw_found classes pool raw last).1 ∙ ap known (sym h)
@@ -153,7 +151,7 @@ module _ (classes : List (List ℕ)) (rows : List (List ℕ)) (pool : List ℕ) 
         answers_is : (r : List ℕ) → answers_by (OwnLine n) (known d) cs (key owner name descriptor) (entry_back pool r) ≡ holds r
         answers_is r = as_asked (λ l q. answers_by (OwnLine n) l cs q (entry_back pool r))
 
-        pub line_row_lem : {z : Found} → z ≡ last_member (answers_by (OwnLine n) (known d) cs (key owner name descriptor)) rows pool →
+        pub line_row_lem : {z : Option ℕ} → z ≡ last_member (answers_by (OwnLine n) (known d) cs (key owner name descriptor)) rows pool →
             z ≡ line_row cs k n rows pool
         line_row_lem a = a ∙ as_asked (λ l q. last_member (answers_by (OwnLine n) l cs q) rows pool)
 
@@ -189,15 +187,15 @@ module _ (classes : List (List ℕ)) (rows : List (List ℕ)) (pool : List ℕ) 
 pub ruleset lining_before = (home_inside, own_inside, line_row_lem, line_behind, own_link, own_link_fits, rules)
 
 -- What the row that answers says.
-module _ (cs : List Pair) (k : Key) (n : RawLine) (rows : List (List ℕ)) (pool : List ℕ) {z : Found} (a : z ≡ line_row cs k n rows pool) where
-  pub line_none : z ≡ Unknown → line.Unknown ≡ line_of_method (mapping cs (entries_back rows pool)) k n
+module _ (cs : List Pair) (k : Key) (n : RawLine) (rows : List (List ℕ)) (pool : List ℕ) {z : Option ℕ} (a : z ≡ line_row cs k n rows pool) where
+  pub line_none : z ≡ None → None ≡ line_of_method (mapping cs (entries_back rows pool)) k n
   line_none u = sym (line_unknown cs k rows pool n (sym a ∙ u))
 
-  module _ {t : ℕ} (u : z ≡ Row t) where
+  module _ {t : ℕ} (u : z ≡ Some t) where
     pub line_inside : t < length rows
     line_inside = (line_found cs k rows pool n (sym a ∙ u)).0
 
-    pub line_other : {y : Ranges} → y ≡ (unpack_member (get_or rows t [])).ranges → {l : LineName} → l ≡ line_name y n →
+    pub line_other : {y : Ranges} → y ≡ (unpack_member (get_or rows t [])).ranges → {l : Option DisplayLine} → l ≡ line_name y n →
         l ≡ line_of_method (mapping cs (entries_back rows pool)) k n
     line_other v q = q ∙ ap (λ w. line_name w n) v ∙ sym (line_found cs k rows pool n (sym a ∙ u)).1
 

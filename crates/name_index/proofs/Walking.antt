@@ -1,4 +1,5 @@
 -- The last member row that answers, by the index: rows of another mark do not match. Assumes nothing.
+use Rattle.std.specs.Prelude.{Some, None}
 use mathlib.Core.Path.{◌≡◌, refl, sym, ◌∙◌, ap}
 use mathlib.Core.Bool.{Bool, true, false}
 use mathlib.Core.List.{List, []}
@@ -16,7 +17,6 @@ use Rattle.text_places.specs.Places.{same}
 use Rattle.text_places.proofs.PlaceLaws.{same_equal}
 use Rattle.table_rows.specs.declared.rows.Member.{Member}
 use Rattle.table_rows.specs.Rows.{unpack_class, unpack_member}
-use Rattle.tables.specs.declared.search.Found.TheVariants.{Row, Unknown}
 use Rattle.tables.specs.Back.{text_in, pair_of, read_back}
 use Rattle.tables.proofs.Searching.{scanning_from, scanning_found, scanning_ends}
 use Rattle.name_rule.specs.Mappings.{member_back, entry_back}
@@ -94,7 +94,7 @@ module _ (classes : List (List ℕ)) (pool : List ℕ) (rows : List (List ℕ)) 
           (λ i k h. absurd (omega arith))
 
     module _ {count : ℕ} (k : BehindHere count) where
-      pub behind_ends : count ≤ 0 → Unknown ≡ last_member (answers_by t d (read_back classes pool) (key owner name descriptor)) rows pool
+      pub behind_ends : count ≤ 0 → None ≡ last_member (answers_by t d (read_back classes pool) (key owner name descriptor)) rows pool
       behind_ends h = scanning_ends (scanning_from answers rows count k.inside k.none) h
 
       module _ (l : 0 < count) where
@@ -118,7 +118,7 @@ module _ (classes : List (List ℕ)) (pool : List ℕ) (rows : List (List ℕ)) 
           here : answers (get_or rows (count - 1) []) ≡ b
           here = ap (λ z. answers_by t d (read_back classes pool) (key owner name descriptor) (member_back pool z)) (sym e) ∙ sym f
 
-          pub behind_found : b ≡ true → Row (count - 1) ≡ last_member (answers_by t d (read_back classes pool) (key owner name descriptor)) rows pool
+          pub behind_found : b ≡ true → Some (count - 1) ≡ last_member (answers_by t d (read_back classes pool) (key owner name descriptor)) rows pool
           behind_found g = scanning_found (scanning_from answers rows count k.inside k.none) l (here ∙ g)
 
           pub behind_more : b ≡ false → {next : ℕ} → next ≡ get_or index (8192 + (count - 1)) 0 → BehindHere next

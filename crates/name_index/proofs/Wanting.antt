@@ -1,4 +1,5 @@
 -- The member row that answers for a field, or else for a method, in one walk along the rows of a mark. Assumes nothing.
+use Rattle.std.specs.Prelude.{Option, Some, None}
 use mathlib.Core.Path.{◌≡◌, refl, sym, ◌∙◌, ap}
 use mathlib.Core.Bool.{Bool, true, false, not}
 use mathlib.Core.List.{List, []}
@@ -16,8 +17,6 @@ use Rattle.text_places.proofs.PlaceLaws.{same_refl}
 use Rattle.table_rows.specs.declared.rows.Member.{Member}
 use Rattle.table_rows.specs.Classes.{Pair, shown}
 use Rattle.table_rows.specs.Rows.{unpack_class, unpack_member}
-use Rattle.tables.specs.declared.search.Found.{Found}
-use Rattle.tables.specs.declared.search.Found.TheVariants.{Row, Unknown}
 use Rattle.tables.specs.Back.{text_in, pair_of, read_back}
 use Rattle.tables.specs.Search.{or_row, last_raw}
 use Rattle.tables.proofs.Searching.{raw_found}
@@ -139,10 +138,10 @@ first_own false display cs k pool m q h = go (eqb m.kind 0) (matches cs k (membe
     go false n r = rw r (both_true (same display (text_in pool m.owner)))
 
 -- One walk.
-answers_first : (a b : Found) {i : ℕ} → Row i ≡ a → Row i ≡ or_row a b
+answers_first : (a b : Option ℕ) {i : ℕ} → Some i ≡ a → Some i ≡ or_row a b
 answers_first a b e = ap (λ z. or_row z b) e
 
-answers_else : (a b : Found) {z : Found} → Unknown ≡ a → z ≡ b → z ≡ or_row a b
+answers_else : (a b : Option ℕ) {z : Option ℕ} → None ≡ a → z ≡ b → z ≡ or_row a b
 answers_else a b e f = f ∙ ap (λ y. or_row y b) e
 
 module _ (classes : List (List ℕ)) (pool : List ℕ) (rows : List (List ℕ)) (t : Bool) (display owner name descriptor : List ℕ) where
@@ -152,10 +151,10 @@ module _ (classes : List (List ℕ)) (pool : List ℕ) (rows : List (List ℕ)) 
   abbrev k : Key
   k = key owner name descriptor
 
-  abbrev lastFirst : Found
+  abbrev lastFirst : Option ℕ
   lastFirst = last_member (answers_by (first_wanted t) (known display) cs k) rows pool
 
-  abbrev lastElse : Found
+  abbrev lastElse : Option ℕ
   lastElse = last_member (answers_by (else_wanted t) (known display) cs k) rows pool
 
   abbrev WalkedHere : ℕ → ℕ → Type 0
@@ -173,15 +172,15 @@ module _ (classes : List (List ℕ)) (pool : List ℕ) (rows : List (List ℕ)) 
 
     module _ {any count : ℕ} (w : WalkedHere any count) where
       module _ (h : count ≤ 0) where
-        none_first : Unknown ≡ lastFirst
+        none_first : None ≡ lastFirst
         none_first = behind_ends classes pool rows (first_wanted t) (known display) owner name descriptor x w.first h
 
-        pub walked_none : any ≤ 0 → Unknown ≡ wanted_row t (known display) cs k rows pool
+        pub walked_none : any ≤ 0 → None ≡ wanted_row t (known display) cs k rows pool
         walked_none z =
             answers_else lastFirst lastElse none_first
             (behind_ends classes pool rows (else_wanted t) (known display) owner name descriptor x (w.none z) h)
 
-        pub walked_some : 0 < any → Row (any - 1) ≡ wanted_row t (known display) cs k rows pool
+        pub walked_some : 0 < any → Some (any - 1) ≡ wanted_row t (known display) cs k rows pool
         walked_some z = answers_else lastFirst lastElse none_first (w.some z)
 
       module _ (l : 0 < count) {m : Member} (e : m ≡ unpack_member (get_or rows (count - 1) [])) {b : Bool} (f : b ≡ wanted_by t cs k (member_back pool m)) where
@@ -189,7 +188,7 @@ module _ (classes : List (List ℕ)) (pool : List ℕ) (rows : List (List ℕ)) 
             Behind classes pool rows (first_wanted t) (known display) owner name descriptor next
         on_first q n = behind_more classes pool rows (first_wanted t) (known display) owner name descriptor x w.first l e (sym q) refl n
 
-        found_first : answers_by (first_wanted t) (known display) cs k (member_back pool m) ≡ true → Row (count - 1) ≡ wanted_row t (known display) cs k rows pool
+        found_first : answers_by (first_wanted t) (known display) cs k (member_back pool m) ≡ true → Some (count - 1) ≡ wanted_row t (known display) cs k rows pool
         found_first q =
             answers_first lastFirst lastElse
             (behind_found classes pool rows (first_wanted t) (known display) owner name descriptor x w.first l e (sym q) refl)
@@ -209,14 +208,14 @@ module _ (classes : List (List ℕ)) (pool : List ℕ) (rows : List (List ℕ)) 
           is_wanted : wanted_by t cs k (member_back pool m) ≡ true
           is_wanted = sym f ∙ not-false b h
 
-          pub walked_field : t ≡ true → Row (count - 1) ≡ wanted_row t (known display) cs k rows pool
+          pub walked_field : t ≡ true → Some (count - 1) ≡ wanted_row t (known display) cs k rows pool
           walked_field q = found_first (first_field t (known display) cs k (member_back pool m) q is_wanted)
 
           module _ (q : t ≡ false) {s : List ℕ} (g : s ≡ text_in pool m.owner) {c : Bool} (j : c ≡ same display s) where
             as_own : answers_by (first_wanted t) (known display) cs k (member_back pool m) ≡ c
             as_own = first_own t display cs k pool m q is_wanted ∙ ap (same display) (sym g) ∙ sym j
 
-            pub walked_own : c ≡ true → Row (count - 1) ≡ wanted_row t (known display) cs k rows pool
+            pub walked_own : c ≡ true → Some (count - 1) ≡ wanted_row t (known display) cs k rows pool
             walked_own r = found_first (as_own ∙ r)
 
             module _ (r : c ≡ false) {next : ℕ} (n : next ≡ get_or index (8192 + (count - 1)) 0) where
@@ -236,25 +235,25 @@ pub ruleset walking_wanted =
     (row_inside, link_inside, link_fits, behind_falls, walked_none, walked_some, walked_other, walked_field, walked_own, walked_kept, walked_any, rules)
 
 -- What is wanted of the class at a row, which is the last with its raw descriptor.
-or_itself : (a : Found) → or_row a a ≡ a
-or_itself (Row i) = refl
-or_itself Unknown = refl
+or_itself : (a : Option ℕ) → or_row a a ≡ a
+or_itself (Some i) = refl
+or_itself None = refl
 
 module _ (classes rows : List (List ℕ)) (pool name descriptor : List ℕ) (i : ℕ) (t : Bool) where
   abbrev raw : List ℕ
   raw = text_in pool (unpack_class (get_or classes i [])).raw
 
-  abbrev asked : Look → Found
+  abbrev asked : Look → Option ℕ
   asked look = wanted_row t look (read_back classes pool) (key raw name descriptor) rows pool
 
-  abbrev answer : Bool → Found
+  abbrev answer : Bool → Option ℕ
   answer b = pick b (field_row (read_back classes pool) (key raw name descriptor) rows pool) (method_row (read_back classes pool) (key raw name descriptor) rows pool)
 
-  module _ (last : last_raw classes pool raw ≡ Row i) where
+  module _ (last : last_raw classes pool raw ≡ Some i) where
     pub class_inside : i < length classes
     class_inside = (raw_found classes pool raw last).0
 
-    pub chained_answer : {d : List ℕ} → d ≡ text_in pool (unpack_class (get_or classes i [])).display → {z : Found} → z ≡ asked (known d) → z ≡ answer t
+    pub chained_answer : {d : List ℕ} → d ≡ text_in pool (unpack_class (get_or classes i [])).display → {z : Option ℕ} → z ≡ asked (known d) → z ≡ answer t
     chained_answer h g = g ∙ ap asked (sym ((raw_found classes pool raw last).1 ∙ ap known (sym h))) ∙ go t
       where
         go : (b : Bool) → wanted_row b (shown (read_back classes pool) raw) (read_back classes pool) (key raw name descriptor) rows pool ≡ answer b

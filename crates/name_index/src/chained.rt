@@ -1,9 +1,8 @@
 // Which member row answers, by the index: only rows with the mark of what is looked for are asked, from the last one backwards.
-ghost use Rattle.std.specs.Prelude.{◌≡◌, not, [], ◌<◌, eqb, length, get_or};
+ghost use Rattle.std.specs.Prelude.{◌≡◌, not, [], ◌<◌, eqb, length, get_or, Some};
 ghost use Rattle.ground.specs.Choice.{pick};
 ghost use Rattle.ground.specs.Look.{known};
 ghost use Rattle.table_rows.specs.Rows.{unpack_class};
-ghost use Rattle.tables.specs.declared.search.Found.TheVariants.{Row};
 ghost use Rattle.tables.specs.Back.{text_in, read_back};
 ghost use Rattle.tables.specs.Search.{last_raw};
 ghost use Rattle.name_rule.specs.Mappings.{member_back};
@@ -15,7 +14,7 @@ ghost use Rattle.name_index.specs.Inner.Chains.{wanted_by, wanted_row, Chained, 
 use crate::chains::{MARKS, member_mark, raw_of};
 use name_members::{Sought, display_of, is_answer};
 use table_rows::{ClassRow, Member, MemberRow, unpack_member};
-use tables::{Found, text_in};
+use tables::text_in;
 use text_places::same_text;
 
 pub fn wide_number(x: u16) -> usize
@@ -36,7 +35,7 @@ fn walk_links(
     descriptor: &[u8],
     sought: Sought,
     from: usize,
-) -> Found
+) -> Option<usize>
     requires { Chained classes.now pool.now members.now index.now (length members.now)
         × Behind classes.now pool.now members.now sought (known display.now) owner.now name.now descriptor.now «from» }
     ensures { let cs = read_back classes.now pool.now in
@@ -50,11 +49,11 @@ fn walk_links(
         if is_answer(
             classes, pool, member, display, owner, name, descriptor, sought,
         ) {
-            return Found::Row(row);
+            return Some(row);
         }
         count = wide_number(index[MARKS + row]);
     }
-    Found::Unknown
+    None
 }
 
 // The same. Texts are made anew of their numbers: slices that were just made are waited for where they are handed on whole.
@@ -69,7 +68,7 @@ pub fn last_linked(
     descriptor: &[u8],
     sought: Sought,
     from: usize,
-) -> Found
+) -> Option<usize>
     requires { Chained classes.now pool.now members.now index.now (length members.now)
         × Behind classes.now pool.now members.now sought (known display.now) owner.now name.now descriptor.now «from» }
     ensures { let cs = read_back classes.now pool.now in
@@ -152,7 +151,7 @@ fn walk_wanted(
     descriptor: &[u8],
     field: bool,
     from: usize,
-) -> Found
+) -> Option<usize>
     requires { let raw = text_in pool.now (unpack_class (get_or classes.now class [])).raw in
         Chained classes.now pool.now members.now index.now (length members.now)
         × (class < length classes.now)
@@ -173,10 +172,10 @@ fn walk_wanted(
             continue;
         }
         if field {
-            return Found::Row(row);
+            return Some(row);
         }
         if same_text(display, text_in(pool, member.owner)) {
-            return Found::Row(row);
+            return Some(row);
         }
         if 0 < any {
             continue;
@@ -184,9 +183,9 @@ fn walk_wanted(
         any = number;
     }
     if 0 < any {
-        return Found::Row(any - 1);
+        return Some(any - 1);
     }
-    Found::Unknown
+    None
 }
 
 // The member row that answers for a field, or else for a method: by the row of its class, which is the last with that raw descriptor, its
@@ -200,9 +199,9 @@ pub fn chained_row(
     name: &[u8],
     descriptor: &[u8],
     field: bool,
-) -> Found
+) -> Option<usize>
     requires { Chained classes.now pool.now members.now index.now (length members.now)
-        × (last_raw classes.now pool.now (text_in pool.now (unpack_class (get_or classes.now class [])).raw) ≡ Row class) }
+        × (last_raw classes.now pool.now (text_in pool.now (unpack_class (get_or classes.now class [])).raw) ≡ Some class) }
     ensures { let p = pool.now in
         let cs = read_back classes.now p in
         let rows = members.now in

@@ -108,9 +108,7 @@ pub fn index_members(index: &mut [u16], classes: &[ClassRow], members: &[MemberR
         Chained classes.now pool.now rows index.new (length rows) }
 {
     let mut kept = class_mark(classes, pool, 0);
-    let mut row = 0;
-    while row < members.len() {
+    for row in 0..members.len() {
         kept = index_row(index, classes, members, pool, row, kept);
-        row += 1;
     }
 }

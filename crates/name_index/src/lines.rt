@@ -1,7 +1,6 @@
 // Lines of a method, by the last of its rows.
-ghost use Rattle.std.specs.Prelude.{◌≡◌, false, [], ◌<◌, length, get_or};
+ghost use Rattle.std.specs.Prelude.{◌≡◌, false, [], ◌<◌, length, get_or, Some};
 ghost use Rattle.table_rows.specs.Rows.{unpack_class, unpack_member};
-ghost use Rattle.tables.specs.declared.search.Found.TheVariants.{Row};
 ghost use Rattle.tables.specs.Back.{text_in, read_back};
 ghost use Rattle.tables.specs.Search.{last_raw};
 ghost use Rattle.name_rule.specs.Mappings.{mapping, entries_back};
@@ -12,10 +11,10 @@ ghost use Rattle.name_index.specs.Inner.Chains.{Chained, key_of_row, own_row};
 
 use crate::chained::{last_linked, wide_number};
 use crate::chains::{MARKS, raw_of};
-use name_lines::{LineName, RawLine, holds_line, translated};
+use name_lines::{DisplayLine, RawLine, holds_line, translated};
 use name_members::{Sought, display_of};
 use table_rows::{ClassRow, MemberRow, Ranges, unpack_member};
-use tables::{Found, text_in};
+use tables::text_in;
 
 fn ranges_of(members: &[MemberRow], row: usize) -> Ranges
     requires { row < length members.now }
@@ -47,10 +46,10 @@ fn row_before(
     class: usize,
     row: usize,
     line: RawLine,
-) -> Found
+) -> Option<usize>
     requires { Chained classes.now pool.now members.now index.now (length members.now)
-        × (last_raw classes.now pool.now (text_in pool.now (unpack_class (get_or classes.now class [])).raw) ≡ Row class)
-        × (own_row classes.now members.now pool.now (key_of_row classes.now members.now pool.now class row) ≡ Row row)
+        × (last_raw classes.now pool.now (text_in pool.now (unpack_class (get_or classes.now class [])).raw) ≡ Some class)
+        × (own_row classes.now members.now pool.now (key_of_row classes.now members.now pool.now class row) ≡ Some row)
         × (holds_line (unpack_member (get_or members.now row [])).ranges line ≡ false) }
     ensures { let p = pool.now in
         let rows = members.now in
@@ -81,10 +80,10 @@ pub fn line_by_row(
     class: usize,
     row: usize,
     line: RawLine,
-) -> LineName
+) -> Option<DisplayLine>
     requires { Chained classes.now pool.now members.now index.now (length members.now)
-        × (last_raw classes.now pool.now (text_in pool.now (unpack_class (get_or classes.now class [])).raw) ≡ Row class)
-        × (own_row classes.now members.now pool.now (key_of_row classes.now members.now pool.now class row) ≡ Row row) }
+        × (last_raw classes.now pool.now (text_in pool.now (unpack_class (get_or classes.now class [])).raw) ≡ Some class)
+        × (own_row classes.now members.now pool.now (key_of_row classes.now members.now pool.now class row) ≡ Some row) }
     ensures { let p = pool.now in
         let rows = members.now in
         let k = key_of_row classes.now rows p class row in
@@ -94,8 +93,6 @@ pub fn line_by_row(
     if holds_line(ranges, line) {
         return translated(ranges, line);
     }
-    let Found::Row(answer) = row_before(index, classes, members, pool, class, row, line) else {
-        return LineName::Unknown;
-    };
+    let answer = row_before(index, classes, members, pool, class, row, line)?;
     translated(ranges_of(members, answer), line)
 }

@@ -3,4 +3,4 @@
 
 mod lines;
 
-pub use lines::{DisplayLine, LineName, RawLine, holds_line, translated};
+pub use lines::{DisplayLine, RawLine, holds_line, translated};

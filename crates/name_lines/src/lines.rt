@@ -1,5 +1,5 @@
 // "Raw line and display line are two numberings": each has a type of its own, and a number of one is made a number of the other here alone.
-ghost use Rattle.std.specs.Prelude.{◌≡◌, ◌-◌, min};
+ghost use Rattle.std.specs.Prelude.{◌≡◌};
 ghost use Rattle.ground.specs.Choice.{within};
 ghost use Rattle.name_lines.specs.LineNames.{holds_line, line_name};
 
@@ -10,31 +10,6 @@ pub struct RawLine(pub u32);
 
 #[derive(Clone, Copy)]
 pub struct DisplayLine(pub u32);
-
-#[derive(Clone, Copy)]
-pub enum LineName {
-    Line(DisplayLine),
-    Unknown,
-}
-
-fn lesser_number(a: u32, b: u32) -> u32
-    ensures { result ≡ min a b }
-{
-    if b < a {
-        return b;
-    }
-    a
-}
-
-// The difference, at least 0.
-fn difference(a: u32, b: u32) -> u32
-    ensures { result ≡ a - b }
-{
-    if a < b {
-        return 0;
-    }
-    a - b
-}
 
 // Whether a range holds a line.
 fn in_range(start: u32, end: u32, line: u32) -> bool
@@ -63,12 +38,12 @@ pub fn holds_line(ranges: Ranges, line: RawLine) -> bool
 }
 
 // The display line of a raw line, if the raw range of the method holds it.
-pub fn translated(ranges: Ranges, line: RawLine) -> LineName
+pub fn translated(ranges: Ranges, line: RawLine) -> Option<DisplayLine>
     ensures { result ≡ line_name ranges line }
 {
     match ranges {
-        Ranges::None => LineName::Unknown,
-        Ranges::Display { start: _, end: _ } => LineName::Unknown,
+        Ranges::None => None,
+        Ranges::Display { start: _, end: _ } => None,
         Ranges::Both {
             raw_start,
             raw_end,
@@ -76,10 +51,10 @@ pub fn translated(ranges: Ranges, line: RawLine) -> LineName
             end,
         } => {
             if !in_range(raw_start, raw_end, line.0) {
-                return LineName::Unknown;
+                return None;
             }
-            let past = lesser_number(line.0 - raw_start, difference(end, start));
-            LineName::Line(DisplayLine(start + past))
+            let past = (line.0 - raw_start).min(end.saturating_sub(start));
+            Some(DisplayLine(start + past))
         }
     }
 }

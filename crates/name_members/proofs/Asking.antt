@@ -1,4 +1,5 @@
 -- The row that answers what is asked. Assumes nothing.
+use Rattle.std.specs.Prelude.{Option, Some, None}
 use mathlib.Core.Path.{◌≡◌, refl, sym, ◌∙◌, ap}
 use mathlib.Core.Bool.{Bool, true, false}
 use mathlib.Core.List.{List, []}
@@ -12,8 +13,6 @@ use Rattle.ground.proofs.Cases.{clash}
 use Rattle.table_rows.specs.declared.rows.Class.{Class}
 use Rattle.table_rows.specs.Classes.{Pair, shown}
 use Rattle.table_rows.specs.Rows.{unpack_class}
-use Rattle.tables.specs.declared.search.Found.{Found}
-use Rattle.tables.specs.declared.search.Found.TheVariants.{Row, Unknown}
 use Rattle.tables.specs.Back.{text_in, read_back}
 use Rattle.tables.specs.Search.{last_raw}
 use Rattle.tables.proofs.Searching.{raw_found, raw_unknown}
@@ -34,24 +33,24 @@ first_line_lem a e = sym (rw e)
 pub ruleset firsts = (first_line_lem, rules)
 
 -- of a class that no row has, no member answers
-none_asked : (a : Asked) (cs : List Pair) (k : Key) (rows : List (List ℕ)) (pool : List ℕ) → shown cs k.owner ≡ unknown → Unknown ≡ row_asked a cs k rows pool
+none_asked : (a : Asked) (cs : List Pair) (k : Key) (rows : List (List ℕ)) (pool : List ℕ) → shown cs k.owner ≡ unknown → None ≡ row_asked a cs k rows pool
 none_asked asked.Field cs k rows pool u = sym (none_found cs k (λ e. is_field_kind e.kind) rows pool u)
 none_asked asked.Method cs k rows pool u =
     sym (rw (none_found cs k (λ e. owned_by (shown cs k.owner) e.kind) rows pool u, none_found cs k (λ e. is_method_kind e.kind) rows pool u))
 none_asked (asked.Line n) cs k rows pool u =
     sym (none_found cs k (λ e. both (owned_by (shown cs k.owner) e.kind) (kind_holds e.kind n)) rows pool u)
 
-module _ (classes rows : List (List ℕ)) (pool owner name descriptor : List ℕ) {o : Found} (f : o ≡ last_raw classes pool owner) where
+module _ (classes rows : List (List ℕ)) (pool owner name descriptor : List ℕ) {o : Option ℕ} (f : o ≡ last_raw classes pool owner) where
   abbrev cs : List Pair
   cs = read_back classes pool
 
   abbrev k : Key
   k = key owner name descriptor
 
-  pub asked_none : (a : Asked) → o ≡ Unknown → Unknown ≡ row_asked a cs k rows pool
+  pub asked_none : (a : Asked) → o ≡ None → None ≡ row_asked a cs k rows pool
   asked_none a e = none_asked a cs k rows pool (raw_unknown classes pool owner (sym f ∙ e))
 
-  module _ {i : ℕ} (e : o ≡ Row i) where
+  module _ {i : ℕ} (e : o ≡ Some i) where
     pub asked_inside : i < length classes
     asked_inside = (raw_found classes pool owner (sym f ∙ e)).0
 
@@ -63,37 +62,37 @@ module _ (classes rows : List (List ℕ)) (pool owner name descriptor : List ℕ
       shows : shown cs owner ≡ known d
       shows = (raw_found classes pool owner (sym f ∙ e)).1 ∙ ap known (sym h)
 
-      abbrev found : Sought → Found
+      abbrev found : Sought → Option ℕ
       found t = last_member (answers_by t (known d) cs k) rows pool
 
       as_shown : (t : Sought) → found t ≡ last_member (answers_by t (shown cs owner) cs k) rows pool
       as_shown t = ap (λ l. last_member (answers_by t l cs k) rows pool) (sym shows)
 
-      module _ (a : Asked) {t : Sought} (q : t ≡ first_sought a) {z : Found} (r : z ≡ found t) where
+      module _ (a : Asked) {t : Sought} (q : t ≡ first_sought a) {z : Option ℕ} (r : z ≡ found t) where
         first : z ≡ last_member (answers_by (first_sought a) (shown cs owner) cs k) rows pool
         first = r ∙ ap found q ∙ as_shown (first_sought a)
 
-        pub asked_row : {j : ℕ} → z ≡ Row j → Row j ≡ row_asked a cs k rows pool
+        pub asked_row : {j : ℕ} → z ≡ Some j → Some j ≡ row_asked a cs k rows pool
         asked_row {j} s = go a (sym (sym first ∙ s))
           where
-            go : (b : Asked) → Row j ≡ last_member (answers_by (first_sought b) (shown cs owner) cs k) rows pool → Row j ≡ row_asked b cs k rows pool
+            go : (b : Asked) → Some j ≡ last_member (answers_by (first_sought b) (shown cs owner) cs k) rows pool → Some j ≡ row_asked b cs k rows pool
             go asked.Field u = u
             go asked.Method u = sym (rw (sym u))
             go (asked.Line n) u = u
 
-        module _ (s : z ≡ Unknown) {b : Bool} (w : b ≡ is_method_asked a) where
-          pub asked_other : b ≡ false → Unknown ≡ row_asked a cs k rows pool
+        module _ (s : z ≡ None) {b : Bool} (w : b ≡ is_method_asked a) where
+          pub asked_other : b ≡ false → None ≡ row_asked a cs k rows pool
           asked_other u = go a (sym w ∙ u) (sym (sym first ∙ s))
             where
-              go : (d : Asked) → is_method_asked d ≡ false → Unknown ≡ last_member (answers_by (first_sought d) (shown cs owner) cs k) rows pool → Unknown ≡ row_asked d cs k rows pool
+              go : (d : Asked) → is_method_asked d ≡ false → None ≡ last_member (answers_by (first_sought d) (shown cs owner) cs k) rows pool → None ≡ row_asked d cs k rows pool
               go asked.Field i u = u
               go asked.Method i u = clash refl i
               go (asked.Line n) i u = u
 
-          pub asked_any : b ≡ true → {y : Found} → y ≡ found sought.Method → y ≡ row_asked a cs k rows pool
+          pub asked_any : b ≡ true → {y : Option ℕ} → y ≡ found sought.Method → y ≡ row_asked a cs k rows pool
           asked_any u {y} v = v ∙ go a (sym w ∙ u) (sym (sym first ∙ s))
             where
-              go : (d : Asked) → is_method_asked d ≡ true → Unknown ≡ last_member (answers_by (first_sought d) (shown cs owner) cs k) rows pool →
+              go : (d : Asked) → is_method_asked d ≡ true → None ≡ last_member (answers_by (first_sought d) (shown cs owner) cs k) rows pool →
                   found sought.Method ≡ row_asked d cs k rows pool
               go asked.Field i u = clash i refl
               go asked.Method i u = sym (rw (sym u))

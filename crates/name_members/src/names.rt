@@ -6,36 +6,26 @@ ghost use Rattle.name_members.specs.MemberAnswers.{answering, name_of_row, line_
 ghost use Rattle.name_members.specs.MemberAnswers.{name_numbers, line_numbers, field_name_numbers, method_name_numbers, line_numbers_of};
 
 use crate::rows::{Asked, member_row};
-use name_lines::{DisplayLine, LineName, RawLine, translated};
+use name_lines::{DisplayLine, RawLine, translated};
 use table_rows::{ClassRow, MemberRow, unpack_member};
-use tables::{Found, Used, well_formed};
+use tables::{Malformed, Used, well_formed};
 
+// The row that answers, and where its display name stands in the pool.
 #[derive(Clone, Copy)]
-pub enum MemberName {
-    // The row that answers, and where its display name stands in the pool.
-    Found { row: u32, place: u32, length: u32 },
-    Unknown,
-    // The tables are malformed.
-    Malformed,
+pub struct MemberName {
+    pub row: u32,
+    pub place: u32,
+    pub length: u32,
 }
 
+// The row that answers, and the display line.
 #[derive(Clone, Copy)]
-pub enum MemberLine {
-    // The row that answers, and the display line.
-    Found { row: u32, line: DisplayLine },
-    Unknown,
-    // The tables are malformed.
-    Malformed,
+pub struct MemberLine {
+    pub row: u32,
+    pub line: DisplayLine,
 }
 
-// The row that answers, or why there is none.
-#[derive(Clone, Copy)]
-pub enum Answering {
-    Row(u32),
-    Unknown,
-    Malformed,
-}
-
+// The row that answers.
 fn answering_row(
     classes: &[ClassRow],
     members: &[MemberRow],
@@ -45,19 +35,19 @@ fn answering_row(
     name: &[u8],
     descriptor: &[u8],
     asked: Asked,
-) -> Answering
+) -> Result<Option<u32>, Malformed>
     ensures { let lent = tables classes.now members.now pool.now in
         let k = key owner.now name.now descriptor.now in
         result ≡ answering asked lent used k }
 {
     if !well_formed(classes, members, pool, used) {
-        return Answering::Malformed;
+        return Err(Malformed);
     }
     let class_count = used.classes as usize;
     let member_count = used.members as usize;
     let class_rows = &classes[..class_count];
     let member_rows = &members[..member_count];
-    match member_row(
+    let Some(row) = member_row(
         class_rows,
         member_rows,
         pool,
@@ -65,10 +55,10 @@ fn answering_row(
         name,
         descriptor,
         asked,
-    ) {
-        Found::Row(row) => Answering::Row(row as u32),
-        Found::Unknown => Answering::Unknown,
-    }
+    ) else {
+        return Ok(None);
+    };
+    Ok(Some(row as u32))
 }
 
 fn name_of_row(members: &[MemberRow], row: u32) -> MemberName
@@ -77,23 +67,21 @@ fn name_of_row(members: &[MemberRow], row: u32) -> MemberName
 {
     let at = row as usize;
     let name = unpack_member(members[at]).name;
-    MemberName::Found {
+    MemberName {
         row,
         place: name.place,
         length: name.length,
     }
 }
 
-fn line_of_row(members: &[MemberRow], row: u32, line: RawLine) -> MemberLine
+fn line_of_row(members: &[MemberRow], row: u32, line: RawLine) -> Option<MemberLine>
     requires { row < length members.now }
     ensures { result ≡ line_of_row row (get_or members.now row []) line }
 {
     let at = row as usize;
     let ranges = unpack_member(members[at]).ranges;
-    match translated(ranges, line) {
-        LineName::Line(shown) => MemberLine::Found { row, line: shown },
-        LineName::Unknown => MemberLine::Unknown,
-    }
+    let shown = translated(ranges, line)?;
+    Some(MemberLine { row, line: shown })
 }
 
 // The display name of a field.
@@ -105,12 +93,12 @@ pub fn display_field_name(
     owner: &[u8],
     name: &[u8],
     descriptor: &[u8],
-) -> MemberName
+) -> Result<Option<MemberName>, Malformed>
     ensures { let lent = tables classes.now members.now pool.now in
         let k = key owner.now name.now descriptor.now in
         (result ≡ field_answer lent used k) × (name_numbers result ≡ field_name_numbers lent used k) }
 {
-    match answering_row(
+    let answer = answering_row(
         classes,
         members,
         pool,
@@ -119,11 +107,11 @@ pub fn display_field_name(
         name,
         descriptor,
         Asked::Field,
-    ) {
-        Answering::Row(row) => name_of_row(members, row),
-        Answering::Unknown => MemberName::Unknown,
-        Answering::Malformed => MemberName::Malformed,
-    }
+    )?;
+    let Some(row) = answer else {
+        return Ok(None);
+    };
+    Ok(Some(name_of_row(members, row)))
 }
 
 // The display name of a method.
@@ -135,12 +123,12 @@ pub fn display_method_name(
     owner: &[u8],
     name: &[u8],
     descriptor: &[u8],
-) -> MemberName
+) -> Result<Option<MemberName>, Malformed>
     ensures { let lent = tables classes.now members.now pool.now in
         let k = key owner.now name.now descriptor.now in
         (result ≡ method_answer lent used k) × (name_numbers result ≡ method_name_numbers lent used k) }
 {
-    match answering_row(
+    let answer = answering_row(
         classes,
         members,
         pool,
@@ -149,11 +137,11 @@ pub fn display_method_name(
         name,
         descriptor,
         Asked::Method,
-    ) {
-        Answering::Row(row) => name_of_row(members, row),
-        Answering::Unknown => MemberName::Unknown,
-        Answering::Malformed => MemberName::Malformed,
-    }
+    )?;
+    let Some(row) = answer else {
+        return Ok(None);
+    };
+    Ok(Some(name_of_row(members, row)))
 }
 
 // The display line of a raw line of a method.
@@ -166,12 +154,12 @@ pub fn display_line(
     name: &[u8],
     descriptor: &[u8],
     line: RawLine,
-) -> MemberLine
+) -> Result<Option<MemberLine>, Malformed>
     ensures { let lent = tables classes.now members.now pool.now in
         let k = key owner.now name.now descriptor.now in
         (result ≡ line_answer lent used k line) × (line_numbers result ≡ line_numbers_of lent used k line) }
 {
-    match answering_row(
+    let answer = answering_row(
         classes,
         members,
         pool,
@@ -180,9 +168,9 @@ pub fn display_line(
         name,
         descriptor,
         Asked::Line(line),
-    ) {
-        Answering::Row(row) => line_of_row(members, row, line),
-        Answering::Unknown => MemberLine::Unknown,
-        Answering::Malformed => MemberLine::Malformed,
-    }
+    )?;
+    let Some(row) = answer else {
+        return Ok(None);
+    };
+    Ok(line_of_row(members, row, line))
 }

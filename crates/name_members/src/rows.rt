@@ -11,7 +11,7 @@ ghost use Rattle.name_members.specs.Inner.Sought.{is_field_sought, sought_by, an
 
 use name_lines::{RawLine, holds_line};
 use table_rows::{ClassRow, Member, MemberRow, unpack_class, unpack_member};
-use tables::{Found, last_with_raw, text_in};
+use tables::{last_with_raw, text_in};
 use text_places::same_text;
 
 // What is asked: the name of a field or of a method, or the display line of a raw line of a method.
@@ -130,7 +130,7 @@ fn last_sought(
     name: &[u8],
     descriptor: &[u8],
     sought: Sought,
-) -> Found
+) -> Option<usize>
     ensures { let cs = read_back classes.now pool.now in
         let k = key owner.now name.now descriptor.now in
         result ≡ last_member (answers_by sought (known display.now) cs k) members.now pool.now }
@@ -142,11 +142,11 @@ fn last_sought(
         if is_answer(
             classes, pool, member, display, owner, name, descriptor, sought,
         ) {
-            return Found::Row(at);
+            return Some(at);
         }
         end = at;
     }
-    Found::Unknown
+    None
 }
 
 // The display descriptor of a class row.
@@ -187,17 +187,15 @@ pub fn member_row(
     name: &[u8],
     descriptor: &[u8],
     asked: Asked,
-) -> Found
+) -> Option<usize>
     ensures { let cs = read_back classes.now pool.now in
         let k = key owner.now name.now descriptor.now in
         result ≡ row_asked asked cs k members.now pool.now }
 {
-    let Found::Row(row) = last_with_raw(classes, pool, owner) else {
-        return Found::Unknown;
-    };
+    let row = last_with_raw(classes, pool, owner)?;
     let display = display_of(classes, pool, row);
     let first = first_sought(asked);
-    let Found::Row(answer) = last_sought(
+    let Some(answer) = last_sought(
         members, classes, pool, display, owner, name, descriptor, first,
     ) else {
         // of a method, any other that matches
@@ -213,7 +211,7 @@ pub fn member_row(
                 Sought::Method,
             );
         }
-        return Found::Unknown;
+        return None;
     };
-    Found::Row(answer)
+    Some(answer)
 }

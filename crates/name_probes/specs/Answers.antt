@@ -1,15 +1,11 @@
 -- Answers as numbers.
-use Rattle.std.specs.Prelude.{ℕ, ◌+◌, ◌%◌}
-use Rattle.tables.specs.declared.search.Found as looked
-use Rattle.tables.specs.declared.search.Found.TheVariants as row
-use Rattle.name_members.specs.declared.names.Answering.{Answering}
-use Rattle.name_members.specs.declared.names.Answering.TheVariants as answer
+use Rattle.std.specs.Prelude.{ℕ, ◌+◌, ◌%◌, Option, Some, None, Result, Ok, Err}
+use Rattle.tables.specs.declared.check.Malformed.{Malformed}
 
-abbrev pub row_number : looked.Found → ℕ
-row_number (row.Row i) = i % 4294967296 + 2
-row_number row.Unknown = 1
+abbrev pub row_number : Option ℕ → ℕ
+row_number (Some i) = i % 4294967296 + 2
+row_number None = 1
 
-abbrev pub answer_number : Answering → ℕ
-answer_number (answer.Row i) = i % 4294967296 + 2
-answer_number answer.Unknown = 1
-answer_number answer.Malformed = 0
+abbrev pub answer_number : Result (Option ℕ) Malformed → ℕ
+answer_number (Ok found) = row_number found
+answer_number (Err _) = 0

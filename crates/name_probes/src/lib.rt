@@ -13,14 +13,14 @@ ghost use Rattle.name_probes.specs.Answers.{row_number, answer_number};
 
 use name_index::{MEMBER_INDEX, chained_row, index_members};
 use table_rows::{ClassRow, MemberRow};
-use tables::{Found, last_with_raw, used_of, well_formed};
+use tables::{last_with_raw, used_of, well_formed};
 
-fn row_number(found: Found) -> u64
+fn row_number(found: Option<usize>) -> u64
     ensures { result ≡ row_number found }
 {
     match found {
-        Found::Row(row) => row as u64 % 4294967296 + 2,
-        Found::Unknown => 1,
+        Some(row) => row as u64 % 4294967296 + 2,
+        None => 1,
     }
 }
 
@@ -32,15 +32,13 @@ fn indexed_row(
     owner: &[u8],
     name: &[u8],
     descriptor: &[u8],
-) -> Found
+) -> Option<usize>
     requires { length members.now ≤ most_members }
     ensures { let p = pool.now in
         let k = key owner.now name.now descriptor.now in
         result ≡ row_asked Method (read_back classes.now p) k members.now p }
 {
-    let Found::Row(class) = last_with_raw(classes, pool, owner) else {
-        return Found::Unknown;
-    };
+    let class = last_with_raw(classes, pool, owner)?;
     let mut index = [0; MEMBER_INDEX];
     index_members(&mut index, classes, members, pool);
     chained_row(

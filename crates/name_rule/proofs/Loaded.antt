@@ -1,4 +1,5 @@
 -- The mapping that is read back from what an accepted load has written is the one that was loaded. Assumes nothing.
+use Rattle.std.specs.Prelude.{Ok}
 use mathlib.Core.Path.{◌≡◌, refl}
 use mathlib.Core.List.{List, ◌++◌}
 use Prim.Native.Nat.{ℕ, ◌+◌, ◌-◌}
@@ -13,7 +14,6 @@ use Rattle.tables.specs.declared.check.Used.{Used}
 use Rattle.tables.specs.Back.{text_in, read_back}
 use Rattle.tables.proofs.Holding.{Holds, holds_first, holds_second, holds_as}
 use Rattle.load_rule.specs.declared.Fates.{Fates}
-use Rattle.load_rule.specs.declared.Load.TheVariants as load
 use Rattle.load_rule.specs.Classes.{class_pool, classes_of}
 use Rattle.load_rule.specs.Members.{MemberKind, field, method, Entry, display_text, entry_text, entry_pool, entry_row, entry_rows}
 use Rattle.load_rule.specs.Loading.{Lent, entries_of, class_rows_of, member_rows_of, pool_of, answer_of, classes_left, members_left, pool_left}
@@ -22,6 +22,8 @@ use Rattle.load_rule.proofs.Back.{laid_back, class_rows_back}
 use Rattle.load_rule.proofs.Exactly.{loaded_leaves}
 use Rattle.load_rule.proofs.Formed.{class_rows_total, member_rows_total, whole}
 use Rattle.name_rule.specs.Mappings.{entry_back, entries_back, mapping, mapping_of}
+use Rattle.load_rule.specs.Fates.{loaded_with}
+use Rattle.load_rule.specs.declared.Loaded.{Loaded}
 
 module _ (pool : List ℕ) (used : Used) where
   -- the four texts of a method
@@ -59,19 +61,19 @@ module _ (pool : List ℕ) (used : Used) where
   entries_back_lem p es h = laid_back pool used entry_row entry_text (entry_back pool) entry_back_lem p es h
 
 -- "a look-up after a load is one statement from text to name"
-module _ (s : List ℕ) (ls : List (List ℕ)) (n : Lent) {f : Fates} {names : ℕ} (e : answer_of s ls n ≡ load.Loaded f names) where
-  pub mapping_loaded : mapping_of (tables (classes_left s ls n) (members_left s ls n) (pool_left s ls n)) (used_of f names) ≡ mapping (classes_of ls) (entries_of ls)
+module _ (s : List ℕ) (ls : List (List ℕ)) (n : Lent) {x : Loaded} (e : answer_of s ls n ≡ Ok x) where
+  pub mapping_loaded : mapping_of (tables (classes_left s ls n) (members_left s ls n) (pool_left s ls n)) (used_of x.fates x.names) ≡ mapping (classes_of ls) (entries_of ls)
   mapping_loaded =
       let (a, b, c) = loaded_leaves s ls n e in
-      let classes : take f.class (classes_left s ls n) ≡ class_rows_of ls =
+      let classes : take x.fates.class (classes_left s ls n) ≡ class_rows_of ls =
       rw (a, ← class_rows_total s ls n e) (take-append_seam (class_rows_of ls) (replicate (n.classes - length (class_rows_of ls)) zero_class)) in
-      let members : take (f.field + f.method) (members_left s ls n) ≡ member_rows_of ls =
+      let members : take (x.fates.field + x.fates.method) (members_left s ls n) ≡ member_rows_of ls =
       rw (b, ← member_rows_total s ls n e) (take-append_seam (member_rows_of ls) (replicate (n.members - length (member_rows_of ls)) zero_member)) in
       let rest : List ℕ = replicate (n.pool - length (pool_of ls)) 0 in
       let held = whole s ls n e rest in
       let cs : read_back (class_rows_of ls) (pool_of ls ++ rest) ≡ classes_of ls =
-      class_rows_back (pool_of ls ++ rest) (used_of f names) 0 (classes_of ls) (holds_first (class_pool (classes_of ls)) (entry_pool (entries_of ls)) held) in
+      class_rows_back (pool_of ls ++ rest) (used_of x.fates x.names) 0 (classes_of ls) (holds_first (class_pool (classes_of ls)) (entry_pool (entries_of ls)) held) in
       let es : entries_back (member_rows_of ls) (pool_of ls ++ rest) ≡ entries_of ls =
-      entries_back_lem (pool_of ls ++ rest) (used_of f names) (length (class_pool (classes_of ls))) (entries_of ls)
+      entries_back_lem (pool_of ls ++ rest) (used_of x.fates x.names) (length (class_pool (classes_of ls))) (entries_of ls)
       (holds_as (omega arith) (holds_second (class_pool (classes_of ls)) (entry_pool (entries_of ls)) held)) in
       rw (classes, members, c, cs, es) refl

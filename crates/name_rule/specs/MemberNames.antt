@@ -1,15 +1,14 @@
 -- Document 01 "Rows and names": the names of fields and methods, and lines.
-use Rattle.std.specs.Prelude.{Bool, true, false, List, [], ◌∷◌, ℕ, zero, suc}
+use Rattle.std.specs.Prelude.{Bool, true, false, List, [], ◌∷◌, ℕ, zero, suc, Option, Some, None}
 use Rattle.ground.specs.Choice.{pick, both}
 use Rattle.ground.specs.Look.{Look, known, unknown, or_look}
 use Rattle.text_places.specs.Places.{same}
 use Rattle.table_rows.specs.Classes.{Pair, shown}
 use Rattle.load_rule.specs.Members.{MemberKind, field, method, Entry}
 use Rattle.name_lines.specs.declared.lines.RawLine.{RawLine}
-use Rattle.name_lines.specs.declared.lines.LineName.{LineName}
-use Rattle.name_lines.specs.declared.lines.LineName.TheVariants.{Line, Unknown}
 use Rattle.name_lines.specs.LineNames.{line_name}
 use Rattle.name_rule.specs.Mappings.{Mapping}
+use Rattle.name_lines.specs.declared.lines.DisplayLine.{DisplayLine}
 
 -- what is looked for: the raw descriptor of its class, its raw name and its raw descriptor
 pub record Key : Type 0 where
@@ -73,17 +72,17 @@ abbrev pub method_name : Mapping → Key → Look
 method_name m k = or_look (last_named (owner_matches m.classes k) m.members) (last_named (method_matches m.classes k) m.members)
 
 -- "A line uses the last such owner match whose raw range holds it."
-abbrev pub or_line : LineName → LineName → LineName
-or_line (Line n) b = Line n
-or_line Unknown b = b
+abbrev pub or_line : Option DisplayLine → Option DisplayLine → Option DisplayLine
+or_line (Some n) b = Some n
+or_line None b = b
 
-abbrev pub line_of_kind : MemberKind → RawLine → LineName
-line_of_kind field n = Unknown
+abbrev pub line_of_kind : MemberKind → RawLine → Option DisplayLine
+line_of_kind field n = None
 line_of_kind (method o g) n = line_name g n
 
-unfoldable pub last_translated : (Entry → Bool) → RawLine → List Entry → LineName
-last_translated p n [] = Unknown
-last_translated p n (e ∷ es) = or_line (last_translated p n es) (pick (p e) (line_of_kind e.kind n) Unknown)
+unfoldable pub last_translated : (Entry → Bool) → RawLine → List Entry → Option DisplayLine
+last_translated p n [] = None
+last_translated p n (e ∷ es) = or_line (last_translated p n es) (pick (p e) (line_of_kind e.kind n) None)
 
-abbrev pub line_of_method : Mapping → Key → RawLine → LineName
+abbrev pub line_of_method : Mapping → Key → RawLine → Option DisplayLine
 line_of_method m k n = last_translated (owner_matches m.classes k) n m.members

@@ -5,4 +5,4 @@ mod range;
 mod read;
 
 pub use range::{LeadingRange, TrailingRange, leading_range, trailing_range};
-pub use read::{Number, read_number};
+pub use read::read_number;

@@ -3,111 +3,97 @@ ghost use Rattle.std.specs.Prelude.{◌≡◌, ◌+◌, ◌<◌, length, take, d
 ghost use Rattle.number.specs.Numbers.{number_of};
 ghost use Rattle.number.specs.Ranges.{leading_range, trailing_range, to_colon, one_number, two_numbers};
 
-use crate::read::{Number, read_number};
-use text_places::{Place, first_byte};
+use crate::read::read_number;
+use text_places::first_byte;
 
 // The range before a method. `rest` is the place after its second colon.
 #[derive(Clone, Copy)]
-pub enum LeadingRange {
-    Taken { start: u32, end: u32, rest: usize },
-    NotTaken,
+pub struct LeadingRange {
+    pub start: u32,
+    pub end: u32,
+    pub rest: usize,
 }
 
 // The range after a method's `)`. `second_unread` tells that a second part is there and does not read, so that `end` is `start`.
 #[derive(Clone, Copy)]
-pub enum TrailingRange {
-    Taken {
-        start: u32,
-        end: u32,
-        second_unread: bool,
-    },
-    NotTaken,
+pub struct TrailingRange {
+    pub start: u32,
+    pub end: u32,
+    pub second_unread: bool,
 }
 
 // The range at the head of a member's left side.
-pub fn leading_range(s: &[u8]) -> LeadingRange
+pub fn leading_range(s: &[u8]) -> Option<LeadingRange>
     ensures { result ≡ leading_range s.now }
 {
-    let Place::At(first) = first_byte(s, b':') else {
-        return LeadingRange::NotTaken;
-    };
+    let first = first_byte(s, b':')?;
     let after = first + 1;
-    let Place::At(width) = first_byte(&s[after..], b':') else {
-        return LeadingRange::NotTaken;
-    };
+    let width = first_byte(&s[after..], b':')?;
     let second = after + width;
-    let Number::Value(start) = read_number(&s[..first]) else {
-        return LeadingRange::NotTaken;
-    };
-    let Number::Value(end) = read_number(&s[after..second]) else {
-        return LeadingRange::NotTaken;
-    };
-    LeadingRange::Taken {
+    let start = read_number(&s[..first])?;
+    let end = read_number(&s[after..second])?;
+    Some(LeadingRange {
         start,
         end,
         rest: second + 1,
-    }
+    })
 }
 
 // A text up to its first colon, or all of it.
 fn to_colon(s: &[u8]) -> &[u8]
     ensures { result.now ≡ to_colon s.now }
 {
-    let Place::At(colon) = first_byte(s, b':') else {
+    let Some(colon) = first_byte(s, b':') else {
         return s;
     };
     &s[..colon]
 }
 
 // A range of which one number is there.
-fn one_number(s: &[u8]) -> TrailingRange
+fn one_number(s: &[u8]) -> Option<TrailingRange>
     ensures { result ≡ one_number (number_of s.now) }
 {
-    let Number::Value(start) = read_number(s) else {
-        return TrailingRange::NotTaken;
-    };
-    TrailingRange::Taken {
+    let start = read_number(s)?;
+    Some(TrailingRange {
         start,
         end: start,
         second_unread: false,
-    }
+    })
 }
 
 // A range of two parts, with a colon between.
-fn two_numbers(s: &[u8], colon: usize) -> TrailingRange
+fn two_numbers(s: &[u8], colon: usize) -> Option<TrailingRange>
     requires { colon < length s.now }
     ensures { result ≡ two_numbers (number_of (take colon s.now)) (number_of (to_colon (drop (colon + 1) s.now))) }
 {
-    let Number::Value(start) = read_number(&s[..colon]) else {
-        return TrailingRange::NotTaken;
-    };
+    let start = read_number(&s[..colon])?;
     let second = colon + 1;
-    let Number::Value(end) = read_number(to_colon(&s[second..])) else {
-        return TrailingRange::Taken {
+    let Some(end) = read_number(to_colon(&s[second..])) else {
+        return Some(TrailingRange {
             start,
             end: start,
             second_unread: true,
-        };
+        });
     };
-    TrailingRange::Taken {
+    Some(TrailingRange {
         start,
         end,
         second_unread: false,
-    }
+    })
 }
 
 // The range that a trimmed text after `)` begins with.
-pub fn trailing_range(s: &[u8]) -> TrailingRange
+pub fn trailing_range(s: &[u8]) -> Option<TrailingRange>
     ensures { result ≡ trailing_range s.now }
 {
     if s.len() == 0 {
-        return TrailingRange::NotTaken;
+        return None;
     }
     if s[0] != b':' {
-        return TrailingRange::NotTaken;
+        return None;
     }
     let numbers = &s[1..];
-    let Place::At(colon) = first_byte(numbers, b':') else {
+    let Some(colon) = first_byte(numbers, b':') else {
         return one_number(numbers);
     };
     two_numbers(numbers, colon)

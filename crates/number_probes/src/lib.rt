@@ -6,17 +6,17 @@ ghost use Rattle.number.specs.Numbers.{number_of};
 ghost use Rattle.number.specs.Ranges.{leading_range, trailing_range};
 ghost use Rattle.number_probes.specs.Answers.{number_numbers, leading_numbers, trailing_numbers};
 
-use number::{LeadingRange, Number, TrailingRange};
+use number::{LeadingRange, TrailingRange};
 
 #[unsafe(no_mangle)]
 pub extern "C" fn clumarief_probe_number(text: &[u8], answer: &mut [u64; 2])
     ensures { answer.new ≡ number_numbers (number_of text.now) }
 {
     match number::read_number(text) {
-        Number::Value(v) => {
+        Some(v) => {
             *answer = [1, v as u64];
         }
-        Number::Unread => {
+        None => {
             *answer = [0, 0];
         }
     }
@@ -27,10 +27,10 @@ pub extern "C" fn clumarief_probe_leading(text: &[u8], answer: &mut [u64; 4])
     ensures { answer.new ≡ leading_numbers (leading_range text.now) }
 {
     match number::leading_range(text) {
-        LeadingRange::Taken { start, end, rest } => {
+        Some(LeadingRange { start, end, rest }) => {
             *answer = [1, start as u64, end as u64, rest as u64];
         }
-        LeadingRange::NotTaken => {
+        None => {
             *answer = [0, 0, 0, 0];
         }
     }
@@ -41,11 +41,13 @@ pub extern "C" fn clumarief_probe_trailing(text: &[u8], answer: &mut [u64; 4])
     ensures { answer.new ≡ trailing_numbers (trailing_range text.now) }
 {
     match number::trailing_range(text) {
-        TrailingRange::Taken {
-            start,
-            end,
-            second_unread,
-        } => {
+        Some(
+            TrailingRange {
+                start,
+                end,
+                second_unread,
+            },
+        ) => {
             *answer = [
                 1,
                 start as u64,
@@ -53,7 +55,7 @@ pub extern "C" fn clumarief_probe_trailing(text: &[u8], answer: &mut [u64; 4])
                 text_places::bit_number(second_unread) as u64,
             ];
         }
-        TrailingRange::NotTaken => {
+        None => {
             *answer = [0, 0, 0, 0];
         }
     }

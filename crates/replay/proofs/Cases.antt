@@ -1,14 +1,14 @@
 -- Cases are looked for, and taken one by one: each place is inside the text, and each case leaves less. Assumes nothing.
+use Rattle.std.specs.Prelude.{Option, Some}
 use mathlib.Core.Path.{◌≡◌}
 use mathlib.Core.List.{List}
 use Prim.Native.Nat.{ℕ, ◌-◌, ◌≤◌, ◌<◌}
 use native.Mathlib.Omega.{arith}
 use lib.ListN.{length}
 use borrow.Author.Rules.{rules}
-use Rattle.text_places.specs.declared.lines.NextLine.{NextLine}
-use Rattle.text_places.specs.declared.lines.NextLine.TheVariants.{Line}
-use Rattle.text_places.specs.Inner.NextLine.{next_line}
+use Rattle.text_places.specs.Inner.NextLine.{next_line, taken_line}
 use Rattle.text_places.proofs.Taking.{Taking, line_past, line_inside, line_falls, line_starts, line_ends}
+use Rattle.text_places.specs.declared.lines.NextLine.{NextLine}
 
 -- the first case from a line on is looked for line by line
 pub record Seeking (s : List ℕ) («from» at : ℕ) : Type 0 where
@@ -19,14 +19,14 @@ pub seeking_starts : (s : List ℕ) («from» : ℕ) → «from» ≤ length s �
 seeking_starts s f h = omega arith
 
 pub seeking_next :
-    (s : List ℕ) {«from» at a e n : ℕ} {t : NextLine} → Seeking s «from» at → t ≡ next_line s at → t ≡ Line a e n → Seeking s «from» n
+    (s : List ℕ) {x : NextLine} {«from» at : ℕ} {t : Option NextLine} → Seeking s «from» at → t ≡ next_line s at → t ≡ Some x → Seeking s «from» x.next
 seeking_next s {at = at} k p q = let h = line_past s at p q in let i = line_inside s at p q in omega arith
 
 pub ruleset seeking = (seeking_starts, seeking_next, line_falls, rules)
 
 -- the next case stands after the line that opens this one
 pub case_falls :
-    (s : List ℕ) {at a e n next : ℕ} {t : NextLine} → t ≡ next_line s at → t ≡ Line a e n → n ≤ next → at < length s →
+    (s : List ℕ) {x : NextLine} {at next : ℕ} {t : Option NextLine} → t ≡ next_line s at → t ≡ Some x → x.next ≤ next → at < length s →
     length s - next < length s - at
 case_falls s {at = at} p q i h = let l = line_past s at p q in omega arith
 

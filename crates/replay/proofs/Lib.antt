@@ -1,2 +1,3 @@
 -- Laws, one file a subject.
 pub mod Cases
+pub mod Digits

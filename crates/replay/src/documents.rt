@@ -27,11 +27,13 @@ pub fn case_from(s: &[u8], from: usize) -> usize
         if opens(s, at) {
             return at;
         }
-        let NextLine::Line {
-            start: _,
-            end: _,
-            next,
-        } = text_places::next_line(s, at)
+        let Some(
+            NextLine {
+                start: _,
+                end: _,
+                next,
+            },
+        ) = text_places::next_line(s, at)
         else {
             return at;
         };

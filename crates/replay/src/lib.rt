@@ -3,7 +3,11 @@
 #![tactic(auto)]
 
 mod documents;
+mod each;
+mod hex;
 mod say;
 
 pub use documents::{case_from, document_end};
+pub use each::each_case;
+pub use hex::read_bytes;
 pub use say::{case_name, decimal, words};

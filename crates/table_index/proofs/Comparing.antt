@@ -12,16 +12,16 @@ use lib.Seq.{drop-cons}
 use borrow.Author.Tests.{lt-ltb, le-ltb}
 use borrow.Author.Rules.{rules}
 use Rattle.ground.proofs.Cases.{le_or_lt, clash}
-use Rattle.table_index.specs.declared.texts.Order.TheVariants.{Before, Same, After}
 use Rattle.table_index.specs.Inner.Order.{compared, not_after, at_most, Weighing, AlikeTo}
+use Rattle.std.specs.declared.cmp.Ordering.TheVariants.{Less, Equal, Greater}
 
 -- one byte each
 module _ (x y : ℕ) (s t : List ℕ) where
-  compared_less : x < y → compared (x ∷ s) (y ∷ t) ≡ Before
+  compared_less : x < y → compared (x ∷ s) (y ∷ t) ≡ Less
   unfolding compared
   compared_less h = rw (lt-ltb x y h)
 
-  compared_more : y < x → compared (x ∷ s) (y ∷ t) ≡ After
+  compared_more : y < x → compared (x ∷ s) (y ∷ t) ≡ Greater
   unfolding compared
   compared_more h = rw (le-ltb x y (omega arith), lt-ltb y x h)
 
@@ -108,16 +108,16 @@ pub weighing_starts : (a b : List ℕ) → Weighing a b 0
 weighing_starts a b = record { in_first = omega arith; in_second = omega arith; decides = refl }
 
 module _ {a b : List ℕ} {i : ℕ} (k : Weighing a b i) where
-  pub weighing_same : length a ≤ i → length b ≤ i → Same ≡ compared a b
+  pub weighing_same : length a ≤ i → length b ≤ i → Equal ≡ compared a b
   unfolding compared
   weighing_same h g = rw (drop_of_length-le a h, drop_of_length-le b g) at k.decides
 
-  pub weighing_short : length a ≤ i → i < length b → Before ≡ compared a b
+  pub weighing_short : length a ≤ i → i < length b → Less ≡ compared a b
   unfolding compared
   weighing_short h g = rw (drop_of_length-le a h, drop-cons b i 0 g) at k.decides
 
   module _ (h : i < length a) where
-    pub weighing_long : length b ≤ i → After ≡ compared a b
+    pub weighing_long : length b ≤ i → Greater ≡ compared a b
     unfolding compared
     weighing_long g = rw (drop-cons a i 0 h, drop_of_length-le b g) at k.decides
 
@@ -125,10 +125,10 @@ module _ {a b : List ℕ} {i : ℕ} (k : Weighing a b i) where
       here : compared (get_or a i 0 ∷ drop (suc i) a) (get_or b i 0 ∷ drop (suc i) b) ≡ compared a b
       here = rw (drop-cons a i 0 h, drop-cons b i 0 g) at k.decides
 
-      pub weighing_less : get_or a i 0 < get_or b i 0 → Before ≡ compared a b
+      pub weighing_less : get_or a i 0 < get_or b i 0 → Less ≡ compared a b
       weighing_less l = sym (compared_less (get_or a i 0) (get_or b i 0) (drop (suc i) a) (drop (suc i) b) l) ∙ here
 
-      pub weighing_more : get_or b i 0 < get_or a i 0 → After ≡ compared a b
+      pub weighing_more : get_or b i 0 < get_or a i 0 → Greater ≡ compared a b
       weighing_more l = sym (compared_more (get_or a i 0) (get_or b i 0) (drop (suc i) a) (drop (suc i) b) l) ∙ here
 
       pub weighing_next : get_or b i 0 ≤ get_or a i 0 → get_or a i 0 ≤ get_or b i 0 → Weighing a b (i + 1)

@@ -10,10 +10,10 @@ use mir.Val.{Fits}
 use mir.Syntax.{w64}
 use borrow.Author.Rules.{rules}
 use Rattle.ground.proofs.Cases.{le_or_lt, clash}
-use Rattle.table_index.specs.declared.texts.Order.{Order}
 use Rattle.table_index.specs.Inner.Order.{compared, not_after, at_most}
 use Rattle.table_index.specs.Inner.Shelves.{key_at, Ranked, Bound}
 use Rattle.table_index.proofs.Comparing.{most_trans}
+use Rattle.std.specs.declared.cmp.Ordering.{Ordering}
 
 -- Rows before `low` have a text at or before `t`, those from `high` on do not.
 pub record Halving (keys : List (List ℕ)) (order : List ℕ) (a b : ℕ) (t : List ℕ) (low high : ℕ) : Type 0 where
@@ -54,7 +54,7 @@ module _ {keys : List (List ℕ)} {order : List ℕ} {a b : ℕ} {t : List ℕ} 
         pub middle_row : row < n
         middle_row = let c = x.before in let d = x.after in let o = r.only middle (omega arith) (omega arith) in omega arith
 
-        module _ {s : List ℕ} (u : s ≡ get_or keys row []) {o : Order} (v : o ≡ compared s t) {z : Bool} (w : z ≡ not_after o) where
+        module _ {s : List ℕ} (u : s ≡ get_or keys row []) {o : Ordering} (v : o ≡ compared s t) {z : Bool} (w : z ≡ not_after o) where
           told : {y : Bool} → z ≡ y → at_most (key_at keys order middle) t ≡ y
           told f =
               ap (λ j. at_most (get_or keys j []) t) (sym e) ∙ ap (λ k. at_most k t) (sym u) ∙ ap not_after (sym v) ∙ sym w ∙ f

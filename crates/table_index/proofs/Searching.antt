@@ -1,4 +1,5 @@
 -- The last row of a shelf that has a text is the last of all, or no row has it. Assumes nothing.
+use Rattle.std.specs.Prelude.{Option, Some, None}
 use mathlib.Core.Path.{◌≡◌, refl, sym, ◌∙◌, ap}
 use mathlib.Core.Bool.{Bool, true, false}
 use mathlib.Core.List.{List, []}
@@ -15,8 +16,6 @@ use Rattle.text_places.specs.Places.{same}
 use Rattle.text_places.proofs.PlaceLaws.{same_equal, same_refl}
 use Rattle.table_rows.specs.Rows.{most_classes}
 use Rattle.tables.specs.declared.search.Side.{Side}
-use Rattle.tables.specs.declared.search.Found.{Found}
-use Rattle.tables.specs.declared.search.Found.TheVariants.{Row, Unknown}
 use Rattle.tables.specs.Search.{has_name, last_with}
 use Rattle.tables.proofs.Searching.{Scanning, scanning_from, scanning_starts, scanning_ends, scanning_inside, scanning_found}
 use Rattle.tables.proofs.Searching.{scanning_more}
@@ -33,11 +32,11 @@ use Rattle.table_index.proofs.Heads.{first_inside, head_told}
 
 -- One row.
 module _ {t s : List ℕ} (e : t ≡ s) (name : List ℕ) {b : Bool} (f : b ≡ same t name) (row : ℕ) where
-  pub row_named : b ≡ true → Row row ≡ pick (same s name) (Row row) Unknown
-  row_named g = ap (λ z. pick z (Row row) Unknown) (sym (ap (λ x. same x name) (sym e) ∙ sym f ∙ g))
+  pub row_named : b ≡ true → Some row ≡ pick (same s name) (Some row) None
+  row_named g = ap (λ z. pick z (Some row) None) (sym (ap (λ x. same x name) (sym e) ∙ sym f ∙ g))
 
-  pub row_other : b ≡ false → Unknown ≡ pick (same s name) (Row row) Unknown
-  row_other g = ap (λ z. pick z (Row row) Unknown) (sym (ap (λ x. same x name) (sym e) ∙ sym f ∙ g))
+  pub row_other : b ≡ false → None ≡ pick (same s name) (Some row) None
+  row_other g = ap (λ z. pick z (Some row) None) (sym (ap (λ x. same x name) (sym e) ∙ sym f ∙ g))
 
 pub ruleset one_row = (row_named, row_other, rules)
 
@@ -55,13 +54,13 @@ module _ (side : Side) (rows : List (List ℕ)) (pool name : List ℕ) where
       go true e = absurd (n (same_equal (get_or (keys_of side rows pool) i []) name e))
 
   none_at_all : ((i : ℕ) → i < length rows → get_or (keys_of side rows pool) i [] ≡ name → ⊥) →
-      Unknown ≡ last_with side rows pool name
+      None ≡ last_with side rows pool name
   none_at_all n =
       scanning_ends (scanning_from (has_name side pool name) rows 0 (omega arith) (λ i h l. refuted i (n i l))) (omega arith)
 
   last_one : (r : ℕ) → r < length rows → get_or (keys_of side rows pool) r [] ≡ name →
       ((i : ℕ) → r < i → i < length rows → get_or (keys_of side rows pool) i [] ≡ name → ⊥) →
-      Row r ≡ last_with side rows pool name
+      Some r ≡ last_with side rows pool name
   last_one r h e n =
       let z : r + 1 - 1 ≡ r = omega arith in
       let k : Scanning (has_name side pool name) rows (r + 1) =
@@ -85,10 +84,10 @@ module _ {keys : List (List ℕ)} {order : List ℕ} {n a b : ℕ} (r : Ranked k
   module _ (p : ℕ) (c : a ≤ p) (l : p < b) (later : (i : ℕ) → p < i → i < b → key_at keys order i ≡ t → ⊥)
       {row : ℕ} (w : row ≡ get_or order p 0)
       (none : (get_or keys row [] ≡ t → ⊥) → (i : ℕ) → a ≤ i → i < b → key_at keys order i ≡ t → ⊥) where
-    asked : (o : Found) → o ≡ pick (same (get_or keys row []) t) (Row row) Unknown → LastOn o keys order a b t
+    asked : (o : Option ℕ) → o ≡ pick (same (get_or keys row []) t) (Some row) None → LastOn o keys order a b t
     asked o y = rw y (go (same (get_or keys row []) t) refl)
       where
-        go : (z : Bool) → same (get_or keys row []) t ≡ z → LastOn (pick z (Row row) Unknown) keys order a b t
+        go : (z : Bool) → same (get_or keys row []) t ≡ z → LastOn (pick z (Some row) None) keys order a b t
         go true f = record {
           place = p;
           after = c;
@@ -140,7 +139,7 @@ module _ {keys : List (List ℕ)} {order : List ℕ} {n a b : ℕ} (r : Ranked k
                 ap (λ y. at_most y (key_at keys order (p - 1))) (sym f) ∙ r.sorted i (p - 1) h q (omega arith) in
                 m (sym here ∙ most_equal (key_at keys order (p - 1)) t (g.below (p - 1) (omega arith) (omega arith)) up)
 
-        pub last_last : (o : Found) → o ≡ pick (same (get_or keys row []) t) (Row row) Unknown → LastOn o keys order a b t
+        pub last_last : (o : Option ℕ) → o ≡ pick (same (get_or keys row []) t) (Some row) None → LastOn o keys order a b t
         last_last =
             let q = g.after in
             let o = g.before in
@@ -233,7 +232,7 @@ module _ {side : Side} {rows : List (List ℕ)} {pool index : List ℕ} (found :
         let m : get_or ms i 0 ≡ mark = mark_is keys i ∙ ap mark_of f ∙ sym e in
         d ∙ x.firsts mark below ∙ ap (λ y. first_with ms y (length rows)) (sym m) ∙ head_told ms (length rows) i h
 
-    pub search_none : first ≡ 0 → Unknown ≡ last_with side rows pool name
+    pub search_none : first ≡ 0 → None ≡ last_with side rows pool name
     search_none z = none_at_all side rows pool name (λ i h f. let t = told i h f in omega arith)
 
     module _ (z : first ≡ 0 → ⊥) where
@@ -278,19 +277,19 @@ module _ {side : Side} {rows : List (List ℕ)} {pool index : List ℕ} (found :
           inside : row < length rows
           inside = let y = shelf.ranked.only o.place o.after o.before in let w = o.here in omega arith
 
-          found_last : Row row ≡ last_with side rows pool name
+          found_last : Some row ≡ last_with side rows pool name
           found_last =
               last_one side rows pool name row inside o.has
               (λ i h l f. let t = seat i l f in no_later i h t f (way t.place o.place))
 
-        none_last : ((i : ℕ) → a ≤ i → i < b → key_at keys index i ≡ name → ⊥) → Unknown ≡ last_with side rows pool name
+        none_last : ((i : ℕ) → a ≤ i → i < b → key_at keys index i ≡ name → ⊥) → None ≡ last_with side rows pool name
         none_last n =
             none_at_all side rows pool name
             (λ i h f. let t = seat i h f in n t.place t.after t.before (ap (λ j. get_or keys j []) t.here ∙ f))
 
-        pub search_last : (r : Found) → LastOn r (keys_of side rows pool) index a b name → r ≡ last_with side rows pool name
-        search_last (Row row) o = found_last o
-        search_last Unknown o = none_last o
+        pub search_last : (r : Option ℕ) → LastOn r (keys_of side rows pool) index a b name → r ≡ last_with side rows pool name
+        search_last (Some row) o = found_last o
+        search_last None o = none_last o
 
 pub ruleset searching =
     (mark_place, mark_place_fits, search_none, head_sub, head_few, search_ranked, search_last, rules)

@@ -17,14 +17,14 @@ use Rattle.text_places.specs.Places.{same}
 use Rattle.text_places.proofs.PlaceLaws.{matching_uneven, unlike_at, same_refl}
 use Rattle.table_pool.specs.Inner.Named.{slash_if, name_bytes, class_piece}
 use Rattle.table_pool.proofs.Naming.{name_length, name_byte}
-use Rattle.table_index.specs.declared.texts.Order.{Order}
-use Rattle.table_index.specs.declared.texts.Order.TheVariants.{Before, Same, After}
 use Rattle.table_index.specs.declared.forms.NameForm.{NameForm}
 use Rattle.table_index.specs.declared.forms.NameForm.TheVariants.{Whole, Piece}
 use Rattle.table_index.specs.Inner.Order.{compared, Weighing, AlikeTo}
 use Rattle.table_index.specs.Inner.Forms.{spelled}
 use Rattle.table_index.proofs.Comparing.{weighing_starts, weighing_past, weighing_same, weighing_short, weighing_long}
 use Rattle.table_index.proofs.Comparing.{weighing_less, weighing_more, weighing_next}
+use Rattle.std.specs.declared.cmp.Ordering.{Ordering}
+use Rattle.std.specs.declared.cmp.Ordering.TheVariants.{Less, Equal, Greater}
 
 -- The bytes of a piece.
 module _ (dots : Bool) (name : List ℕ) where
@@ -106,21 +106,21 @@ module _ (name : List ℕ) (dots : Bool) {a : List ℕ} {i : ℕ} (k : Weighing 
   going : z ≡ false → i < length (class_piece dots name)
   going t = let p = piece_length dots name in let l = leb-false (length name + 2) i (sym e ∙ t) in omega arith
 
-  pub piece_same : length a ≤ i → z ≡ true → Same ≡ compared a (class_piece dots name)
+  pub piece_same : length a ≤ i → z ≡ true → Equal ≡ compared a (class_piece dots name)
   piece_same h t = weighing_same k h (ended t)
 
-  pub piece_short : length a ≤ i → z ≡ false → Before ≡ compared a (class_piece dots name)
+  pub piece_short : length a ≤ i → z ≡ false → Less ≡ compared a (class_piece dots name)
   piece_short h t = weighing_short k h (going t)
 
   module _ (h : i < length a) where
-    pub piece_long : z ≡ true → After ≡ compared a (class_piece dots name)
+    pub piece_long : z ≡ true → Greater ≡ compared a (class_piece dots name)
     piece_long t = weighing_long k h (ended t)
 
     module _ (t : z ≡ false) {x : ℕ} (f : x ≡ get_or (class_piece dots name) i 0) where
-      pub piece_less : get_or a i 0 < x → Before ≡ compared a (class_piece dots name)
+      pub piece_less : get_or a i 0 < x → Less ≡ compared a (class_piece dots name)
       piece_less l = weighing_less k h (going t) (omega arith)
 
-      pub piece_more : x < get_or a i 0 → After ≡ compared a (class_piece dots name)
+      pub piece_more : x < get_or a i 0 → Greater ≡ compared a (class_piece dots name)
       piece_more l = weighing_more k h (going t) (omega arith)
 
       pub piece_next : x ≤ get_or a i 0 → get_or a i 0 ≤ x → Weighing a (class_piece dots name) (i + 1)
@@ -132,7 +132,7 @@ piece_byte_inside name {i} e t = leb-false (length name + 2) i (sym e ∙ t)
 pub ruleset piecing =
     (piece_same, piece_short, piece_long, piece_less, piece_more, piece_next, piece_byte_inside, rules)
 
-module _ (a name : List ℕ) {form : NameForm} {o : Order} where
+module _ (a name : List ℕ) {form : NameForm} {o : Ordering} where
   pub named_whole : form ≡ Whole → o ≡ compared a name → o ≡ compared a (spelled form name)
   named_whole e f = f ∙ ap (λ s. compared a (spelled s name)) (sym e)
 

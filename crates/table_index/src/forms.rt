@@ -6,7 +6,8 @@ ghost use Rattle.table_index.specs.Inner.Order.{compared, Weighing};
 ghost use Rattle.table_index.specs.Inner.Forms.{spelled};
 
 use crate::blocks::alike_up_to;
-use crate::texts::{Order, compare_texts};
+use crate::texts::compare_texts;
+use std::cmp::Ordering;
 use table_pool::stored_byte;
 use text_places::same_text;
 
@@ -57,30 +58,30 @@ fn past_alike(text: &[u8], name: &[u8], dots: bool) -> usize
     past + 1
 }
 
-fn compare_piece(text: &[u8], name: &[u8], dots: bool) -> Order
+fn compare_piece(text: &[u8], name: &[u8], dots: bool) -> Ordering
     ensures { result ≡ compared text.now (class_piece dots name.now) }
 {
     let mut i = past_alike(text, name, dots);
     while i < text.len() {
         if piece_ends(name, i) {
-            return Order::After;
+            return Ordering::Greater;
         }
         let byte = piece_byte(name, dots, i);
         if text[i] < byte {
-            return Order::Before;
+            return Ordering::Less;
         }
         if byte < text[i] {
-            return Order::After;
+            return Ordering::Greater;
         }
         i += 1;
     }
     if piece_ends(name, i) {
-        return Order::Same;
+        return Ordering::Equal;
     }
-    Order::Before
+    Ordering::Less
 }
 
-pub fn compare_named(text: &[u8], name: &[u8], form: NameForm) -> Order
+pub fn compare_named(text: &[u8], name: &[u8], form: NameForm) -> Ordering
     ensures { result ≡ compared text.now (spelled form name.now) }
 {
     match form {

@@ -44,9 +44,7 @@ pub fn group_rows(index: &mut [u16], side: Side, classes: &[ClassRow], pool: &[u
     ensures { let rows = classes.now in
         GroupedClasses side rows pool.now index.new (length rows) }
 {
-    let mut row = 0;
-    while row < classes.len() {
+    for row in 0..classes.len() {
         group_row(index, side, classes, pool, row);
-        row += 1;
     }
 }

@@ -91,9 +91,7 @@ pub fn insert_rows(index: &mut [u16], side: Side, classes: &[ClassRow], pool: &[
     ensures { let rows = classes.now in
         ShelvedClasses side rows pool.now index.new (length rows) }
 {
-    let mut row = 0;
-    while row < classes.len() {
+    for row in 0..classes.len() {
         insert_row(index, side, classes, pool, row);
-        row += 1;
     }
 }

@@ -22,10 +22,8 @@ pub fn lay_shelves(index: &mut [u16], count: usize)
     requires { (length index.old ≡ index_size) × (count ≤ most_classes) × (rows_before index.old count ≤ most_classes) }
     ensures { Laid index.old count index.new count (rows_before index.old count) }
 {
-    let mut head = 0;
     let mut start = 0;
-    while head < count {
+    for head in 0..count {
         start = lay_shelf(index, head, start);
-        head += 1;
     }
 }

@@ -1,8 +1,7 @@
 // The last class row with a descriptor: among the rows with its mark, by halving.
-ghost use Rattle.std.specs.Prelude.{◌≡◌, [], ◌<◌, ◌≤◌, length, get_or};
+ghost use Rattle.std.specs.Prelude.{◌≡◌, [], ◌<◌, ◌≤◌, length, get_or, Some, None};
 ghost use Rattle.ground.specs.Choice.{pick};
 ghost use Rattle.text_places.specs.Places.{same};
-ghost use Rattle.tables.specs.declared.search.Found.TheVariants.{Row, Unknown};
 ghost use Rattle.tables.specs.declared.search.Side.TheVariants.{Raw};
 ghost use Rattle.tables.specs.Search.{last_with, last_raw};
 ghost use Rattle.table_index.specs.Inner.Forms.{spelled};
@@ -16,7 +15,7 @@ use crate::parts::{INDEX, MARKS_AT, shelf_at, wide_number};
 use crate::rows::row_text;
 use crate::texts::not_after;
 use table_rows::ClassRow;
-use tables::{Found, Side, last_with_raw};
+use tables::{Side, last_with_raw};
 
 // A place between two.
 fn middle_of(low: usize, high: usize) -> usize
@@ -65,15 +64,15 @@ fn row_if_named(
     last: usize,
     name: &[u8],
     form: NameForm,
-) -> Found
+) -> Option<usize>
     requires { last < length classes.now }
     ensures { let text = get_or (keys_of side classes.now pool.now) last [] in
-        result ≡ pick (same text (spelled form name.now)) (Row last) Unknown }
+        result ≡ pick (same text (spelled form name.now)) (Some last) None }
 {
     if is_named(row_text(side, classes, pool, last), name, form) {
-        return Found::Row(last);
+        return Some(last);
     }
-    Found::Unknown
+    None
 }
 
 // The last row from `start` to `end` whose descriptor is what the name stands for: each is asked, from the last one on.
@@ -86,7 +85,7 @@ fn last_of_few(
     end: usize,
     name: &[u8],
     form: NameForm,
-) -> Found
+) -> Option<usize>
     requires { Ranked (keys_of side classes.now pool.now) index.now (length classes.now) start «end» }
     ensures { let keys = keys_of side classes.now pool.now in
         LastOn result keys index.now start «end» (spelled form name.now) }
@@ -96,11 +95,11 @@ fn last_of_few(
         let place = after - 1;
         let row = wide_number(index[place]);
         if is_named(row_text(side, classes, pool, row), name, form) {
-            return Found::Row(row);
+            return Some(row);
         }
         after = place;
     }
-    Found::Unknown
+    None
 }
 
 // So many rows are asked one by one faster than by halving.
@@ -116,7 +115,7 @@ fn last_between(
     end: usize,
     name: &[u8],
     form: NameForm,
-) -> Found
+) -> Option<usize>
     requires { Ranked (keys_of side classes.now pool.now) index.now (length classes.now) start «end» }
     ensures { let keys = keys_of side classes.now pool.now in
         LastOn result keys index.now start «end» (spelled form name.now) }
@@ -126,25 +125,31 @@ fn last_between(
     }
     let place = upper_bound(index, side, classes, pool, start, end, name, form);
     if place == start {
-        return Found::Unknown;
+        return None;
     }
     let last = wide_number(index[place - 1]);
     row_if_named(side, classes, pool, last, name, form)
 }
 
 // The last of all rows whose descriptor is what the name stands for: each is asked, from the last one on.
-fn last_scanned(side: Side, classes: &[ClassRow], pool: &[u8], name: &[u8], form: NameForm) -> Found
+fn last_scanned(
+    side: Side,
+    classes: &[ClassRow],
+    pool: &[u8],
+    name: &[u8],
+    form: NameForm,
+) -> Option<usize>
     ensures { result ≡ last_with side classes.now pool.now (spelled form name.now) }
 {
     let mut end = classes.len();
     while 0 < end {
         let at = end - 1;
         if is_named(row_text(side, classes, pool, at), name, form) {
-            return Found::Row(at);
+            return Some(at);
         }
         end = at;
     }
-    Found::Unknown
+    None
 }
 
 // The last class row whose descriptor on one side is what the name stands for. Where few rows are to be searched the caller may save the
@@ -156,7 +161,7 @@ pub fn last_named(
     pool: &[u8],
     name: &[u8],
     form: NameForm,
-) -> Found
+) -> Option<usize>
     requires { IndexBy side classes.now pool.now index.now }
     ensures { result ≡ last_with side classes.now pool.now (spelled form name.now) }
 {
@@ -166,7 +171,7 @@ pub fn last_named(
     let mark = mark_of(name, form);
     let first = wide_number(index[MARKS_AT + mark]);
     if first == 0 {
-        return Found::Unknown;
+        return None;
     }
     let shelf = shelf_at(index, first - 1);
     let start = shelf.start;
@@ -176,7 +181,7 @@ pub fn last_named(
 
 // The last class row with a raw descriptor. It does what `last_named` does: that one is for loading alone, so that the compiler makes it
 // for its one caller.
-pub fn last_raw(index: &[u16], classes: &[ClassRow], pool: &[u8], raw: &[u8]) -> Found
+pub fn last_raw(index: &[u16], classes: &[ClassRow], pool: &[u8], raw: &[u8]) -> Option<usize>
     requires { IndexBy Raw classes.now pool.now index.now }
     ensures { result ≡ last_raw classes.now pool.now raw.now }
 {
@@ -189,7 +194,7 @@ pub fn last_raw(index: &[u16], classes: &[ClassRow], pool: &[u8], raw: &[u8]) ->
     let mark = mark_whole(key);
     let first = wide_number(index[MARKS_AT + mark]);
     if first == 0 {
-        return Found::Unknown;
+        return None;
     }
     let shelf = shelf_at(index, first - 1);
     let start = shelf.start;

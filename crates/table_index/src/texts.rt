@@ -3,43 +3,33 @@ ghost use Rattle.std.specs.Prelude.{◌≡◌};
 ghost use Rattle.table_index.specs.Inner.Order.{compared, not_after};
 
 use crate::blocks::alike_up_to;
-
-#[derive(Clone, Copy)]
-pub enum Order {
-    Before,
-    Same,
-    After,
-}
+use std::cmp::Ordering;
 
 // Byte by byte; a text that ends first stands before.
-pub fn compare_texts(a: &[u8], b: &[u8]) -> Order
+pub fn compare_texts(a: &[u8], b: &[u8]) -> Ordering
     ensures { result ≡ compared a.now b.now }
 {
     let mut i = alike_up_to(a, 0, b, false);
     while i < a.len() {
         if b.len() <= i {
-            return Order::After;
+            return Ordering::Greater;
         }
         if a[i] < b[i] {
-            return Order::Before;
+            return Ordering::Less;
         }
         if b[i] < a[i] {
-            return Order::After;
+            return Ordering::Greater;
         }
         i += 1;
     }
     if i < b.len() {
-        return Order::Before;
+        return Ordering::Less;
     }
-    Order::Same
+    Ordering::Equal
 }
 
-pub fn not_after(order: Order) -> bool
+pub fn not_after(order: Ordering) -> bool
     ensures { result ≡ not_after order }
 {
-    match order {
-        Order::Before => true,
-        Order::Same => true,
-        Order::After => false,
-    }
+    order.is_le()
 }

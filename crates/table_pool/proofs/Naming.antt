@@ -1,4 +1,5 @@
 -- Names and class pieces, written into the pool. Assumes nothing.
+use Rattle.std.specs.Prelude.{Result, Ok, Err}
 use mathlib.Core.Path.{◌≡◌, refl, sym, ◌∙◌, ap}
 use mathlib.Core.Bool.{Bool, true, false}
 use mathlib.Core.List.{List, [], ◌∷◌, ◌++◌, map-id}
@@ -9,12 +10,11 @@ use mir.Val.{Fits}
 use mir.Syntax.{w64}
 use borrow.Author.Tests.{eq-eqb, ne_eqb}
 use borrow.Author.Rules.{rules}
-use Rattle.table_pool.specs.declared.write.Wrote.{Wrote}
-use Rattle.table_pool.specs.declared.write.Wrote.TheVariants.{Done, NoRoom}
 use Rattle.table_pool.specs.Inner.Named.{slash_if, name_bytes, class_piece}
 use Rattle.table_pool.specs.Names.{slash, slashed}
-use Rattle.table_pool.specs.Inner.Wrote.{Written, WroteBy}
+use Rattle.table_pool.specs.Inner.Wrote.{Written, WroteBy, no_room}
 use Rattle.table_pool.proofs.Writes.{Pasting, text_starts, text_done, byte_more, wrote_told, wrote_none, wrote_then, none_then}
+use Rattle.table_pool.specs.declared.write.NoRoom.{NoRoom}
 
 -- Dots as slashes.
 pub dot_slash : (b : ℕ) → b ≡ 0x2E → 0x2F ≡ slash b
@@ -84,19 +84,19 @@ module _ (d : List ℕ) (at : ℕ) (name : List ℕ) (dots : Bool) where
 pub ruleset naming = (name_over, name_no_room, name_starts, name_done, name_inside_lem, name_more, name_fits, rules)
 
 -- A name and a `;`, and a whole piece.
-module _ (d : List ℕ) (at : ℕ) (name : List ℕ) (dots : Bool) (r : Wrote) (d₁ : List ℕ) where
+module _ (d : List ℕ) (at : ℕ) (name : List ℕ) (dots : Bool) (r : Result ℕ NoRoom) (d₁ : List ℕ) where
   module _ (a : WroteBy r d at (name_bytes dots name) d₁) where
-    pub closed_no_name : r ≡ NoRoom → length d < at + length (name_bytes dots name ++ (0x3B ∷ []))
+    pub closed_no_name : r ≡ Err no_room → length d < at + length (name_bytes dots name ++ (0x3B ∷ []))
     closed_no_name e = none_then d at (name_bytes dots name) (0x3B ∷ []) (wrote_none r d at (name_bytes dots name) d₁ a e)
 
-    pub closed_done : {q : ℕ} → r ≡ Done q → (t : Wrote) (d₂ : List ℕ) → WroteBy t d₁ q (replicate 1 0x3B) d₂ → WroteBy t d at (name_bytes dots name ++ (0x3B ∷ [])) d₂
+    pub closed_done : {q : ℕ} → r ≡ Ok q → (t : Result ℕ NoRoom) (d₂ : List ℕ) → WroteBy t d₁ q (replicate 1 0x3B) d₂ → WroteBy t d at (name_bytes dots name ++ (0x3B ∷ [])) d₂
     closed_done e t d₂ b = wrote_then t (0x3B ∷ []) d₂ (wrote_told r d at (name_bytes dots name) d₁ a e) b
 
   module _ (a : WroteBy r d at (replicate 1 0x4C) d₁) where
-    pub piece_no_letter : r ≡ NoRoom → length d < at + length (class_piece dots name)
+    pub piece_no_letter : r ≡ Err no_room → length d < at + length (class_piece dots name)
     piece_no_letter e = none_then d at (0x4C ∷ []) (name_bytes dots name ++ (0x3B ∷ [])) (wrote_none r d at (replicate 1 0x4C) d₁ a e)
 
-    pub piece_done : {q : ℕ} → r ≡ Done q → (t : Wrote) (d₂ : List ℕ) → WroteBy t d₁ q (name_bytes dots name ++ (0x3B ∷ [])) d₂ → WroteBy t d at (class_piece dots name) d₂
+    pub piece_done : {q : ℕ} → r ≡ Ok q → (t : Result ℕ NoRoom) (d₂ : List ℕ) → WroteBy t d₁ q (name_bytes dots name ++ (0x3B ∷ [])) d₂ → WroteBy t d at (class_piece dots name) d₂
     piece_done e t d₂ b = wrote_then t (name_bytes dots name ++ (0x3B ∷ [])) d₂ (wrote_told r d at (replicate 1 0x4C) d₁ a e) b
 
 pub ruleset closing = (closed_no_name, closed_done, rules)

@@ -1,4 +1,5 @@
 -- Bytes written one after the other. Assumes nothing.
+use Rattle.std.specs.Prelude.{Result, Ok, Err}
 use mathlib.Core.Path.{◌≡◌, refl, sym, ◌∙◌, ap}
 use mathlib.Core.List.{List, ◌++◌}
 use Prim.Native.Nat.{ℕ, ◌+◌, ◌-◌, ◌^◌, ◌≤◌, ◌<◌}
@@ -12,11 +13,9 @@ use mir.Syntax.{w64}
 use borrow.Author.Rules.{rules}
 use Rattle.ground.specs.Put.{put}
 use Rattle.ground.proofs.PutLaws.{paste_put, put_put, length_put}
-use Rattle.table_pool.specs.declared.write.Wrote.{Wrote}
-use Rattle.table_pool.specs.declared.write.Wrote.TheVariants.{Done, NoRoom}
+use Rattle.table_pool.specs.Inner.Wrote.{Written, WroteBy, TwoAt, TwoBy, no_room, two_texts}
+use Rattle.table_pool.specs.declared.write.NoRoom.{NoRoom}
 use Rattle.table_pool.specs.declared.write.TwoTexts.{TwoTexts}
-use Rattle.table_pool.specs.declared.write.TwoTexts.TheVariants as two
-use Rattle.table_pool.specs.Inner.Wrote.{Written, WroteBy, TwoAt, TwoBy}
 
 -- the first `k` of the bytes `b` are written
 pub record Pasting (d : List ℕ) (at : ℕ) (b room : List ℕ) (k : ℕ) : Type 0 where
@@ -109,32 +108,32 @@ module _ (d : List ℕ) (at byte count : ℕ) where
 pub ruleset bytes = (bytes_over, bytes_no_room, bytes_starts, bytes_done, bytes_inside, bytes_more, bytes_fits, rules)
 
 -- One after the other.
-pub wrote_told : (r : Wrote) (d : List ℕ) (at : ℕ) (b d₁ : List ℕ) {q : ℕ} → WroteBy r d at b d₁ → r ≡ Done q → Written q d at b d₁
+pub wrote_told : (r : Result ℕ NoRoom) (d : List ℕ) (at : ℕ) (b d₁ : List ℕ) {q : ℕ} → WroteBy r d at b d₁ → r ≡ Ok q → Written q d at b d₁
 wrote_told r d at b d₁ w e = rw e at w
 
-pub wrote_none : (r : Wrote) (d : List ℕ) (at : ℕ) (b d₁ : List ℕ) → WroteBy r d at b d₁ → r ≡ NoRoom → length d < at + length b
+pub wrote_none : (r : Result ℕ NoRoom) (d : List ℕ) (at : ℕ) (b d₁ : List ℕ) → WroteBy r d at b d₁ → r ≡ Err no_room → length d < at + length b
 wrote_none r d at b d₁ w e = rw e at w
 
 -- the same bytes in other words
-pub wrote_as : (r : Wrote) (d : List ℕ) (at : ℕ) (d₁ : List ℕ) {b c : List ℕ} → b ≡ c → WroteBy r d at b d₁ → WroteBy r d at c d₁
+pub wrote_as : (r : Result ℕ NoRoom) (d : List ℕ) (at : ℕ) (d₁ : List ℕ) {b c : List ℕ} → b ≡ c → WroteBy r d at b d₁ → WroteBy r d at c d₁
 wrote_as r d at d₁ e w = rw (← e) w
 
 pub written_length : {q : ℕ} {d : List ℕ} {at : ℕ} {b d₁ : List ℕ} → Written q d at b d₁ → length d₁ ≡ length d
 written_length {d = d} {at = at} {b = b} w = ap length w.is ∙ length_put d at b w.room
 
 -- the promise leaves one answer, and one pool where all is written
-pub wrote_once : (r q : Wrote) (d : List ℕ) (at : ℕ) (b d₁ d₂ : List ℕ) → WroteBy r d at b d₁ → WroteBy q d at b d₂ → r ≡ q
-wrote_once (Done p) (Done q) d at b d₁ d₂ w v = ap Done (w.past ∙ sym v.past)
-wrote_once (Done p) NoRoom d at b d₁ d₂ w v = absurd (omega (arith, w.room))
-wrote_once NoRoom (Done q) d at b d₁ d₂ w v = absurd (omega (arith, v.room))
-wrote_once NoRoom NoRoom d at b d₁ d₂ w v = refl
+pub wrote_once : (r q : Result ℕ NoRoom) (d : List ℕ) (at : ℕ) (b d₁ d₂ : List ℕ) → WroteBy r d at b d₁ → WroteBy q d at b d₂ → r ≡ q
+wrote_once (Ok p) (Ok q) d at b d₁ d₂ w v = ap Ok (w.past ∙ sym v.past)
+wrote_once (Ok p) (Err _) d at b d₁ d₂ w v = absurd (omega (arith, w.room))
+wrote_once (Err _) (Ok q) d at b d₁ d₂ w v = absurd (omega (arith, v.room))
+wrote_once (Err _) (Err _) d at b d₁ d₂ w v = refl
 
 pub pool_once : {p q : ℕ} {d : List ℕ} {at : ℕ} {b d₁ d₂ : List ℕ} → Written p d at b d₁ → Written q d at b d₂ → d₁ ≡ d₂
 pool_once w v = w.is ∙ sym v.is
 
 -- what is written after what was written
-pub wrote_then : (r : Wrote) {q : ℕ} {d : List ℕ} {at : ℕ} {a d₁ : List ℕ} (b d₂ : List ℕ) → Written q d at a d₁ → WroteBy r d₁ q b d₂ → WroteBy r d at (a ++ b) d₂
-wrote_then (Done p) {q} {d} {at} {a} {d₁} b d₂ w v =
+pub wrote_then : (r : Result ℕ NoRoom) {q : ℕ} {d : List ℕ} {at : ℕ} {a d₁ : List ℕ} (b d₂ : List ℕ) → Written q d at a d₁ → WroteBy r d₁ q b d₂ → WroteBy r d at (a ++ b) d₂
+wrote_then (Ok p) {q} {d} {at} {a} {d₁} b d₂ w v =
     let n = length-append a b in
     let l = written_length w in
     record {
@@ -142,32 +141,32 @@ wrote_then (Done p) {q} {d} {at} {a} {d₁} b d₂ w v =
       room = omega (arith, v.room, w.past);
       is = v.is ∙ ap (λ x. put x q b) w.is ∙ ap (λ k. put (put d at a) k b) w.past ∙ put_put d at a b w.room;
     }
-wrote_then NoRoom {a = a} b d₂ w v = let n = length-append a b in let l = written_length w in omega (arith, w.past)
+wrote_then (Err _) {a = a} b d₂ w v = let n = length-append a b in let l = written_length w in omega (arith, w.past)
 
 pub none_then : (d : List ℕ) (at : ℕ) (a b : List ℕ) → length d < at + length a → length d < at + length (a ++ b)
 none_then d at a b h = omega (arith, length-append a b)
 
 -- Two texts, one after the other.
-module _ (d : List ℕ) (at : ℕ) (a b : List ℕ) (r : Wrote) (d₁ : List ℕ) (w : WroteBy r d at a d₁) where
-  pub two_no_first : r ≡ NoRoom → length d < at + length (a ++ b)
+module _ (d : List ℕ) (at : ℕ) (a b : List ℕ) (r : Result ℕ NoRoom) (d₁ : List ℕ) (w : WroteBy r d at a d₁) where
+  pub two_no_first : r ≡ Err no_room → length d < at + length (a ++ b)
   two_no_first e = none_then d at a b (wrote_none r d at a d₁ w e)
 
-  module _ {m : ℕ} (e : r ≡ Done m) (r₂ : Wrote) (d₂ : List ℕ) (v : WroteBy r₂ d₁ m b d₂) where
+  module _ {m : ℕ} (e : r ≡ Ok m) (r₂ : Result ℕ NoRoom) (d₂ : List ℕ) (v : WroteBy r₂ d₁ m b d₂) where
     first : Written m d at a d₁
     first = wrote_told r d at a d₁ w e
 
-    pub two_no_second : r₂ ≡ NoRoom → length d < at + length (a ++ b)
+    pub two_no_second : r₂ ≡ Err no_room → length d < at + length (a ++ b)
     two_no_second f = wrote_none r₂ d at (a ++ b) d₂ (wrote_then r₂ b d₂ first v) f
 
-    pub two_done : {q : ℕ} → r₂ ≡ Done q → TwoAt m q d at a b d₂
+    pub two_done : {q : ℕ} → r₂ ≡ Ok q → TwoAt m q d at a b d₂
     two_done f = record {
       second = first.past;
       next = (wrote_told r₂ d₁ m b d₂ v f).past;
       written = wrote_told r₂ d at (a ++ b) d₂ (wrote_then r₂ b d₂ first v) f;
     }
 
-pub two_told : (r : TwoTexts) (d : List ℕ) (at : ℕ) (a b d₁ : List ℕ) {m q : ℕ} → TwoBy r d at a b d₁ → r ≡ two.At m q → TwoAt m q d at a b d₁
+pub two_told : (r : Result TwoTexts NoRoom) (d : List ℕ) (at : ℕ) (a b d₁ : List ℕ) {x : TwoTexts} → TwoBy r d at a b d₁ → r ≡ Ok x → TwoAt x.second x.next d at a b d₁
 two_told r d at a b d₁ w e = rw e at w
 
-pub two_none : (r : TwoTexts) (d : List ℕ) (at : ℕ) (a b d₁ : List ℕ) → TwoBy r d at a b d₁ → r ≡ two.NoRoom → length d < at + length (a ++ b)
+pub two_none : (r : Result TwoTexts NoRoom) (d : List ℕ) (at : ℕ) (a b d₁ : List ℕ) → TwoBy r d at a b d₁ → r ≡ Err no_room → length d < at + length (a ++ b)
 two_none r d at a b d₁ w e = rw e at w

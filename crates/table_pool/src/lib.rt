@@ -6,4 +6,4 @@ mod names;
 mod write;
 
 pub use names::{put_class, put_closed, put_name, put_piece, slash_for_dot, stored_byte};
-pub use write::{TwoTexts, Wrote, put_bytes, put_copy, put_text};
+pub use write::{NoRoom, TwoTexts, put_bytes, put_copy, put_text};

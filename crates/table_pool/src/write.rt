@@ -1,20 +1,18 @@
-// Bytes written into a lent pool at a place. Where there is no room for all of them, the pool is the caller's to clear.
+// Bytes written into a lent pool at a place; the answer is the place after the last one. Where there is no room for all of them, the pool is
+// the caller's to clear.
 ghost use Rattle.std.specs.Prelude.{◌≡◌, [], ◌∷◌, ◌+◌, ◌≤◌, length, take, drop, replicate};
 ghost use Rattle.ground.specs.Put.{put};
 ghost use Rattle.table_pool.specs.Inner.Wrote.{WroteBy};
 
-#[derive(Clone, Copy)]
-pub enum Wrote {
-    // The place after the last byte.
-    Done(usize),
-    NoRoom,
-}
+// The pool has no room for what is to be written.
+#[derive(Clone, Copy, Debug, PartialEq, Eq)]
+pub struct NoRoom;
 
 // Two texts are written one after the other: where the second one starts, and the place after it.
 #[derive(Clone, Copy)]
-pub enum TwoTexts {
-    At { second: usize, next: usize },
-    NoRoom,
+pub struct TwoTexts {
+    pub second: usize,
+    pub next: usize,
 }
 
 fn put_four(pool: &mut [u8], at: usize, a: u8, b: u8, c: u8, d: u8)
@@ -59,60 +57,58 @@ fn put_eights(pool: &mut [u8], at: usize, text: &[u8])
 }
 
 // A text as it is.
-pub fn put_text(pool: &mut [u8], at: usize, text: &[u8]) -> Wrote
+pub fn put_text(pool: &mut [u8], at: usize, text: &[u8]) -> Result<usize, NoRoom>
     ensures { WroteBy result pool.old at text.now pool.new }
 {
     if pool.len() < at {
-        return Wrote::NoRoom;
+        return Err(NoRoom);
     }
     if pool.len() - at < text.len() {
-        return Wrote::NoRoom;
+        return Err(NoRoom);
     }
     if 8 <= text.len() {
         put_eights(pool, at, text);
-        return Wrote::Done(at + text.len());
+        return Ok(at + text.len());
     }
-    let mut k = 0;
-    while k < text.len() {
+    for k in 0..text.len() {
         pool[at + k] = text[k];
-        k += 1;
     }
-    Wrote::Done(at + k)
+    Ok(at + text.len())
 }
 
 // One byte so many times.
-pub fn put_bytes(pool: &mut [u8], at: usize, byte: u8, count: usize) -> Wrote
+pub fn put_bytes(pool: &mut [u8], at: usize, byte: u8, count: usize) -> Result<usize, NoRoom>
     ensures { WroteBy result pool.old at (replicate count byte) pool.new }
 {
     if pool.len() < at {
-        return Wrote::NoRoom;
+        return Err(NoRoom);
     }
     if pool.len() - at < count {
-        return Wrote::NoRoom;
+        return Err(NoRoom);
     }
     let mut k = 0;
     while k < count {
         pool[at + k] = byte;
         k += 1;
     }
-    Wrote::Done(at + k)
+    Ok(at + k)
 }
 
 // A text that stands in the pool already, before the place at which it is written once more.
-pub fn put_copy(pool: &mut [u8], at: usize, place: usize, size: usize) -> Wrote
+pub fn put_copy(pool: &mut [u8], at: usize, place: usize, size: usize) -> Result<usize, NoRoom>
     requires { place + size ≤ at }
     ensures { WroteBy result pool.old at (take size (drop place pool.old)) pool.new }
 {
     if pool.len() < at {
-        return Wrote::NoRoom;
+        return Err(NoRoom);
     }
     if pool.len() - at < size {
-        return Wrote::NoRoom;
+        return Err(NoRoom);
     }
     let mut k = 0;
     while k < size {
         pool[at + k] = pool[place + k];
         k += 1;
     }
-    Wrote::Done(at + k)
+    Ok(at + k)
 }

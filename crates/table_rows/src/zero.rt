@@ -7,29 +7,17 @@ use crate::rows::{ClassRow, MemberRow};
 pub fn zero_classes(rows: &mut [ClassRow])
     ensures { rows.new ≡ replicate (length rows.old) zero_class }
 {
-    let mut i = 0;
-    while i < rows.len() {
-        rows[i] = [0, 0, 0, 0];
-        i += 1;
-    }
+    rows.fill([0, 0, 0, 0]);
 }
 
 pub fn zero_members(rows: &mut [MemberRow])
     ensures { rows.new ≡ replicate (length rows.old) zero_member }
 {
-    let mut i = 0;
-    while i < rows.len() {
-        rows[i] = [0, 0, 0, 0, 0, 0, 0, 0, 0, 0, 0, 0, 0, 0, 0];
-        i += 1;
-    }
+    rows.fill([0, 0, 0, 0, 0, 0, 0, 0, 0, 0, 0, 0, 0, 0, 0]);
 }
 
 pub fn zero_bytes(pool: &mut [u8])
     ensures { pool.new ≡ replicate (length pool.old) 0 }
 {
-    let mut i = 0;
-    while i < pool.len() {
-        pool[i] = 0;
-        i += 1;
-    }
+    pool.fill(0);
 }

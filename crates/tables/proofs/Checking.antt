@@ -1,4 +1,5 @@
 -- What the check for 14 says, as plain facts, and the other way: rows that are fine are well formed. Assumes nothing.
+use Rattle.std.specs.Prelude.{Ok}
 use mathlib.Core.Path.{◌≡◌, refl, sym, ◌∙◌, ap}
 use mathlib.Core.Bool.{Bool, true, false, not}
 use mathlib.Core.List.{List, [], ◌∷◌, ◌++◌}
@@ -11,7 +12,6 @@ use lib.Seq.{get_or-take, length-take-le, take_at}
 use borrow.Author.Tests.{le-leb, lt-ltb, leb-true, ltb-true, not-false}
 use Rattle.ground.specs.Choice.{both}
 use Rattle.ground.proofs.Cases.{both_left, both_right}
-use Rattle.text_utf8.specs.declared.check.Check.TheVariants.{Valid}
 use Rattle.text_utf8.specs.Utf8.{check_of, is_utf8}
 use Rattle.text_utf8.proofs.Checking.{valid_told}
 use Rattle.table_rows.specs.declared.rows.Text.{Text}
@@ -77,7 +77,7 @@ module _ (classes members pool : ℕ) (used : Used) where
 -- A text: it does not reach past the used pool, and is UTF-8.
 pub record FineText (pool : List ℕ) (used : Used) (t : Text) : Type 0 where
   pub inside : t.place + t.length ≤ used.pool
-  pub valid : check_of (text_in pool t) ≡ Valid
+  pub valid : check_of (text_in pool t) ≡ Ok tt
 
 module _ (pool : List ℕ) (used : Used) where
   module _ (t : Text) where

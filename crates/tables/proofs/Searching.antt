@@ -1,4 +1,5 @@
 -- The last row with a descriptor, and what it says of the classes read back from the pool. Assumes nothing.
+use Rattle.std.specs.Prelude.{Option, Some, None}
 use mathlib.Core.Path.{◌≡◌, refl, sym, ◌∙◌, ap}
 use mathlib.Core.Bool.{Bool, true, false}
 use mathlib.Core.List.{List, [], ◌∷◌, ◌++◌, map}
@@ -13,15 +14,13 @@ use Rattle.ground.specs.Look.{Look, known, unknown, or_look}
 use Rattle.table_rows.specs.Classes.{Pair, shown, swapped, back}
 use Rattle.table_rows.specs.declared.rows.Text.{Text}
 use Rattle.table_rows.specs.declared.rows.Class.{Class}
-use Rattle.tables.specs.declared.search.Found.{Found}
-use Rattle.tables.specs.declared.search.Found.TheVariants.{Row, Unknown}
 use Rattle.tables.specs.declared.search.Side.{Side}
 use Rattle.table_rows.specs.Rows.{unpack_class}
 use Rattle.tables.specs.Back.{text_in, pair_of, read_back}
 use Rattle.tables.specs.Search.{or_row, last_row_from, text_on, has_name, last_raw, last_display}
 
 -- the last row of which `p` holds answers
-pub last_answers : (p : List ℕ → Bool) (at : ℕ) (rows : List (List ℕ)) (row : List ℕ) → p row ≡ true → last_row_from p at (rows ++ (row ∷ [])) ≡ Row (at + length rows)
+pub last_answers : (p : List ℕ → Bool) (at : ℕ) (rows : List (List ℕ)) (row : List ℕ) → p row ≡ true → last_row_from p at (rows ++ (row ∷ [])) ≡ Some (at + length rows)
 unfolding last_row_from
 last_answers p at [] row e = let z : at + 0 ≡ at = omega arith in rw (e, z)
 last_answers p at (r ∷ rows) row e = let z : suc at + length rows ≡ at + suc (length rows) = omega arith in rw (last_answers p (suc at) rows row e, z)
@@ -29,40 +28,40 @@ last_answers p at (r ∷ rows) row e = let z : suc at + length rows ≡ at + suc
 -- Backwards: there is none from here on.
 pub record Scanning (p : List ℕ → Bool) (rows : List (List ℕ)) («end» : ℕ) : Type 0 where
   pub inside : «end» ≤ length rows
-  pub none : last_row_from p «end» (drop «end» rows) ≡ Unknown
+  pub none : last_row_from p «end» (drop «end» rows) ≡ None
 
 pub scanning_starts : (p : List ℕ → Bool) (rows : List (List ℕ)) → Scanning p rows (length rows)
 unfolding last_row_from
 scanning_starts p rows = record { inside = omega arith; none = rw (drop-length rows) }
 
-last_cons : (p : List ℕ → Bool) (at : ℕ) (row : List ℕ) (rows : List (List ℕ)) → last_row_from p at (row ∷ rows) ≡ or_row (last_row_from p (suc at) rows) (pick (p row) (Row at) Unknown)
+last_cons : (p : List ℕ → Bool) (at : ℕ) (row : List ℕ) (rows : List (List ℕ)) → last_row_from p at (row ∷ rows) ≡ or_row (last_row_from p (suc at) rows) (pick (p row) (Some at) None)
 unfolding last_row_from
 last_cons p at row rows = refl
 
 -- a last row from somewhere on is the last of all
-last_stays : (p : List ℕ → Bool) (rows : List (List ℕ)) (at i : ℕ) → at ≤ length rows → last_row_from p at (drop at rows) ≡ Row i → last_row_from p 0 rows ≡ Row i
+last_stays : (p : List ℕ → Bool) (rows : List (List ℕ)) (at i : ℕ) → at ≤ length rows → last_row_from p at (drop at rows) ≡ Some i → last_row_from p 0 rows ≡ Some i
 last_stays p rows zero i h e = e
 last_stays p rows (suc at) i h e = last_stays p rows at i (omega arith) (rw (drop-cons rows at [] h, last_cons, e))
 
 -- where there is none behind a row, the row itself decides
-step_back : (p : List ℕ → Bool) (rows : List (List ℕ)) (at : ℕ) → at < length rows → last_row_from p (suc at) (drop (suc at) rows) ≡ Unknown →
-    last_row_from p at (drop at rows) ≡ pick (p (get_or rows at [])) (Row at) Unknown
+step_back : (p : List ℕ → Bool) (rows : List (List ℕ)) (at : ℕ) → at < length rows → last_row_from p (suc at) (drop (suc at) rows) ≡ None →
+    last_row_from p at (drop at rows) ≡ pick (p (get_or rows at [])) (Some at) None
 step_back p rows at h e = rw (drop-cons rows at [] h, last_cons, e)
 
 module _ {p : List ℕ → Bool} {rows : List (List ℕ)} {«end» : ℕ} (k : Scanning p rows «end») where
-  pub scanning_ends : «end» ≤ 0 → Unknown ≡ last_row_from p 0 rows
+  pub scanning_ends : «end» ≤ 0 → None ≡ last_row_from p 0 rows
   scanning_ends h = let z : «end» ≡ 0 = omega arith in sym (rw z at k.none)
 
   module _ (h : 0 < «end») where
     pub scanning_inside : «end» - 1 < length rows
     scanning_inside = omega (arith, k.inside)
 
-    before : last_row_from p («end» - 1) (drop («end» - 1) rows) ≡ pick (p (get_or rows («end» - 1) [])) (Row («end» - 1)) Unknown
+    before : last_row_from p («end» - 1) (drop («end» - 1) rows) ≡ pick (p (get_or rows («end» - 1) [])) (Some («end» - 1)) None
     before =
         let up : «end» ≡ suc («end» - 1) = omega arith in
         step_back p rows («end» - 1) scanning_inside (rw up at k.none)
 
-    pub scanning_found : p (get_or rows («end» - 1) []) ≡ true → Row («end» - 1) ≡ last_row_from p 0 rows
+    pub scanning_found : p (get_or rows («end» - 1) []) ≡ true → Some («end» - 1) ≡ last_row_from p 0 rows
     scanning_found e = sym (last_stays p rows («end» - 1) («end» - 1) (omega (arith, k.inside)) (rw (before, e)))
 
     pub scanning_more : p (get_or rows («end» - 1) []) ≡ false → Scanning p rows («end» - 1)
@@ -97,32 +96,32 @@ module _
     (step : (row : List ℕ) (rows : List (List ℕ)) → g (row ∷ rows) ≡ or_else (g rows) (pick (p row) (says row) none))
     (else-none : (l : L) → or_else none l ≡ l)
     (else-says : (row : List ℕ) (l : L) → p row ≡ true → or_else (says row) l ≡ says row) where
-  abbrev Told : ℕ → List (List ℕ) → Found → Type 0
-  Told at rows (Row i) = (at ≤ i) × (i < at + length rows) × (p (get_or rows (i - at) []) ≡ true) × (g rows ≡ says (get_or rows (i - at) []))
-  Told at rows Unknown = g rows ≡ none
+  abbrev Told : ℕ → List (List ℕ) → Option ℕ → Type 0
+  Told at rows (Some i) = (at ≤ i) × (i < at + length rows) × (p (get_or rows (i - at) []) ≡ true) × (g rows ≡ says (get_or rows (i - at) []))
+  Told at rows None = g rows ≡ none
 
   told : (at : ℕ) (rows : List (List ℕ)) → Told at rows (last_row_from p at rows)
   unfolding last_row_from
   told at [] = empty
   told at (row ∷ rows) = later (last_row_from p (suc at) rows) (p row) refl (told (suc at) rows)
     where
-      later : (o : Found) (b : Bool) → p row ≡ b → Told (suc at) rows o → Told at (row ∷ rows) (or_row o (pick b (Row at) Unknown))
-      later (Row i) b e (h, j, q, f) =
+      later : (o : Option ℕ) (b : Bool) → p row ≡ b → Told (suc at) rows o → Told at (row ∷ rows) (or_row o (pick b (Some at) None))
+      later (Some i) b e (h, j, q, f) =
           let z : i - at ≡ suc (i - suc at) = omega arith in
           (omega arith, omega arith, rw z q, step row rows ∙ rw (f, z) (else-says (get_or rows (i - suc at) []) _ q))
-      later Unknown true e f =
+      later None true e f =
           let z : at - at ≡ 0 = omega arith in
           (omega arith, omega arith, rw z e, step row rows ∙ rw (f, e, z) (else-none (says row)))
-      later Unknown false e f = step row rows ∙ rw (f, e) (else-none none)
+      later None false e f = step row rows ∙ rw (f, e) (else-none none)
 
   module _ (rows : List (List ℕ)) where
-    pub answer_row : {i : ℕ} → last_row_from p 0 rows ≡ Row i → (i < length rows) × (p (get_or rows i []) ≡ true) × (g rows ≡ says (get_or rows i []))
+    pub answer_row : {i : ℕ} → last_row_from p 0 rows ≡ Some i → (i < length rows) × (p (get_or rows i []) ≡ true) × (g rows ≡ says (get_or rows i []))
     answer_row {i} e =
-        let t : Told 0 rows (Row i) = rw e at (told 0 rows) in
+        let t : Told 0 rows (Some i) = rw e at (told 0 rows) in
         let z : i - 0 ≡ i = omega arith in
         (omega (arith, t.1), rw z at t.2, rw z at t.3)
 
-    pub answer_none : last_row_from p 0 rows ≡ Unknown → g rows ≡ none
+    pub answer_none : last_row_from p 0 rows ≡ None → g rows ≡ none
     answer_none e = rw e at (told 0 rows)
 
 -- Of the classes read back: the pairs `f row` of the rows.
@@ -141,12 +140,12 @@ module _ (f : List ℕ → Pair) (name : List ℕ) (rows : List (List ℕ)) wher
   unfolding shown
   shown_empty = refl
 
-  told_row : {i : ℕ} → last_row_from has 0 rows ≡ Row i → (i < length rows) × (shown (map f rows) name ≡ known (f (get_or rows i [])).display)
+  told_row : {i : ℕ} → last_row_from has 0 rows ≡ Some i → (i < length rows) × (shown (map f rows) name ≡ known (f (get_or rows i [])).display)
   told_row e =
       let t = answer_row unknown or_look shows has (λ l. shown (map f l) name) shown_empty shown_step (λ l. refl) (λ row l q. refl) rows e in
       (t.0, t.2)
 
-  told_unknown : last_row_from has 0 rows ≡ Unknown → shown (map f rows) name ≡ unknown
+  told_unknown : last_row_from has 0 rows ≡ None → shown (map f rows) name ≡ unknown
   told_unknown e = answer_none unknown or_look shows has (λ l. shown (map f l) name) shown_empty shown_step (λ l. refl) (λ row l q. refl) rows e
 
 swapped_rows : (f : List ℕ → Pair) (rows : List (List ℕ)) → map swapped (map f rows) ≡ map (λ row. swapped (f row)) rows
@@ -155,11 +154,11 @@ swapped_rows f (row ∷ rows) = ap (λ l. swapped (f row) ∷ l) (swapped_rows f
 
 -- the row that is found shows its display descriptor, and where none is found the class is not known
 module _ (rows : List (List ℕ)) (pool name : List ℕ) where
-  pub raw_found : {i : ℕ} → last_raw rows pool name ≡ Row i →
+  pub raw_found : {i : ℕ} → last_raw rows pool name ≡ Some i →
       (i < length rows) × (shown (read_back rows pool) name ≡ known (text_in pool (unpack_class (get_or rows i [])).display))
   raw_found e = told_row (pair_of pool) name rows e
 
-  pub raw_unknown : last_raw rows pool name ≡ Unknown → shown (read_back rows pool) name ≡ unknown
+  pub raw_unknown : last_raw rows pool name ≡ None → shown (read_back rows pool) name ≡ unknown
   raw_unknown e = told_unknown (pair_of pool) name rows e
 
   -- and the other way
@@ -169,9 +168,9 @@ module _ (rows : List (List ℕ)) (pool name : List ℕ) where
   turned_back : back (read_back rows pool) name ≡ shown (map turnedPair rows) name
   turned_back = ap (λ l. shown l name) (swapped_rows (pair_of pool) rows)
 
-  pub display_found : {i : ℕ} → last_display rows pool name ≡ Row i →
+  pub display_found : {i : ℕ} → last_display rows pool name ≡ Some i →
       (i < length rows) × (back (read_back rows pool) name ≡ known (text_in pool (unpack_class (get_or rows i [])).raw))
   display_found e = let t = told_row turnedPair name rows e in (t.0, turned_back ∙ t.1)
 
-  pub display_unknown : last_display rows pool name ≡ Unknown → back (read_back rows pool) name ≡ unknown
+  pub display_unknown : last_display rows pool name ≡ None → back (read_back rows pool) name ≡ unknown
   display_unknown e = turned_back ∙ told_unknown turnedPair name rows e

@@ -5,9 +5,14 @@ use Rattle.ground.specs.Choice.{both}
 use Rattle.text_utf8.specs.Utf8.{is_utf8}
 use Rattle.table_rows.specs.declared.rows.Text.{Text}
 use Rattle.table_rows.specs.declared.rows.Member.{Member}
+use Rattle.tables.specs.declared.check.Malformed.{Malformed}
 use Rattle.tables.specs.declared.check.Used.{Used}
 use Rattle.table_rows.specs.Rows.{unpack_class, unpack_member, flag_of, most_classes, most_members, most_pool}
 use Rattle.tables.specs.Back.{text_in}
+
+-- refusal 14 itself
+abbrev pub malformed : Malformed
+malformed = record {}
 
 -- what is used, as C lends it: "class rows, member rows, pool bytes"
 abbrev pub used_by : List ℕ → Used

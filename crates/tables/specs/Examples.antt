@@ -1,9 +1,8 @@
 -- Worked examples of rows, computed from the rules.
-use Rattle.std.specs.Prelude.{◌≡◌, refl, Bool, true, false, List, [], ◌∷◌, ℕ}
+use Rattle.std.specs.Prelude.{◌≡◌, refl, Bool, true, false, List, [], ◌∷◌, ℕ, Some, None}
 use Rattle.ground.specs.Ascii.{ascii}
 use Rattle.text_places.specs.Places.{same}
 use Rattle.text_utf8.specs.Utf8.{lead_of, tails, after_lead, sequence_of, pieces_from, check_from}
-use Rattle.tables.specs.declared.search.Found.TheVariants.{Row, Unknown}
 use Rattle.tables.specs.declared.check.Used.{Used}
 use Rattle.tables.specs.Search.{last_row_from, last_raw, last_display}
 use Rattle.tables.specs.Check.{all_of, counts_fine, well_formed}
@@ -17,15 +16,15 @@ rows = (0 ∷ 1 ∷ 1 ∷ 1 ∷ []) ∷ (2 ∷ 1 ∷ 3 ∷ 1 ∷ []) ∷ (4 ∷ 
 
 last_rows :
     -- the last row answers
-    (last_raw rows pool (ascii "x") ≡ Row 1)
-    × (last_display rows pool (ascii "y") ≡ Row 0)
-    × (last_display rows pool (ascii "z") ≡ Row 1)
+    (last_raw rows pool (ascii "x") ≡ Some 1)
+    × (last_display rows pool (ascii "y") ≡ Some 0)
+    × (last_display rows pool (ascii "z") ≡ Some 1)
     -- by all of its text, and by the side asked for
-    × (last_raw rows pool (ascii "xy") ≡ Unknown)
-    × (last_raw rows pool (ascii "z") ≡ Unknown)
+    × (last_raw rows pool (ascii "xy") ≡ None)
+    × (last_raw rows pool (ascii "z") ≡ None)
     -- past the pool's end there is nothing
-    × (last_raw rows pool (ascii "w") ≡ Row 2)
-    × (last_display rows pool [] ≡ Row 2)
+    × (last_raw rows pool (ascii "w") ≡ Some 2)
+    × (last_display rows pool [] ≡ Some 2)
 unfolding ascii same last_row_from
 last_rows = (refl, refl, refl, refl, refl, refl, refl)
 

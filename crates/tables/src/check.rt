@@ -3,12 +3,16 @@ ghost use Rattle.std.specs.Prelude.{◌≡◌};
 ghost use Rattle.text_utf8.specs.Inner.Runs.{AsciiTo};
 ghost use Rattle.tables.specs.Check.{used_by, text_fine, class_fine, numbers_fine, texts_fine, member_fine, all_of, counts_fine, well_formed};
 
-use crate::texts::{lesser, text_in};
+use crate::texts::text_in;
 use table_rows::{
     ClassRow, MOST_CLASSES, MOST_MEMBERS, MOST_POOL, Member, MemberRow, Text, range_flag,
     unpack_class, unpack_member,
 };
 use text_utf8::{ascii_start, is_utf8};
+
+// The tables are malformed.
+#[derive(Clone, Copy, Debug, PartialEq, Eq)]
+pub struct Malformed;
 
 // How many class rows, member rows and pool bytes are used.
 #[derive(Clone, Copy)]
@@ -99,12 +103,10 @@ fn classes_fine(classes: &[ClassRow], pool: &[u8], ascii: usize, used: Used) -> 
     requires { AsciiTo pool.now 0 ascii }
     ensures { result ≡ all_of (class_fine pool.now used) classes.now }
 {
-    let mut i = 0;
-    while i < classes.len() {
-        if !class_fine(pool, ascii, used, classes[i]) {
+    for row in classes {
+        if !class_fine(pool, ascii, used, *row) {
             return false;
         }
-        i += 1;
     }
     true
 }
@@ -113,12 +115,10 @@ fn members_fine(members: &[MemberRow], pool: &[u8], ascii: usize, used: Used) ->
     requires { AsciiTo pool.now 0 ascii }
     ensures { result ≡ all_of (member_fine pool.now used) members.now }
 {
-    let mut i = 0;
-    while i < members.len() {
-        if !member_fine(pool, ascii, used, members[i]) {
+    for row in members {
+        if !member_fine(pool, ascii, used, *row) {
             return false;
         }
-        i += 1;
     }
     true
 }
@@ -127,13 +127,13 @@ fn members_fine(members: &[MemberRow], pool: &[u8], ascii: usize, used: Used) ->
 fn counts_fine(classes: usize, members: usize, pool: usize, used: Used) -> bool
     ensures { result ≡ counts_fine classes members pool used }
 {
-    if lesser(classes, MOST_CLASSES) < used.classes as usize {
+    if classes.min(MOST_CLASSES) < used.classes as usize {
         return false;
     }
-    if lesser(members, MOST_MEMBERS) < used.members as usize {
+    if members.min(MOST_MEMBERS) < used.members as usize {
         return false;
     }
-    used.pool as usize <= lesser(pool, MOST_POOL)
+    used.pool as usize <= pool.min(MOST_POOL)
 }
 
 // Whether tables are well formed; where they are not, the answer to the caller is 14.

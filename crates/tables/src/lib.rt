@@ -5,6 +5,6 @@ mod check;
 mod search;
 mod texts;
 
-pub use check::{Used, used_of, well_formed};
-pub use search::{Found, Side, last_with_display, last_with_raw, text_on};
+pub use check::{Malformed, Used, used_of, well_formed};
+pub use search::{Side, last_with_display, last_with_raw, text_on};
 pub use texts::{lesser, text_in};

@@ -7,13 +7,6 @@ use crate::texts::text_in;
 use table_rows::{Class, ClassRow, Text, unpack_class};
 use text_places::same_bytes;
 
-// A class row by its number, or none.
-#[derive(Clone, Copy)]
-pub enum Found {
-    Row(usize),
-    Unknown,
-}
-
 // By which of its two descriptors a class is looked for.
 #[derive(Clone, Copy)]
 pub enum Side {
@@ -31,7 +24,7 @@ pub fn text_on(side: Side, class: Class) -> Text
 }
 
 // Rows are asked from the last one on. Lengths are compared before bytes.
-fn last_with(side: Side, classes: &[ClassRow], pool: &[u8], name: &[u8]) -> Found
+fn last_with(side: Side, classes: &[ClassRow], pool: &[u8], name: &[u8]) -> Option<usize>
     ensures { result ≡ last_with side classes.now pool.now name.now }
 {
     let mut end = classes.len();
@@ -39,22 +32,22 @@ fn last_with(side: Side, classes: &[ClassRow], pool: &[u8], name: &[u8]) -> Foun
         let at = end - 1;
         let text = text_on(side, unpack_class(classes[at]));
         if same_bytes(text_in(pool, text), name) {
-            return Found::Row(at);
+            return Some(at);
         }
         end = at;
     }
-    Found::Unknown
+    None
 }
 
 // The last class row with a raw descriptor.
-pub fn last_with_raw(classes: &[ClassRow], pool: &[u8], raw: &[u8]) -> Found
+pub fn last_with_raw(classes: &[ClassRow], pool: &[u8], raw: &[u8]) -> Option<usize>
     ensures { result ≡ last_raw classes.now pool.now raw.now }
 {
     last_with(Side::Raw, classes, pool, raw)
 }
 
 // The last class row with a display descriptor.
-pub fn last_with_display(classes: &[ClassRow], pool: &[u8], display: &[u8]) -> Found
+pub fn last_with_display(classes: &[ClassRow], pool: &[u8], display: &[u8]) -> Option<usize>
     ensures { result ≡ last_display classes.now pool.now display.now }
 {
     last_with(Side::Display, classes, pool, display)

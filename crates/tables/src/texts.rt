@@ -8,18 +8,15 @@ use table_rows::Text;
 pub fn lesser(a: usize, b: usize) -> usize
     ensures { result ≡ min a b }
 {
-    if b < a {
-        return b;
-    }
-    a
+    a.min(b)
 }
 
 // A text of the pool. Of one that reaches past the pool's end, what stands in the pool: a row that was never checked is answered too.
 pub fn text_in(pool: &[u8], text: Text) -> &[u8]
     ensures { result.now ≡ text_in pool.now text }
 {
-    let start = lesser(text.place as usize, pool.len());
-    let length = lesser(text.length as usize, pool.len() - start);
+    let start = (text.place as usize).min(pool.len());
+    let length = (text.length as usize).min(pool.len() - start);
     let end = start + length;
     &pool[start..end]
 }

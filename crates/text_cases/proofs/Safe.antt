@@ -1,4 +1,5 @@
 -- The loops of the program stay within their slices and end. Assumes nothing.
+use Rattle.std.specs.Prelude.{Option, Some}
 use mathlib.Core.Path.{◌≡◌, sym, ◌∙◌}
 use mathlib.Core.List.{List}
 use Prim.Native.Nat.{ℕ, ◌+◌, ◌-◌, ◌^◌, ◌≤◌, ◌<◌}
@@ -8,8 +9,6 @@ use mir.Val.{Fits}
 use mir.Syntax.{w64}
 use borrow.Author.Rules.{rules}
 use Rattle.ground.proofs.Parts.{prefix_size, prefix_whole}
-use Rattle.text_places.specs.declared.find.Place.{Place}
-use Rattle.text_places.specs.declared.find.Place.TheVariants.{At}
 use Rattle.text_places.specs.Places.{first_where, starts}
 use Rattle.text_places.proofs.PlaceLaws.{first_inside}
 use Rattle.text_places.proofs.Taking.{Taking, taking_starts, line_next, line_falls, line_starts, line_ends}
@@ -17,20 +16,6 @@ use Rattle.text_utf8.specs.declared.sequence.Sequence.{Sequence}
 use Rattle.text_utf8.specs.declared.sequence.Sequence.TheVariants.{Good, Bad}
 use Rattle.text_utf8.specs.Utf8.{sequence_of}
 use Rattle.text_utf8.proofs.Sequences.{good_fits, bad_fits}
-
--- bytes are filled from the start
-pub record Filling (line bytes₀ bytes : List ℕ) (n at : ℕ) : Type 0 where
-  pub same : length bytes ≡ length bytes₀
-  pub inside : n ≤ length bytes
-  pub read : at ≤ length line + 1
-
-pub filling_starts : (line bytes : List ℕ) → Filling line bytes bytes 0 0
-filling_starts line bytes = omega arith
-
-pub filling_more : {line bytes₀ bytes : List ℕ} {n at : ℕ} (b : ℕ) → Filling line bytes₀ bytes n at → at + 1 < length line → n < length bytes →
-    Filling line bytes₀ (set bytes n b) (n + 1) (at + 3)
-filling_more {bytes = bytes} {n = n} b f h i =
-    record { same = length-set bytes n b ∙ f.same; inside = omega (arith, length-set bytes n b); read = omega arith }
 
 -- sequences are taken one after the other
 module _ (s : List ℕ) (at : ℕ) {t : Sequence} (p : t ≡ sequence_of (drop at s)) where
@@ -63,7 +48,7 @@ module _ (s : List ℕ) (at : ℕ) {t : Sequence} (p : t ≡ sequence_of (drop a
 pub ruleset taking = (taking_starts, line_next, line_falls, line_starts, line_ends, good_next, good_fits_word, good_falls, bad_next, bad_fits_word, bad_falls, rules)
 
 -- a kind, a space, and what is asked
-module _ (s : List ℕ) {p : Place} {i : ℕ} (e : p ≡ first_where (starts 0x20) s) (g : p ≡ At i) where
+module _ (s : List ℕ) {p : Option ℕ} {i : ℕ} (e : p ≡ first_where (starts 0x20) s) (g : p ≡ Some i) where
   pub space_inside : i < length s
   space_inside = first_inside (starts 0x20) s (sym e ∙ g)
 

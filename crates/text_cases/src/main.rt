@@ -34,11 +34,13 @@ fn replay(rt: &impl Print, line: &[u8]) -> io::Result<()> {
 fn each_line(rt: &impl Print, s: &[u8]) -> io::Result<()> {
     let mut at = 0;
     while at < s.len() {
-        let NextLine::Line {
-            start: _,
-            end,
-            next,
-        } = text_places::next_line(s, at)
+        let Some(
+            NextLine {
+                start: _,
+                end,
+                next,
+            },
+        ) = text_places::next_line(s, at)
         else {
             return Ok(());
         };

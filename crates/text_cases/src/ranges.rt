@@ -1,12 +1,11 @@
 // Cases of numbers and of ranges.
-use number::{LeadingRange, Number, TrailingRange};
+use number::{LeadingRange, TrailingRange};
 use std::io;
-use text_places::Place;
 
 fn number_case(rt: &impl Print, s: &[u8]) -> io::Result<()> {
     match number::read_number(s) {
-        Number::Value(v) => replay::decimal(rt, v as usize),
-        Number::Unread => replay::words(rt, b"unread"),
+        Some(v) => replay::decimal(rt, v as usize),
+        None => replay::words(rt, b"unread"),
     }
 }
 
@@ -18,35 +17,37 @@ fn from_to(rt: &impl Print, start: u32, end: u32) -> io::Result<()> {
 
 fn before_case(rt: &impl Print, s: &[u8]) -> io::Result<()> {
     match number::leading_range(s) {
-        LeadingRange::Taken { start, end, rest } => {
+        Some(LeadingRange { start, end, rest }) => {
             from_to(rt, start, end)?;
             replay::words(rt, b", rest at ")?;
             replay::decimal(rt, rest)
         }
-        LeadingRange::NotTaken => replay::words(rt, b"none"),
+        None => replay::words(rt, b"none"),
     }
 }
 
 fn after_case(rt: &impl Print, s: &[u8]) -> io::Result<()> {
     match number::trailing_range(s) {
-        TrailingRange::Taken {
-            start,
-            end,
-            second_unread,
-        } => {
+        Some(
+            TrailingRange {
+                start,
+                end,
+                second_unread,
+            },
+        ) => {
             from_to(rt, start, end)?;
             if second_unread {
                 replay::words(rt, b", short")?;
             }
             Ok(())
         }
-        TrailingRange::NotTaken => replay::words(rt, b"none"),
+        None => replay::words(rt, b"none"),
     }
 }
 
 // Replays a line of a kind that stands here, and answers whether it is one.
 pub fn replayed(rt: &impl Print, line: &[u8]) -> io::Result<bool> {
-    let Place::At(space) = text_places::first_byte(line, b' ') else {
+    let Some(space) = text_places::first_byte(line, b' ') else {
         return Ok(false);
     };
     let kind = &line[..space];

@@ -19,7 +19,7 @@ pub fn lines_of<'a>(text: &'a [u8]) -> Lines<'a>
 }
 
 // The line at the reader's place.
-pub fn line<'a>(reader: Lines<'a>) -> NextLine
+pub fn line<'a>(reader: Lines<'a>) -> Option<NextLine>
     ensures { result ≡ next_line reader.entry.text.now reader.entry.at }
 {
     next_line(reader.text, reader.at)

@@ -1,4 +1,5 @@
 -- The table of how far a text is UTF-8, group by group. Assumes nothing.
+use Rattle.std.specs.Prelude.{Result, Ok, Err}
 use mathlib.Core.Path.{◌≡◌, refl, sym, ◌∙◌, ap}
 use mathlib.Core.Bool.{Bool, true, false, not}
 use mathlib.Core.List.{List, [], ◌∷◌}
@@ -15,13 +16,12 @@ use Rattle.ground.specs.Choice.{pick}
 use Rattle.ground.specs.Put.{between}
 use Rattle.ground.proofs.Cases.{le_or_lt}
 use Rattle.ground.proofs.Parts.{take_rest}
-use Rattle.text_utf8.specs.declared.check.Check.{Check}
-use Rattle.text_utf8.specs.declared.check.Check.TheVariants.{Valid, Broken}
-use Rattle.text_utf8.specs.Utf8.{check_of}
+use Rattle.text_utf8.specs.Utf8.{check_of, broken}
 use Rattle.text_utf8.proofs.Boundaries.{Fresh, fresh_as}
 use Rattle.text_parts.specs.Inner.Reach.{is_tail, tails_up_to, tails_at, valid_to, Begun, group_place, group_count, ReachedTo}
 use Rattle.text_parts.proofs.Tails.{tail_low, tail_upper, tails_inside, tails_fresh}
 use Rattle.text_parts.proofs.Reaching.{valid_extends, moved_on}
+use Rattle.text_utf8.specs.declared.check.Broken.{Broken}
 
 pub ruleset tail_byte = (tail_low, tail_upper, rules)
 
@@ -80,18 +80,18 @@ module _ {s : List ℕ} {at count next : ℕ} (k : Tailing s at count next) wher
 pub ruleset tailing = (tailing_starts, tailing_past, tailing_full, tailing_ends, tailing_more, tailing_fits, rules)
 
 -- How far, by what the check of the rest says.
-module _ (s : List ℕ) (at : ℕ) (h : at ≤ length s) {o : Check} (e : o ≡ check_of (between s at (length s))) where
+module _ (s : List ℕ) (at : ℕ) (h : at ≤ length s) {o : Result Unit Broken} (e : o ≡ check_of (between s at (length s))) where
   is : check_of (drop at s) ≡ o
   is = ap check_of (sym (take_rest s at)) ∙ sym e
 
-  pub valid_all : o ≡ Valid → length s ≡ valid_to s at
+  pub valid_all : o ≡ Ok tt → length s ≡ valid_to s at
   valid_all f = let z : at + (length s - at) ≡ length s = omega arith in sym (rw (is ∙ f) z)
 
-  module _ {k m : ℕ} (f : o ≡ Broken k m) where
-    pub valid_part : at + k ≡ valid_to s at
+  module _ {x : Broken} (f : o ≡ Err x) where
+    pub valid_part : at + x.at ≡ valid_to s at
     valid_part = sym (rw (is ∙ f))
 
-    pub valid_fits : length s < 2 ^ 64 → Fits w64 (at + k)
+    pub valid_fits : length s < 2 ^ 64 → Fits w64 (at + x.at)
     valid_fits b = let i = (valid_extends s at h).inside in let z = valid_part in omega arith
 
 pub ruleset validating = (valid_all, valid_part, valid_fits, rules)

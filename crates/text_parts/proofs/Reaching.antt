@@ -1,4 +1,5 @@
 -- How far a text is UTF-8 from a place on. Assumes nothing.
+use Rattle.std.specs.Prelude.{Result, Ok, Err}
 use mathlib.Core.Path.{◌≡◌, refl, sym, ◌∙◌, ap}
 use mathlib.Core.Bool.{Bool, true, false, not}
 use mathlib.Core.List.{List, [], ◌∷◌, ◌++◌, append_assoc}
@@ -12,14 +13,13 @@ use Rattle.ground.specs.Abnf.{none, more}
 use Rattle.ground.specs.Put.{between}
 use Rattle.ground.proofs.Cases.{le_or_lt, clash}
 use Rattle.ground.proofs.Parts.{take_rest, parts_join}
-use Rattle.text_utf8.specs.declared.check.Check.{Check}
-use Rattle.text_utf8.specs.declared.check.Check.TheVariants.{Valid, Broken}
 use Rattle.text_utf8.specs.Grammar.{Utf8Char, Utf8Octets}
 use Rattle.text_utf8.specs.Utf8.{check_of, is_utf8}
 use Rattle.text_utf8.proofs.Grammatical.{valid_iff, broken_breaks, utf8_octets, octets_utf8}
 use Rattle.text_utf8.proofs.Boundaries.{octets_as, append_octets, Fresh, at_end, fresh_as, octets_fresh, cut_octets}
 use Rattle.text_parts.specs.Inner.Reach.{is_tail, stop_of, valid_to, ends_well}
 use Rattle.text_parts.proofs.Tails.{rest_octets, here_fresh, fresh_head, head_fresh}
+use Rattle.text_utf8.specs.declared.check.Broken.{Broken}
 
 -- A text is UTF-8, or not.
 pub utf8_no : (s : List ℕ) → (Utf8Octets s → ⊥) → is_utf8 s ≡ false
@@ -95,23 +95,23 @@ module _ (s : List ℕ) where
       whole : m + (length s - m) ≡ length s
       whole = omega arith
 
-      go : (o : Check) → check_of (drop m s) ≡ o → Extends m (m + stop_of (length s - m) o)
-      go Valid e =
+      go : (o : Result Unit Broken) → check_of (drop m s) ≡ o → Extends m (m + stop_of (length s - m) o)
+      go (Ok _) e =
           record {
             goes = omega arith;
             inside = omega arith;
             good = octets_as (sym (ap (between s m) whole ∙ take_rest s m)) ((valid_iff (drop m s)).0 e);
             stops = λ k a r c q. absurd (omega arith);
           }
-      go (Broken k j) e =
+      go (Err t) e =
           let b = broken_breaks (drop m s) e in
           let i = b.inside in
-          let n : m + k - m ≡ k = omega arith in
+          let n : m + t.at - m ≡ t.at = omega arith in
           record {
             goes = omega arith;
             inside = omega (arith, length-drop m s);
             good = octets_as (ap (λ x. take x (drop m s)) (sym n)) b.before;
-            stops = λ l a r c q. b.after a r c (drop-drop k m s ∙ q);
+            stops = λ l a r c q. b.after a r c (drop-drop t.at m s ∙ q);
           }
 
   -- so what is known from an earlier place on is known from here on

@@ -4,7 +4,7 @@ ghost use Rattle.std.specs.Prelude.{◌≡◌, ◌<◌, ◌≤◌, ◌^◌, leng
 ghost use Rattle.text_utf8.proofs.Boundaries.{Fresh};
 ghost use Rattle.text_parts.specs.Inner.Reach.{is_tail, tails_at, valid_to, Begun, Reached, group_count};
 
-use text_utf8::{Check, check_text};
+use text_utf8::{Broken, check_text};
 
 // The bytes of a group, and the groups that the table tells of: those of 4,194,304 bytes.
 pub const GROUP: usize = 128;
@@ -47,11 +47,13 @@ fn valid_to(s: &[u8], at: usize) -> usize
     ensures { result ≡ valid_to s.now at }
 {
     match check_text(&s[at..]) {
-        Check::Valid => s.len(),
-        Check::Broken {
-            at: broken,
-            length: _,
-        } => at + broken,
+        Ok(()) => s.len(),
+        Err(
+            Broken {
+                at: broken,
+                length: _,
+            },
+        ) => at + broken,
     }
 }
 

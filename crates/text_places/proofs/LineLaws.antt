@@ -1,4 +1,5 @@
 -- Lines: the readers of one line, and that the lines of a text are found one after the other. Assumes nothing.
+use Rattle.std.specs.Prelude.{Some, None}
 use mathlib.Core.Path.{◌≡◌, refl, sym, ◌∙◌, ap}
 use mathlib.Core.Bool.{Bool, true, false}
 use mathlib.Core.List.{List, [], ◌∷◌, ◌++◌}
@@ -14,12 +15,13 @@ use mir.Syntax.{w64}
 use borrow.Author.Tests.{eq-eqb, ne_eqb, lt-ltb, le-ltb}
 use borrow.Author.Rules.{rules}
 use mathlib.Core.Logic.{◌⊎◌, inl, inr}
+use Rattle.ground.proofs.Answered.{some_part}
 use Rattle.ground.specs.Choice.{pick, both}
 use Rattle.ground.specs.Put.{between}
 use Rattle.ground.proofs.Cases.{le_or_lt}
-use Rattle.text_places.specs.declared.lines.NextLine.TheVariants.{Line, NoLine}
 use Rattle.text_places.specs.Lines.{onto, raw_lines, cr_end, lines, Taken}
-use Rattle.text_places.specs.Inner.NextLine.{NextStart, to_lf, line_from, next_line}
+use Rattle.text_places.specs.Inner.NextLine.{NextStart, to_lf, line_from, next_line, taken_line}
+use Rattle.text_places.specs.declared.lines.NextLine.{NextLine}
 
 pub to_lf_le : (l : List ℕ) → to_lf l ≤ length l
 unfolding to_lf
@@ -125,11 +127,11 @@ pub ruleset cr_ending = (cr_starts, cr_all, cr_other, cr_more, cr_inside, rules)
 
 -- One line, from a place on.
 line_at : (at : ℕ) (l : List ℕ) → 0 < length l →
-    line_from at l ≡ Line at (at + cr_end (take (to_lf l) l)) (at + to_lf l + pick (ltb (to_lf l) (length l)) 1 0)
+    line_from at l ≡ Some (taken_line at (at + cr_end (take (to_lf l) l)) (at + to_lf l + pick (ltb (to_lf l) (length l)) 1 0))
 line_at at [] h = absurd (omega arith)
 line_at at (b ∷ l) h = refl
 
-pub line_none : (s : List ℕ) (at : ℕ) → length s ≤ at → NoLine ≡ next_line s at
+pub line_none : (s : List ℕ) (at : ℕ) → length s ≤ at → None ≡ next_line s at
 line_none s at h = rw (drop_of_length-le s h)
 
 module _ (s : List ℕ) (at : ℕ) {lf : ℕ} (e : lf ≡ at + to_lf (drop at s)) where
@@ -143,13 +145,13 @@ module _ (s : List ℕ) (at : ℕ) {lf : ℕ} (e : lf ≡ at + to_lf (drop at s)
     size : lf - at ≡ to_lf (drop at s)
     size = omega arith
 
-    answer : next_line s at ≡ Line at (at + n) (lf + pick (ltb (to_lf (drop at s)) (length (drop at s))) 1 0)
+    answer : next_line s at ≡ Some (taken_line at (at + n) (lf + pick (ltb (to_lf (drop at s)) (length (drop at s))) 1 0))
     answer = line_at at (drop at s) (rw length-drop (omega arith)) ∙ rw (f, size, e)
 
-    pub line_ends_in_lf : lf < length s → Line at (at + n) (lf + 1) ≡ next_line s at
+    pub line_ends_in_lf : lf < length s → Some (taken_line at (at + n) (lf + 1)) ≡ next_line s at
     line_ends_in_lf i = sym (answer ∙ rw (lt-ltb (to_lf (drop at s)) (length (drop at s)) (rw length-drop (omega arith))))
 
-    pub line_ends_text : length s ≤ lf → Line at (at + n) lf ≡ next_line s at
+    pub line_ends_text : length s ≤ lf → Some (taken_line at (at + n) lf) ≡ next_line s at
     line_ends_text i = sym (answer ∙ rw (le-ltb (to_lf (drop at s)) (length (drop at s)) (rw length-drop (omega arith)), add-zero))
 
     pub line_fits : length s < 2 ^ 64 → Fits w64 (at + n)
@@ -228,7 +230,7 @@ line_of s at start «end» next some same ends goes =
     }
 
 -- what an answer of the next line says of the lines of the text
-pub line_split : (s : List ℕ) (at : ℕ) {start «end» next : ℕ} → next_line s at ≡ Line start «end» next → Taken s at start «end» next
+pub line_split : (s : List ℕ) (at : ℕ) {start «end» next : ℕ} → next_line s at ≡ Some (taken_line start «end» next) → Taken s at start «end» next
 unfolding leaves
 line_split s at {start} {«end»} {next} e = go (le_or_lt (length s) at)
   where
@@ -236,5 +238,8 @@ line_split s at {start} {«end»} {next} e = go (le_or_lt (length s) at)
     go (inl h) = absurd (let n = line_none s at h in let z : ◌≡◌ {A = ℕ} 0 1 = cc in omega arith)
     go (inr h) =
         let some : 0 < length (drop at s) = rw length-drop (omega arith) in
-        let a = line_at at (drop at s) some in
-        line_of s at start «end» next some (cc) (cc) (rw (← add_assoc) (cc))
+        let same = sym (line_at at (drop at s) some) ∙ e in
+        let starts = some_part (λ (r : NextLine). r.start) same in
+        let ends = some_part (λ (r : NextLine). r.«end») same in
+        let follows = some_part (λ (r : NextLine). r.next) same in
+        line_of s at start «end» next some starts (sym ends) (rw (← add_assoc) (sym follows))

@@ -1,4 +1,5 @@
 -- First and last places, and texts that are the same. Assumes nothing.
+use Rattle.std.specs.Prelude.{Option, Some, None}
 use mathlib.Core.Path.{◌≡◌, refl, sym, ◌∙◌, ap}
 use mathlib.Core.Bool.{Bool, true, false}
 use mathlib.Core.List.{List, [], ◌∷◌}
@@ -17,8 +18,6 @@ use Rattle.ground.specs.Choice.{pick, both}
 use Rattle.ground.specs.Put.{between}
 use Rattle.ground.proofs.Cases.{clash, both_left, both_right, le_or_lt, both_false}
 use Rattle.ground.proofs.Parts.{take_rest}
-use Rattle.text_places.specs.declared.find.Place.{Place}
-use Rattle.text_places.specs.declared.find.Place.TheVariants.{At, Nowhere}
 use Rattle.text_places.specs.Places.{place_number, first_from, first_where, last_from, last_where, or_else, starts, starts_pair, same}
 
 -- Forwards: the first place from here on is the first of the whole.
@@ -30,7 +29,7 @@ pub seeking_starts : (p : List ℕ → Bool) (s : List ℕ) → Seeking p s 0
 seeking_starts p s = record { inside = omega arith; decides = refl }
 
 module _ {p : List ℕ → Bool} {s : List ℕ} {at : ℕ} (k : Seeking p s at) where
-  pub seeking_ends : length s ≤ at → Nowhere ≡ first_where p s
+  pub seeking_ends : length s ≤ at → None ≡ first_where p s
   unfolding first_from
   seeking_ends h = rw (drop_of_length-le s h) at k.decides
 
@@ -38,7 +37,7 @@ module _ {p : List ℕ → Bool} {s : List ℕ} {at : ℕ} (k : Seeking p s at) 
     here : drop at s ≡ get_or s at 0 ∷ drop (suc at) s
     here = drop-cons s at 0 h
 
-    pub seeking_found : p (drop at s) ≡ true → At at ≡ first_where p s
+    pub seeking_found : p (drop at s) ≡ true → Some at ≡ first_where p s
     unfolding first_from
     seeking_found e = rw (here, rw here at e) at k.decides
 
@@ -49,68 +48,68 @@ module _ {p : List ℕ → Bool} {s : List ℕ} {at : ℕ} (k : Seeking p s at) 
 -- Backwards: there is none from here on.
 pub record Backing (p : List ℕ → Bool) (s : List ℕ) («end» : ℕ) : Type 0 where
   pub inside : «end» ≤ length s
-  pub none : last_from p «end» (drop «end» s) ≡ Nowhere
+  pub none : last_from p «end» (drop «end» s) ≡ None
 
 pub backing_starts : (p : List ℕ → Bool) (s : List ℕ) → Backing p s (length s)
 unfolding last_from
 backing_starts p s = record { inside = omega arith; none = rw (drop-length s) }
 
-last_cons : (p : List ℕ → Bool) (at x : ℕ) (l : List ℕ) → last_from p at (x ∷ l) ≡ or_else (last_from p (suc at) l) (pick (p (x ∷ l)) (At at) Nowhere)
+last_cons : (p : List ℕ → Bool) (at x : ℕ) (l : List ℕ) → last_from p at (x ∷ l) ≡ or_else (last_from p (suc at) l) (pick (p (x ∷ l)) (Some at) None)
 unfolding last_from
 last_cons p at x l = refl
 
 -- a last place from somewhere on is the last of the whole
-last_stays : (p : List ℕ → Bool) (s : List ℕ) (at i : ℕ) → at ≤ length s → last_from p at (drop at s) ≡ At i → last_where p s ≡ At i
+last_stays : (p : List ℕ → Bool) (s : List ℕ) (at i : ℕ) → at ≤ length s → last_from p at (drop at s) ≡ Some i → last_where p s ≡ Some i
 unfolding last_from
 last_stays p s zero i h e = e
 last_stays p s (suc at) i h e = last_stays p s at i (omega arith) (rw (drop-cons s at 0 h, e))
 
 module _ {p : List ℕ → Bool} {s : List ℕ} {«end» : ℕ} (k : Backing p s «end») where
-  step_back : (at : ℕ) → at < length s → last_from p (suc at) (drop (suc at) s) ≡ Nowhere → last_from p at (drop at s) ≡ pick (p (drop at s)) (At at) Nowhere
+  step_back : (at : ℕ) → at < length s → last_from p (suc at) (drop (suc at) s) ≡ None → last_from p at (drop at s) ≡ pick (p (drop at s)) (Some at) None
   step_back at h e = rw (drop-cons s at 0 h, last_cons, e)
 
-  pub backing_ends : «end» ≤ 0 → Nowhere ≡ last_where p s
+  pub backing_ends : «end» ≤ 0 → None ≡ last_where p s
   backing_ends h = let z : «end» ≡ 0 = omega arith in sym (rw z at k.none)
 
   module _ (h : 0 < «end») where
-    before : last_from p («end» - 1) (drop («end» - 1) s) ≡ pick (p (drop («end» - 1) s)) (At («end» - 1)) Nowhere
+    before : last_from p («end» - 1) (drop («end» - 1) s) ≡ pick (p (drop («end» - 1) s)) (Some («end» - 1)) None
     before =
         let up : «end» ≡ suc («end» - 1) = omega arith in
         step_back («end» - 1) (let q = k.inside in omega arith) (rw up at k.none)
 
-    pub backing_found : p (drop («end» - 1) s) ≡ true → At («end» - 1) ≡ last_where p s
+    pub backing_found : p (drop («end» - 1) s) ≡ true → Some («end» - 1) ≡ last_where p s
     backing_found e = sym (last_stays p s («end» - 1) («end» - 1) (let q = k.inside in omega arith) (rw (before, e)))
 
     pub backing_more : p (drop («end» - 1) s) ≡ false → Backing p s («end» - 1)
     backing_more e = record { inside = let q = k.inside in omega arith; none = rw (before, e) }
 
 -- A place that is found lies in the text.
-first_from_inside : (p : List ℕ → Bool) (at : ℕ) (l : List ℕ) {i : ℕ} → first_from p at l ≡ At i → i < at + length l
+first_from_inside : (p : List ℕ → Bool) (at : ℕ) (l : List ℕ) {i : ℕ} → first_from p at l ≡ Some i → i < at + length l
 unfolding first_from
 first_from_inside p at [] e = absurd (let z : ◌≡◌ {A = ℕ} 0 1 = cc in omega arith)
 first_from_inside p at (x ∷ l) {i} e = go (p (x ∷ l)) e (first_from_inside p (suc at) l)
   where
-    go : (b : Bool) → pick b (At at) (first_from p (suc at) l) ≡ At i → (first_from p (suc at) l ≡ At i → i < suc at + length l) → i < at + suc (length l)
+    go : (b : Bool) → pick b (Some at) (first_from p (suc at) l) ≡ Some i → (first_from p (suc at) l ≡ Some i → i < suc at + length l) → i < at + suc (length l)
     go true f again = let q : at ≡ i = cc in omega arith
     go false f again = let h = again f in omega arith
 
-pub first_inside : (p : List ℕ → Bool) (s : List ℕ) {i : ℕ} → first_where p s ≡ At i → i < length s
+pub first_inside : (p : List ℕ → Bool) (s : List ℕ) {i : ℕ} → first_where p s ≡ Some i → i < length s
 first_inside p s e = let h = first_from_inside p 0 s e in omega arith
 
-last_from_inside : (p : List ℕ → Bool) (at : ℕ) (l : List ℕ) {i : ℕ} → last_from p at l ≡ At i → i < at + length l
+last_from_inside : (p : List ℕ → Bool) (at : ℕ) (l : List ℕ) {i : ℕ} → last_from p at l ≡ Some i → i < at + length l
 unfolding last_from
 last_from_inside p at [] e = absurd (let z : ◌≡◌ {A = ℕ} 0 1 = cc in omega arith)
 last_from_inside p at (x ∷ l) {i} e = go (last_from p (suc at) l) e (last_from_inside p (suc at) l)
   where
-    here : (b : Bool) → pick b (At at) Nowhere ≡ At i → at ≡ i
+    here : (b : Bool) → pick b (Some at) None ≡ Some i → at ≡ i
     here true f = cc
     here false f = absurd (let z : ◌≡◌ {A = ℕ} 0 1 = cc in omega arith)
 
-    go : (o : Place) → or_else o (pick (p (x ∷ l)) (At at) Nowhere) ≡ At i → (o ≡ At i → i < suc at + length l) → i < at + suc (length l)
-    go (At j) f again = let h = again f in omega arith
-    go Nowhere f again = let q = here (p (x ∷ l)) f in omega arith
+    go : (o : Option ℕ) → or_else o (pick (p (x ∷ l)) (Some at) None) ≡ Some i → (o ≡ Some i → i < suc at + length l) → i < at + suc (length l)
+    go (Some j) f again = let h = again f in omega arith
+    go None f again = let q = here (p (x ∷ l)) f in omega arith
 
-pub last_inside : (p : List ℕ → Bool) (s : List ℕ) {i : ℕ} → last_where p s ≡ At i → i < length s
+pub last_inside : (p : List ℕ → Bool) (s : List ℕ) {i : ℕ} → last_where p s ≡ Some i → i < length s
 last_inside p s e = let h = last_from_inside p 0 s e in omega arith
 
 -- One byte.
@@ -131,14 +130,14 @@ module _ {b : ℕ} {s : List ℕ} {«end» : ℕ} (k : Backing (starts b) s «en
   one_less : Backing (starts b) s («end» - 1)
   one_less = backing_more k h (byte_other b s («end» - 1) (omega (arith, k.inside)) n)
 
-  pub second_ends : «end» - 1 ≡ 0 → Nowhere ≡ last_where (starts b) s
+  pub second_ends : «end» - 1 ≡ 0 → None ≡ last_where (starts b) s
   second_ends z = backing_ends one_less (omega arith)
 
   module _ (z : «end» - 1 ≡ 0 → ⊥) where
     some_left : 0 < «end» - 1
     some_left = omega arith
 
-    pub second_found : get_or s («end» - 1 - 1) 0 ≡ b → At («end» - 1 - 1) ≡ last_where (starts b) s
+    pub second_found : get_or s («end» - 1 - 1) 0 ≡ b → Some («end» - 1 - 1) ≡ last_where (starts b) s
     second_found e = backing_found one_less some_left (byte_here b s («end» - 1 - 1) (omega (arith, k.inside)) e)
 
     pub second_more : (get_or s («end» - 1 - 1) 0 ≡ b → ⊥) → Backing (starts b) s («end» - 1 - 1)
@@ -166,28 +165,28 @@ no_pair a b (x ∷ []) h = both_false (eqb x a)
 no_pair a b (x ∷ (y ∷ l)) h = absurd (omega arith)
 
 module _ (a b : ℕ) {s : List ℕ} {at : ℕ} (k : Seeking (starts_pair a b) s at) where
-  pub pair_ends : length s ≤ at + 1 → Nowhere ≡ first_where (starts_pair a b) s
+  pub pair_ends : length s ≤ at + 1 → None ≡ first_where (starts_pair a b) s
   pair_ends h = go (le_or_lt (length s) at)
     where
-      go : (length s ≤ at) ⊎ (at < length s) → Nowhere ≡ first_where (starts_pair a b) s
+      go : (length s ≤ at) ⊎ (at < length s) → None ≡ first_where (starts_pair a b) s
       go (inl e) = seeking_ends k e
       go (inr l) = seeking_ends (seeking_more k l (no_pair a b (drop at s) (rw length-drop (omega arith)))) h
 
   pub pair_more : at + 1 < length s → starts_pair a b (drop at s) ≡ false → Seeking (starts_pair a b) s (at + 1)
   pair_more h e = seeking_more k (omega arith) e
 
-  pub pair_found : at + 1 < length s → starts_pair a b (drop at s) ≡ true → At at ≡ first_where (starts_pair a b) s
+  pub pair_found : at + 1 < length s → starts_pair a b (drop at s) ≡ true → Some at ≡ first_where (starts_pair a b) s
   pair_found h e = seeking_found k (omega arith) e
 
 pub ruleset pairing = (seeking_starts, pair_ends, pair_more, pair_found, pair_here, pair_first_other, pair_second_other, rules)
 
 -- A byte that is looked for from a place on.
 module _ (b : ℕ) (text : List ℕ) (at : ℕ) where
-  pub from_here : {p : Place} → p ≡ first_where (starts b) (between text at (length text)) → p ≡ first_where (starts b) (drop at text)
+  pub from_here : {p : Option ℕ} → p ≡ first_where (starts b) (between text at (length text)) → p ≡ first_where (starts b) (drop at text)
   from_here e = rw (take_rest text at) at e
 
-  pub from_inside : at ≤ length text → {p : Place} → p ≡ first_where (starts b) (between text at (length text)) →
-      {n : ℕ} → p ≡ At n → at + n < length text
+  pub from_inside : at ≤ length text → {p : Option ℕ} → p ≡ first_where (starts b) (between text at (length text)) →
+      {n : ℕ} → p ≡ Some n → at + n < length text
   from_inside i e f =
       let j = first_inside (starts b) (drop at text) (sym (from_here e) ∙ f) in omega (arith, length-drop at text)
 
@@ -257,5 +256,5 @@ module _ {s t : List ℕ} {i : ℕ} (k : Matching s t i) where
 pub ruleset matching = (matching_starts, matching_uneven, matching_ends, matching_differs, matching_more, matching_inside, rules)
 
 -- The number of a place: one more than the place.
-pub place_fits : {o : Place} {i : ℕ} → o ≡ At i → place_number o < 2 ^ 64 → Fits w64 (i + 1)
+pub place_fits : {o : Option ℕ} {i : ℕ} → o ≡ Some i → place_number o < 2 ^ 64 → Fits w64 (i + 1)
 place_fits e h = let l = rw e at h in omega arith

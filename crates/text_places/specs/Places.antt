@@ -1,36 +1,34 @@
 -- Places in a text: the first and the last at which something stands, and whether two texts are the same.
-use Rattle.std.specs.Prelude.{List, [], ◌∷◌, Bool, true, false, ℕ, suc, ◌+◌, eqb}
+use Rattle.std.specs.Prelude.{List, [], ◌∷◌, Bool, true, false, ℕ, suc, ◌+◌, eqb, Option, Some, None}
 use Rattle.ground.specs.Choice.{pick, both}
-use Rattle.text_places.specs.declared.find.Place.{Place}
-use Rattle.text_places.specs.declared.find.Place.TheVariants.{At, Nowhere}
 
 -- the first place at which `p` holds of the text from there on; places count from `at`
-unfoldable pub first_from : (List ℕ → Bool) → ℕ → List ℕ → Place
-first_from p at [] = Nowhere
+unfoldable pub first_from : (List ℕ → Bool) → ℕ → List ℕ → Option ℕ
+first_from p at [] = None
 first_from p at (x ∷ s) =
     let later = first_from p (suc at) s in
-    pick (p (x ∷ s)) (At at) later
+    pick (p (x ∷ s)) (Some at) later
 
-abbrev pub first_where : (List ℕ → Bool) → List ℕ → Place
+abbrev pub first_where : (List ℕ → Bool) → List ℕ → Option ℕ
 first_where p s = first_from p 0 s
 
 -- the first of two answers that is a place
-abbrev pub or_else : Place → Place → Place
-or_else (At i) b = At i
-or_else Nowhere b = b
+abbrev pub or_else : Option ℕ → Option ℕ → Option ℕ
+or_else (Some i) b = Some i
+or_else None b = b
 
 -- the last such place: one later in the text, else this one
-unfoldable pub last_from : (List ℕ → Bool) → ℕ → List ℕ → Place
-last_from p at [] = Nowhere
-last_from p at (x ∷ s) = or_else (last_from p (suc at) s) (pick (p (x ∷ s)) (At at) Nowhere)
+unfoldable pub last_from : (List ℕ → Bool) → ℕ → List ℕ → Option ℕ
+last_from p at [] = None
+last_from p at (x ∷ s) = or_else (last_from p (suc at) s) (pick (p (x ∷ s)) (Some at) None)
 
-abbrev pub last_where : (List ℕ → Bool) → List ℕ → Place
+abbrev pub last_where : (List ℕ → Bool) → List ℕ → Option ℕ
 last_where p s = last_from p 0 s
 
 -- a place as a number, counted from 1; 0 for none
-abbrev pub place_number : Place → ℕ
-place_number (At i) = i + 1
-place_number Nowhere = 0
+abbrev pub place_number : Option ℕ → ℕ
+place_number (Some i) = i + 1
+place_number None = 0
 
 -- the byte `b` stands at the head
 abbrev pub starts : ℕ → List ℕ → Bool

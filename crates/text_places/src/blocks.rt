@@ -20,10 +20,8 @@ fn block_holds(s: &[u8], at: usize, b: u8) -> bool
     ensures { result ≡ false → (k : ℕ) → k < 16 → get_or s.now (at + k) 0 ≡ b → ⊥ }
 {
     let mut holds = false;
-    let mut i = 0;
-    while i < 16 {
+    for i in 0..16 {
         holds = marked(holds, s[at + i], b);
-        i += 1;
     }
     holds
 }

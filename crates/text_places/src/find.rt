@@ -4,52 +4,43 @@ ghost use Rattle.text_places.specs.Places.{first_where, last_where, starts, star
 
 use crate::blocks::after_blocks;
 
-// A place in a text, or none.
-#[derive(Clone, Copy)]
-pub enum Place {
-    At(usize),
-    Nowhere,
-}
-
 // The first place of a byte.
-pub fn first_byte(s: &[u8], b: u8) -> Place
+pub fn first_byte(s: &[u8], b: u8) -> Option<usize>
     ensures { result ≡ first_where (starts b) s.now }
 {
-    let mut at = after_blocks(s, 0, b);
-    while at < s.len() {
+    for at in after_blocks(s, 0, b)..s.len() {
         if s[at] == b {
-            return Place::At(at);
+            return Some(at);
         }
-        at += 1;
     }
-    Place::Nowhere
+    None
 }
 
 // The last place of a byte.
-pub fn last_byte(s: &[u8], b: u8) -> Place
+pub fn last_byte(s: &[u8], b: u8) -> Option<usize>
     ensures { result ≡ last_where (starts b) s.now }
 {
     let mut end = s.len();
     while 0 < end {
         let at = end - 1;
         if s[at] == b {
-            return Place::At(at);
+            return Some(at);
         }
         if at == 0 {
-            return Place::Nowhere;
+            return None;
         }
         // two bytes a turn: of a loop that can end at one place only the compiler counts what follows along with it
         let before = at - 1;
         if s[before] == b {
-            return Place::At(before);
+            return Some(before);
         }
         end = before;
     }
-    Place::Nowhere
+    None
 }
 
 // The first place of two bytes, one after the other.
-pub fn first_pair(s: &[u8], a: u8, b: u8) -> Place
+pub fn first_pair(s: &[u8], a: u8, b: u8) -> Option<usize>
     ensures { result ≡ first_where (starts_pair a b) s.now }
 {
     let mut at = after_blocks(s, 0, a);
@@ -62,9 +53,9 @@ pub fn first_pair(s: &[u8], a: u8, b: u8) -> Place
             at += 1;
             continue;
         }
-        return Place::At(at);
+        return Some(at);
     }
-    Place::Nowhere
+    None
 }
 
 // Whether two texts have the same bytes. Either may be a fixed byte string. Lengths are compared first.
@@ -74,12 +65,10 @@ pub fn same_bytes(s: &[u8], t: &[u8]) -> bool
     if s.len() != t.len() {
         return false;
     }
-    let mut i = 0;
-    while i < s.len() {
+    for i in 0..s.len() {
         if s[i] != t[i] {
             return false;
         }
-        i += 1;
     }
     true
 }

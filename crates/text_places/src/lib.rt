@@ -10,7 +10,7 @@ mod same;
 mod spans;
 
 pub use blocks::marked;
-pub use find::{Place, first_byte, first_pair, last_byte, same_bytes};
+pub use find::{first_byte, first_pair, last_byte, same_bytes};
 pub use lines::{NextLine, next_line, next_start};
 pub use numbers::bit_number;
 pub use same::{also_differs, same_text};

@@ -7,13 +7,10 @@ use crate::blocks::after_blocks;
 
 // A line without its LF and without all CR at its end: where it starts, where it ends, and where the following one starts.
 #[derive(Clone, Copy)]
-pub enum NextLine {
-    Line {
-        start: usize,
-        end: usize,
-        next: usize,
-    },
-    NoLine,
+pub struct NextLine {
+    pub start: usize,
+    pub end: usize,
+    pub next: usize,
 }
 
 // The place of the first LF from a place on, or the end of the text where there is none.
@@ -68,24 +65,24 @@ fn cr_end(l: &[u8]) -> usize
 }
 
 // The line that starts at a place of a text.
-pub fn next_line(s: &[u8], at: usize) -> NextLine
+pub fn next_line(s: &[u8], at: usize) -> Option<NextLine>
     ensures { result ≡ next_line s.now at }
 {
     if s.len() <= at {
-        return NextLine::NoLine;
+        return None;
     }
     let lf = lf_from(s, at);
     let length = cr_end(&s[at..lf]);
     if lf < s.len() {
-        return NextLine::Line {
+        return Some(NextLine {
             start: at,
             end: at + length,
             next: lf + 1,
-        };
+        });
     }
-    NextLine::Line {
+    Some(NextLine {
         start: at,
         end: at + length,
         next: lf,
-    }
+    })
 }

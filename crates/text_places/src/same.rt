@@ -21,10 +21,8 @@ fn block_differs(s: &[u8], t: &[u8], at: usize, size: usize) -> bool
     ensures { result ≡ differs s.now t.now at size }
 {
     let mut before = false;
-    let mut i = 0;
-    while i < size {
+    for i in 0..size {
         before = also_differs(before, s[at + i], t[at + i]);
-        i += 1;
     }
     before
 }

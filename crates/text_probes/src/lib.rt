@@ -9,17 +9,17 @@ ghost use Rattle.text_places.specs.Places.{same, place_number};
 ghost use Rattle.text_places.specs.Inner.NextLine.{next_line};
 ghost use Rattle.text_probes.specs.Answers.{sequence_numbers, check_numbers, trim_numbers, next_line_numbers, byte_numbers};
 
-use text_places::{NextLine, Place};
-use text_utf8::{Check, Sequence};
+use text_places::NextLine;
+use text_utf8::{Broken, Sequence};
 
 // A place as a number, counted from 1.
-fn place_number(p: Place) -> u64
+fn place_number(p: Option<usize>) -> u64
     requires { place_number p < 2 ^ 64 }
     ensures { result ≡ place_number p }
 {
     match p {
-        Place::At(i) => i as u64 + 1,
-        Place::Nowhere => 0,
+        Some(i) => i as u64 + 1,
+        None => 0,
     }
 }
 
@@ -45,10 +45,10 @@ pub extern "C" fn clumarief_probe_check(text: &[u8], answer: &mut [u64; 3])
     ensures { answer.new ≡ check_numbers (check_of text.now) }
 {
     match text_utf8::check_text(text) {
-        Check::Valid => {
+        Ok(()) => {
             *answer = [0, 0, 0];
         }
-        Check::Broken { at, length } => {
+        Err(Broken { at, length }) => {
             *answer = [1, at as u64, length as u64];
         }
     }
@@ -85,10 +85,10 @@ pub extern "C" fn clumarief_probe_line(text: &[u8], at: usize, answer: &mut [u64
     ensures { answer.new ≡ next_line_numbers (next_line text.now at) }
 {
     match text_places::next_line(text, at) {
-        NextLine::Line { start, end, next } => {
+        Some(NextLine { start, end, next }) => {
             *answer = [1, start as u64, end as u64, next as u64];
         }
-        NextLine::NoLine => {
+        None => {
             *answer = [0, 0, 0, 0];
         }
     }

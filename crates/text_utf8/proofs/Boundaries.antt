@@ -1,5 +1,6 @@
 -- UTF-8 finds its own characters: a well-formed text may be cut before every octet that is no UTF8-tail, and both parts are well formed.
 -- What is made of well-formed texts. Assumes nothing.
+use Rattle.std.specs.Prelude.{Ok}
 use mathlib.Core.Path.{◌≡◌, refl, sym, ◌∙◌, ap}
 use mathlib.Core.Bool.{true}
 use mathlib.Core.List.{List, [], ◌∷◌, ◌++◌, map, append-nil, append_assoc, map-append}
@@ -15,7 +16,6 @@ use Rattle.ground.specs.Put.{between}
 use Rattle.ground.proofs.Cases.{within_yes, within_both}
 use Rattle.text_utf8.specs.declared.sequence.Sequence.{Sequence}
 use Rattle.text_utf8.specs.declared.sequence.Sequence.TheVariants.{End, Good, Bad}
-use Rattle.text_utf8.specs.declared.check.Check.TheVariants.{Valid}
 use Rattle.text_utf8.specs.Grammar.{Utf8Char, Utf8Octets}
 use Rattle.text_utf8.specs.Utf8.{sequence_of, pieces, check_from, check_of}
 use Rattle.text_utf8.proofs.Pieces.{pieces_good}
@@ -172,7 +172,7 @@ module _ {s : List ℕ} (o : Utf8Octets s) where
       (cut (drop_octets i f) (take (j - i) (drop i s)) (drop (j - i) (drop i s)) k (sym (take-append-drop (j - i) (drop i s)))).0
 
 -- the rest of a well-formed text after a sequence that is read at its head
-check_any : (at k : ℕ) (ps : List Sequence) → check_from at ps ≡ Valid → check_from k ps ≡ Valid
+check_any : (at k : ℕ) (ps : List Sequence) → check_from at ps ≡ Ok tt → check_from k ps ≡ Ok tt
 unfolding check_from
 check_any at k [] e = refl
 check_any at k (End ∷ ps) e = refl
@@ -182,8 +182,8 @@ check_any at k (Bad m ∷ ps) e = absurd (let z : ◌≡◌ {A = ℕ} 0 1 = cc i
 pub good_rest : (l : List ℕ) {d m : ℕ} → sequence_of l ≡ Good d m → Utf8Octets l → Utf8Octets (drop m l)
 unfolding check_from
 good_rest l {d} {m} e o =
-    let whole : check_of l ≡ Valid = (valid_iff l).1 o in
-    let rest : check_from (0 + m) (pieces (drop m l)) ≡ Valid = rw (pieces_good l e) at whole in
+    let whole : check_of l ≡ (Ok tt) = (valid_iff l).1 o in
+    let rest : check_from (0 + m) (pieces (drop m l)) ≡ (Ok tt) = rw (pieces_good l e) at whole in
     (valid_iff (drop m l)).0 (check_any (0 + m) 0 (pieces (drop m l)) rest)
 
 -- Such places: the end,

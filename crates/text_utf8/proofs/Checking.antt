@@ -1,4 +1,5 @@
 -- The check of a whole text: what is found from here on is what is found of the whole. Assumes nothing.
+use Rattle.std.specs.Prelude.{Result, Ok, Err}
 use mathlib.Core.Path.{◌≡◌, refl, sym, ◌∙◌, ap}
 use mathlib.Core.Bool.{true, false}
 use mathlib.Core.List.{List}
@@ -11,12 +12,11 @@ use borrow.Author.Rules.{rules}
 use Rattle.ground.proofs.Cases.{le_or_lt, clash}
 use Rattle.text_utf8.specs.declared.sequence.Sequence.{Sequence}
 use Rattle.text_utf8.specs.declared.sequence.Sequence.TheVariants.{Good}
-use Rattle.text_utf8.specs.declared.check.Check.{Check}
-use Rattle.text_utf8.specs.declared.check.Check.TheVariants.{Valid, Broken}
-use Rattle.text_utf8.specs.Utf8.{sequence_of, pieces, check_from, check_of, is_valid, is_utf8}
+use Rattle.text_utf8.specs.Utf8.{sequence_of, pieces, check_from, check_of, is_valid, is_utf8, broken}
 use Rattle.text_utf8.specs.Inner.Runs.{AsciiTo}
 use Rattle.text_utf8.proofs.Sequences.{sequence_ascii}
 use Rattle.text_utf8.proofs.Pieces.{pieces_past, pieces_on, good_inside}
+use Rattle.text_utf8.specs.declared.check.Broken.{Broken}
 
 pub record Checked (s : List ℕ) (at : ℕ) : Type 0 where
   pub inside : at ≤ length s
@@ -26,7 +26,7 @@ pub checked_none : (s : List ℕ) → Checked s 0
 checked_none s = record { inside = omega arith; decides = refl }
 
 module _ {s : List ℕ} {at : ℕ} (c : Checked s at) where
-  pub checked_all : length s ≤ at → Valid ≡ check_of s
+  pub checked_all : length s ≤ at → Ok tt ≡ check_of s
   unfolding check_from
   checked_all h = rw (pieces_past s at h) at c.decides
 
@@ -68,21 +68,21 @@ module _ {s : List ℕ} {at to : ℕ} (c : Checked s at) (h : at < length s) (b 
   runs_fall = omega (arith, a.goes)
 
 -- Whether a text is UTF-8, by what its check says.
-module _ (s : List ℕ) {t : Check} (e : t ≡ check_of s) where
-  pub utf8_yes : t ≡ Valid → true ≡ is_utf8 s
+module _ (s : List ℕ) {t : Result Unit Broken} (e : t ≡ check_of s) where
+  pub utf8_yes : t ≡ Ok tt → true ≡ is_utf8 s
   utf8_yes f = ap is_valid (sym f ∙ e)
 
-  pub utf8_no : {at m : ℕ} → t ≡ Broken at m → false ≡ is_utf8 s
+  pub utf8_no : {at m : ℕ} → t ≡ Err (broken at m) → false ≡ is_utf8 s
   utf8_no f = ap is_valid (sym f ∙ e)
 
 pub ruleset validity = (utf8_yes, utf8_no, rules)
 
-pub valid_told : (s : List ℕ) → is_utf8 s ≡ true → check_of s ≡ Valid
+pub valid_told : (s : List ℕ) → is_utf8 s ≡ true → check_of s ≡ Ok tt
 valid_told s e = go (check_of s) e
   where
-    go : (o : Check) → is_valid o ≡ true → o ≡ Valid
-    go Valid e = refl
-    go (Broken at m) e = clash e refl
+    go : (o : Result Unit Broken) → is_valid o ≡ true → o ≡ Ok tt
+    go (Ok _) e = refl
+    go (Err r) e = clash e refl
 
 -- ASCII is UTF-8, and so is each part of it
 pub ascii_utf8 : (s : List ℕ) → AsciiTo s 0 (length s) → true ≡ is_utf8 s

@@ -1,4 +1,5 @@
 -- The check accepts exactly the texts of RFC 3629's grammar. Assumes nothing.
+use Rattle.std.specs.Prelude.{Ok, Err}
 use mathlib.Core.Path.{◌≡◌, refl, ◌∙◌, ap}
 use mathlib.Core.Bool.{Bool, true, false}
 use mathlib.Core.List.{List, [], ◌∷◌, ◌++◌}
@@ -14,12 +15,13 @@ use Rattle.ground.specs.Choice.{pick, within}
 use Rattle.ground.proofs.Cases.{within_both, within_high, clash, le_or_lt}
 use Rattle.text_utf8.specs.declared.sequence.Sequence.{Sequence}
 use Rattle.text_utf8.specs.declared.sequence.Sequence.TheVariants.{End, Good, Bad}
-use Rattle.text_utf8.specs.declared.check.Check.TheVariants.{Valid, Broken}
 use Rattle.text_utf8.specs.Grammar.{Breaks, Utf8Char, Utf8Octets}
 use Rattle.text_utf8.proofs.Sequences.{first_good, second_good, went_on, tails_fit, end_empty, good_fits, sequence_end}
 use Rattle.text_utf8.proofs.Pieces.{pieces_none, pieces_good, pieces_bad}
-use Rattle.text_utf8.specs.Utf8.{Lead, lead, lead_of, tails, after_lead, sequence_of, pieces, check_from, check_of, is_valid, is_utf8}
+use Rattle.text_utf8.specs.Utf8.{Lead, lead, lead_of, tails, after_lead, sequence_of, pieces, check_from, check_of, is_valid, is_utf8, broken}
 use Rattle.text_utf8.proofs.Checking.{valid_told}
+use Rattle.ground.proofs.Answered.{err_part}
+use Rattle.text_utf8.specs.declared.check.Broken.{Broken}
 
 -- octets after the first: as many as are to come, the next between two bounds and all later ones UTF8-tail
 data Tails : ℕ → ℕ → ℕ → List ℕ → Type 0 where
@@ -181,12 +183,12 @@ no_octets : (s : List ℕ) → length s ≤ 0 → Utf8Octets s
 no_octets [] h = none
 no_octets (x ∷ s) h = absurd (omega arith)
 
-octets_of : (n : ℕ) (s : List ℕ) (at : ℕ) → length s ≤ n → check_from at (pieces s) ≡ Valid → Utf8Octets s
+octets_of : (n : ℕ) (s : List ℕ) (at : ℕ) → length s ≤ n → check_from at (pieces s) ≡ Ok tt → Utf8Octets s
 unfolding check_from
 octets_of zero s at h e = no_octets s h
 octets_of (suc n) s at h e = go (sequence_of s) refl (λ m j. octets_of n m j)
   where
-    go : (t : Sequence) → sequence_of s ≡ t → ((m : List ℕ) (j : ℕ) → length m ≤ n → check_from j (pieces m) ≡ Valid → Utf8Octets m) → Utf8Octets s
+    go : (t : Sequence) → sequence_of s ≡ t → ((m : List ℕ) (j : ℕ) → length m ≤ n → check_from j (pieces m) ≡ Ok tt → Utf8Octets m) → Utf8Octets s
     go End q again = no_octets s (let z = end_empty s q in omega arith)
     go (Bad m) q again = absurd (let b = rw (pieces_bad s q) at e in let z : ◌≡◌ {A = ℕ} 0 1 = cc in omega arith)
     go (Good d m) q again =
@@ -194,7 +196,7 @@ octets_of (suc n) s at h e = go (sequence_of s) refl (λ m j. octets_of n m j)
         let rest : Utf8Octets (drop m s) = again (drop m s) (at + m) (rw length-drop (omega arith)) (rw (pieces_good s q) at e) in
         rw take-append-drop at (more (good_is_char s q) rest)
 
-accepted : {s : List ℕ} → Utf8Octets s → (at : ℕ) → check_from at (pieces s) ≡ Valid
+accepted : {s : List ℕ} → Utf8Octets s → (at : ℕ) → check_from at (pieces s) ≡ Ok tt
 unfolding check_from
 accepted none at = rw (pieces_none [] refl)
 accepted (more {a} {b} c st) at =
@@ -202,7 +204,7 @@ accepted (more {a} {b} c st) at =
     rw (pieces_good (a ++ b) e, drop-append_seam a b) (accepted st (at + length a))
 
 -- RFC 3629: a text is accepted exactly where it is UTF8-octets
-pub valid_iff : (s : List ℕ) → (check_of s ≡ Valid) ↔ Utf8Octets s
+pub valid_iff : (s : List ℕ) → (check_of s ≡ Ok tt) ↔ Utf8Octets s
 valid_iff s = (octets_of (length s) s 0 (omega arith), λ o. accepted o 0)
 
 pub utf8_octets : (s : List ℕ) → is_utf8 s ≡ true → Utf8Octets s
@@ -216,19 +218,19 @@ record BreaksOn (s : List ℕ) (k m : ℕ) : Type 0 where
   before : Utf8Octets (take k s)
   here : sequence_of (drop k s) ≡ Bad m
 
-breaks_of : (n : ℕ) (s : List ℕ) (at : ℕ) {p m : ℕ} → length s ≤ n → check_from at (pieces s) ≡ Broken p m → (k : ℕ) × (p ≡ at + k) × BreaksOn s k m
+breaks_of : (n : ℕ) (s : List ℕ) (at : ℕ) {p m : ℕ} → length s ≤ n → check_from at (pieces s) ≡ Err (broken p m) → (k : ℕ) × (p ≡ at + k) × BreaksOn s k m
 unfolding check_from
 breaks_of zero s at h e = absurd (let b = rw (pieces_none s (omega arith)) at e in let z : ◌≡◌ {A = ℕ} 0 1 = cc in omega arith)
 breaks_of (suc n) s at {p} {m} h e = go (sequence_of s) refl (λ t j. breaks_of n t j)
   where
     go : (t : Sequence) → sequence_of s ≡ t →
-        ((t : List ℕ) (j : ℕ) → length t ≤ n → check_from j (pieces t) ≡ Broken p m → (k : ℕ) × (p ≡ j + k) × BreaksOn t k m) →
+        ((t : List ℕ) (j : ℕ) → length t ≤ n → check_from j (pieces t) ≡ Err (broken p m) → (k : ℕ) × (p ≡ j + k) × BreaksOn t k m) →
         (k : ℕ) × (p ≡ at + k) × BreaksOn s k m
     go End q again = absurd (let b = rw (pieces_none s (end_empty s q)) at e in let z : ◌≡◌ {A = ℕ} 0 1 = cc in omega arith)
     go (Bad i) q again =
         let b = rw (pieces_bad s q) at e in
-        let place : at ≡ p = cc in
-        let size : i ≡ m = cc in
+        let place : at ≡ p = err_part (λ (r : Broken). r.at) b in
+        let size : i ≡ m = err_part (λ (r : Broken). r.length) b in
         (0, omega arith, record { before = none; here = rw (← size) q })
     go (Good d i) q again =
         let f = good_fits s q in
@@ -249,14 +251,14 @@ breaks_there s k m b = record { inside = some (le_or_lt (length s) k); before = 
         let z : ◌≡◌ {A = ℕ} 0 1 = cc in omega arith
 
 -- RFC 3629: where a text is not accepted, it breaks at the place that is given
-pub broken_breaks : (s : List ℕ) {at m : ℕ} → check_of s ≡ Broken at m → Breaks s at
+pub broken_breaks : (s : List ℕ) {at m : ℕ} → check_of s ≡ Err (broken at m) → Breaks s at
 broken_breaks s {at} {m} e =
     let (k, place, b) = breaks_of (length s) s 0 (omega arith) e in
     let here : at ≡ k = omega arith in
     rw here (breaks_there s k m b)
 
 -- and no good sequence stands there
-pub broken_sequence : (s : List ℕ) {at m : ℕ} → check_of s ≡ Broken at m → sequence_of (drop at s) ≡ Bad m
+pub broken_sequence : (s : List ℕ) {at m : ℕ} → check_of s ≡ Err (broken at m) → sequence_of (drop at s) ≡ Bad m
 broken_sequence s {at} {m} e =
     let (k, place, b) = breaks_of (length s) s 0 (omega arith) e in
     let here : at ≡ k = omega arith in

@@ -1,4 +1,5 @@
 -- Document 01, refusal 2: "length 1 to 3, or 0 if cut short". Assumes nothing.
+use Rattle.std.specs.Prelude.{Err}
 use mathlib.Core.Path.{◌≡◌}
 use mathlib.Core.Bool.{Bool, true, false}
 use mathlib.Core.List.{List, [], ◌∷◌}
@@ -8,8 +9,9 @@ use lib.Dec.{eqb}
 use Rattle.ground.specs.Choice.{pick, within}
 use Rattle.text_utf8.specs.declared.sequence.Sequence.{Sequence}
 use Rattle.text_utf8.specs.declared.sequence.Sequence.TheVariants.{End, Good, Bad}
-use Rattle.text_utf8.specs.declared.check.Check.TheVariants.{Broken}
-use Rattle.text_utf8.specs.Utf8.{Lead, lead_of, tails, after_lead, sequence_of, beyond, pieces_from, check_from, check_of}
+use Rattle.text_utf8.specs.Utf8.{Lead, lead_of, tails, after_lead, sequence_of, beyond, pieces_from, check_from, check_of, broken}
+use Rattle.ground.proofs.Answered.{err_part}
+use Rattle.text_utf8.specs.declared.check.Broken.{Broken}
 
 -- a bad sequence leaves a start of three octets at most
 Short : Sequence → Type 0
@@ -55,17 +57,17 @@ unfolding sequence_of Short
 sequence_short [] = tt
 sequence_short (x ∷ s) = after_short (lead_of x) x s (lead_most x)
 
-check_short : (n at : ℕ) (s : List ℕ) {p m : ℕ} → check_from at (pieces_from n s) ≡ Broken p m → m ≤ 3
+check_short : (n at : ℕ) (s : List ℕ) {p m : ℕ} → check_from at (pieces_from n s) ≡ Err (broken p m) → m ≤ 3
 unfolding pieces_from check_from Short
 check_short n at [] e = absurd (let z : ◌≡◌ {A = ℕ} 0 1 = cc in omega arith)
 check_short zero at (x ∷ s) {p} {m} e = go (sequence_of (x ∷ s)) (sequence_short (x ∷ s)) (λ k j. check_short k j s) e
   where
-    go : (t : Sequence) → Short t → ((k j : ℕ) → check_from j (pieces_from k s) ≡ Broken p m → m ≤ 3) → check_from at (t ∷ pieces_from (beyond t) s) ≡ Broken p m → m ≤ 3
+    go : (t : Sequence) → Short t → ((k j : ℕ) → check_from j (pieces_from k s) ≡ Err (broken p m) → m ≤ 3) → check_from at (t ∷ pieces_from (beyond t) s) ≡ Err (broken p m) → m ≤ 3
     go End h again f = absurd (let z : ◌≡◌ {A = ℕ} 0 1 = cc in omega arith)
     go (Good code k) h again f = again (beyond (Good code k)) (at + k) f
-    go (Bad k) h again f = let same : k ≡ m = cc in omega arith
+    go (Bad k) h again f = let same : k ≡ m = err_part (λ (r : Broken). r.length) f in omega arith
 check_short (suc n) at (x ∷ s) e = check_short n at s e
 
 -- the length that is told of a text that is not UTF-8
-pub broken_short : (s : List ℕ) {at m : ℕ} → check_of s ≡ Broken at m → m ≤ 3
+pub broken_short : (s : List ℕ) {at m : ℕ} → check_of s ≡ Err (broken at m) → m ≤ 3
 broken_short s e = check_short 0 0 s e

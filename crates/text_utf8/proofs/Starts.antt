@@ -1,5 +1,6 @@
 -- Document 01, refusal 2, by RFC 3629's grammar: "the length is the longest start of a good sequence, at least 1; 0 if the text ends in
 -- one". Assumes nothing.
+use Rattle.std.specs.Prelude.{Err}
 use mathlib.Core.Path.{◌≡◌, refl, sym, ◌∙◌, ap, subst}
 use mathlib.Core.Bool.{Bool, true, false}
 use mathlib.Core.List.{List, [], ◌∷◌, ◌++◌, append-nil}
@@ -14,9 +15,8 @@ use Rattle.ground.specs.Choice.{pick, within}
 use Rattle.ground.proofs.Cases.{within_yes}
 use Rattle.text_utf8.specs.declared.sequence.Sequence.{Sequence}
 use Rattle.text_utf8.specs.declared.sequence.Sequence.TheVariants.{Good, Bad}
-use Rattle.text_utf8.specs.declared.check.Check.TheVariants.{Broken}
 use Rattle.text_utf8.specs.Grammar.{Utf8Char, StartsChar, LongestStart}
-use Rattle.text_utf8.specs.Utf8.{Lead, lead_of, tails, after_lead, sequence_of, check_of}
+use Rattle.text_utf8.specs.Utf8.{Lead, lead_of, tails, after_lead, sequence_of, check_of, broken}
 use Rattle.text_utf8.proofs.Grammatical.{good_is_char, char_reads, broken_sequence}
 use Rattle.text_utf8.proofs.Sequences.{sequence_end}
 
@@ -225,7 +225,7 @@ module _ (x : ℕ) (s : List ℕ) (m : ℕ) where
           by_end h (tails_end rest (lead_of x).low (lead_of x).high (x - (lead_of x).mark) 1 s (lead_rising x) (sym (one_begins h s) ∙ e))
 
 -- The length at refusal 2 is that of the longest start of a good sequence.
-pub broken_longest : (s : List ℕ) {at n : ℕ} → check_of s ≡ Broken at n → LongestStart (drop at s) n
+pub broken_longest : (s : List ℕ) {at n : ℕ} → check_of s ≡ Err (broken at n) → LongestStart (drop at s) n
 broken_longest s {at} {n} e = go (drop at s) (broken_sequence s e)
   where
     go : (l : List ℕ) → sequence_of l ≡ Bad n → LongestStart l n

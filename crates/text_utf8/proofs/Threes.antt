@@ -1,4 +1,5 @@
 -- The check of a text, character by character; those of three octets are mostly told without reading their sequence. Assumes nothing.
+use Rattle.std.specs.Prelude.{Result, Ok, Err}
 use mathlib.Core.Path.{◌≡◌, refl, sym, ◌∙◌, ap}
 use mathlib.Core.Bool.{Bool, true, false}
 use mathlib.Core.List.{List, ◌∷◌}
@@ -16,15 +17,14 @@ use Rattle.ground.specs.Choice.{within}
 use Rattle.ground.proofs.Cases.{within_yes, within_low, clash}
 use Rattle.text_utf8.specs.declared.sequence.Sequence.{Sequence}
 use Rattle.text_utf8.specs.declared.sequence.Sequence.TheVariants.{End, Good, Bad}
-use Rattle.text_utf8.specs.declared.check.Check.{Check}
-use Rattle.text_utf8.specs.declared.check.Check.TheVariants.{Valid, Broken}
-use Rattle.text_utf8.specs.Utf8.{sequence_of, pieces, check_from, check_of}
+use Rattle.text_utf8.specs.Utf8.{sequence_of, pieces, check_from, check_of, broken}
 use Rattle.text_utf8.specs.Inner.Runs.{Three, good_length}
 use Rattle.text_utf8.proofs.Sequences.{end_empty}
 use Rattle.text_utf8.proofs.Pieces.{pieces_none, pieces_bad, good_inside, good_past_fits, good_past_falls}
 use Rattle.text_utf8.proofs.Grammatical.{char_reads}
 use Rattle.text_utf8.proofs.Checking.{Checked, checked_first, checked_runs, runs_fall, checked_all, checked_good}
 use Rattle.text_utf8.proofs.RunLaws.{ascii_inside}
+use Rattle.text_utf8.specs.declared.check.Broken.{Broken}
 
 module _ (b : ℕ) where
   pub tail_low : b < 0x80 → false ≡ within 0x80 0xBF b
@@ -76,14 +76,14 @@ module _ (s : List ℕ) (at : ℕ) where
     pub length_bad : {m : ℕ} → t ≡ Bad m → 0 ≡ good_length (sequence_of (drop at s))
     length_bad f = ap good_length (sym f ∙ e)
 
-    pub bad_end : t ≡ End → Valid ≡ check_from at (pieces (drop at s))
+    pub bad_end : t ≡ End → Ok tt ≡ check_from at (pieces (drop at s))
     unfolding check_from
     bad_end f = rw (pieces_none (drop at s) (end_empty (drop at s) (sym e ∙ f)))
 
-    pub bad_good : good_length (sequence_of (drop at s)) ≡ 0 → {d m : ℕ} → t ≡ Good d m → Valid ≡ check_from at (pieces (drop at s))
+    pub bad_good : good_length (sequence_of (drop at s)) ≡ 0 → {d m : ℕ} → t ≡ Good d m → Ok tt ≡ check_from at (pieces (drop at s))
     bad_good z f = absurd (let l = length_good f in let i = good_inside s at (sym e ∙ f) in omega arith)
 
-    pub bad_bad : {m : ℕ} → t ≡ Bad m → Broken at m ≡ check_from at (pieces (drop at s))
+    pub bad_bad : {m : ℕ} → t ≡ Bad m → Err (broken at m) ≡ check_from at (pieces (drop at s))
     unfolding check_from
     bad_bad f = rw (pieces_bad (drop at s) (sym e ∙ f))
 
@@ -104,7 +104,7 @@ module _ {s : List ℕ} {at : ℕ} (c : Checked s at) {r : ℕ} (e : r ≡ good_
   pub checked_zero : r ≡ 0 → good_length (sequence_of (drop at s)) ≡ 0
   checked_zero z = sym e ∙ z
 
-  pub checked_bad_at : {v : Check} → v ≡ check_from at (pieces (drop at s)) → v ≡ check_of s
+  pub checked_bad_at : {v : Result Unit Broken} → v ≡ check_from at (pieces (drop at s)) → v ≡ check_of s
   checked_bad_at f = f ∙ c.decides
 
   module _ (n : r ≡ 0 → ⊥) where

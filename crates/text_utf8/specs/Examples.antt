@@ -1,8 +1,7 @@
 -- Small examples, computed from the rules.
-use Rattle.std.specs.Prelude.{◌≡◌, refl, [], ◌∷◌}
+use Rattle.std.specs.Prelude.{◌≡◌, refl, [], ◌∷◌, Err}
 use Rattle.text_utf8.specs.declared.sequence.Sequence.TheVariants.{Good, Bad}
-use Rattle.text_utf8.specs.declared.check.Check.TheVariants.{Broken}
-use Rattle.text_utf8.specs.Utf8.{lead_of, tails, after_lead, sequence_of, pieces_from, check_from, check_of}
+use Rattle.text_utf8.specs.Utf8.{lead_of, tails, after_lead, sequence_of, pieces_from, check_from, check_of, broken}
 
 -- the euro sign, U+20AC, and the first byte of a following letter
 euro : sequence_of (0xE2 ∷ 0x82 ∷ 0xAC ∷ 0x61 ∷ []) ≡ Good 0x20AC 3
@@ -23,19 +22,19 @@ three_of_four : sequence_of (0xF0 ∷ 0x9F ∷ 0x98 ∷ 0x61 ∷ []) ≡ Bad 3
 unfolding sequence_of after_lead lead_of tails
 three_of_four = refl
 
-cut_short : check_of (0x61 ∷ 0xF0 ∷ 0x9F ∷ 0x98 ∷ []) ≡ Broken 1 0
+cut_short : check_of (0x61 ∷ 0xF0 ∷ 0x9F ∷ 0x98 ∷ []) ≡ Err (broken 1 0)
 unfolding check_from pieces_from sequence_of after_lead lead_of tails
 cut_short = refl
 
 -- document 01, "Marked examples"
-overlong : check_of (0xC0 ∷ 0x80 ∷ []) ≡ Broken 0 1
+overlong : check_of (0xC0 ∷ 0x80 ∷ []) ≡ Err (broken 0 1)
 unfolding check_from pieces_from sequence_of after_lead lead_of tails
 overlong = refl
 
-cut : check_of (0xE2 ∷ 0x82 ∷ []) ≡ Broken 0 0
+cut : check_of (0xE2 ∷ 0x82 ∷ []) ≡ Err (broken 0 0)
 unfolding check_from pieces_from sequence_of after_lead lead_of tails
 cut = refl
 
-surrogate : check_of (0x61 ∷ 0xED ∷ 0xA0 ∷ 0x80 ∷ []) ≡ Broken 1 1
+surrogate : check_of (0x61 ∷ 0xED ∷ 0xA0 ∷ 0x80 ∷ []) ≡ Err (broken 1 1)
 unfolding check_from pieces_from sequence_of after_lead lead_of tails
 surrogate = refl

@@ -1,10 +1,12 @@
 -- UTF-8: RFC 3629, sections 3 and 4, and the length that document 01's refusal 2 gives.
-use Rattle.std.specs.Prelude.{Bool, true, false, List, [], ◌∷◌, ℕ, zero, suc, pred, ◌+◌, ◌*◌, ◌-◌, eqb}
+use Rattle.std.specs.Prelude.{Bool, true, false, List, [], ◌∷◌, ℕ, zero, suc, pred, ◌+◌, ◌*◌, ◌-◌, eqb, Result, Ok, Err}
 use Rattle.ground.specs.Choice.{pick, within}
 use Rattle.text_utf8.specs.declared.sequence.Sequence.{Sequence}
 use Rattle.text_utf8.specs.declared.sequence.Sequence.TheVariants.{End, Good, Bad}
-use Rattle.text_utf8.specs.declared.check.Check.{Check}
-use Rattle.text_utf8.specs.declared.check.Check.TheVariants.{Valid, Broken}
+use Rattle.text_utf8.specs.declared.check.Broken.{Broken}
+
+abbrev pub broken : ℕ → ℕ → Broken
+broken at length = record { at = at; length = length }
 
 -- What a first octet settles: how many octets its sequence has, the octet with none of its x bits set (section 3), and the bounds of the
 -- second octet (section 4).
@@ -68,19 +70,19 @@ abbrev pub pieces : List ℕ → List Sequence
 pieces s = pieces_from 0 s
 
 -- document 01, refusal 2: the valid bytes before the first bad sequence, and its length
-unfoldable pub check_from : ℕ → List Sequence → Check
-check_from at [] = Valid
-check_from at (End ∷ ps) = Valid
+unfoldable pub check_from : ℕ → List Sequence → Result Unit Broken
+check_from at [] = Ok tt
+check_from at (End ∷ ps) = Ok tt
 check_from at (Good code length ∷ ps) = check_from (at + length) ps
-check_from at (Bad length ∷ ps) = Broken at length
+check_from at (Bad length ∷ ps) = Err (broken at length)
 
-abbrev pub check_of : List ℕ → Check
+abbrev pub check_of : List ℕ → Result Unit Broken
 check_of s = check_from 0 (pieces s)
 
 -- a text is UTF-8, or not
-abbrev pub is_valid : Check → Bool
-is_valid Valid = true
-is_valid (Broken at length) = false
+abbrev pub is_valid : Result Unit Broken → Bool
+is_valid (Ok _) = true
+is_valid (Err r) = false
 
 abbrev pub is_utf8 : List ℕ → Bool
 is_utf8 s = is_valid (check_of s)

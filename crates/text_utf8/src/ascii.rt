@@ -18,10 +18,8 @@ fn greatest_of_block(s: &[u8], at: usize, size: usize) -> u8
     ensures { (k : ℕ) → k < size → get_or s.now (at + k) 0 ≤ result }
 {
     let mut greatest = 0;
-    let mut i = 0;
-    while i < size {
+    for i in 0..size {
         greatest = greater(greatest, s[at + i]);
-        i += 1;
     }
     greatest
 }
@@ -46,14 +44,12 @@ fn ascii_bytes(s: &[u8], start: usize) -> usize
     requires { start ≤ length s.now }
     ensures { AsciiTo s.now start result }
 {
-    let mut at = start;
-    while at < s.len() {
+    for at in start..s.len() {
         if 0x7F < s[at] {
             return at;
         }
-        at += 1;
     }
-    at
+    s.len()
 }
 
 // The same: no block is asked where the first byte is not ASCII, as in lines of other scripts.

@@ -7,11 +7,11 @@ ghost use Rattle.text_utf8.specs.Inner.Runs.{Three, good_length};
 use crate::ascii::{ascii_blocks, ascii_end};
 use crate::sequence::{Sequence, sequence_at};
 
-// Whether a whole text is UTF-8, and if not, where and how it breaks first.
+// Where a text breaks first, and the length of the longest start of a character there, 0 where the text ends in it.
 #[derive(Clone, Copy)]
-pub enum Check {
-    Valid,
-    Broken { at: usize, length: usize },
+pub struct Broken {
+    pub at: usize,
+    pub length: usize,
 }
 
 // Whether a byte may be any but the first of a character.
@@ -61,19 +61,19 @@ fn good_length(s: &[u8], at: usize) -> usize
 }
 
 // The answer where no character stands at a place.
-fn bad_at(s: &[u8], at: usize) -> Check
+fn bad_at(s: &[u8], at: usize) -> Result<(), Broken>
     requires { good_length (sequence_of (drop at s.now)) ≡ 0 }
     ensures { result ≡ check_from at (pieces (drop at s.now)) }
 {
     match sequence_at(s, at) {
-        Sequence::End => Check::Valid,
-        Sequence::Good { code: _, length: _ } => Check::Valid,
-        Sequence::Bad { length } => Check::Broken { at, length },
+        Sequence::End => Ok(()),
+        Sequence::Good { code: _, length: _ } => Ok(()),
+        Sequence::Bad { length } => Err(Broken { at, length }),
     }
 }
 
-// Whether a text is UTF-8.
-pub fn check_text(s: &[u8]) -> Check
+// Whether a text is UTF-8, and if not, where and how it breaks first.
+pub fn check_text(s: &[u8]) -> Result<(), Broken>
     ensures { result ≡ check_of s.now }
 {
     let mut at = ascii_blocks(s, 0, 256);
@@ -89,15 +89,12 @@ pub fn check_text(s: &[u8]) -> Check
         at += length;
         continue;
     }
-    Check::Valid
+    Ok(())
 }
 
 // Whether a whole text is UTF-8.
 pub fn is_utf8(s: &[u8]) -> bool
     ensures { result ≡ is_utf8 s.now }
 {
-    match check_text(s) {
-        Check::Valid => true,
-        Check::Broken { at: _, length: _ } => false,
-    }
+    check_text(s).is_ok()
 }

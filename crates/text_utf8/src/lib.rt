@@ -6,5 +6,5 @@ mod check;
 mod sequence;
 
 pub use ascii::ascii_start;
-pub use check::{Check, check_text, is_utf8};
+pub use check::{Broken, check_text, is_utf8};
 pub use sequence::{Sequence, sequence_at};

@@ -1,4 +1,5 @@
 -- Well-formed text stays well formed where it is trimmed, split at white space, at an ASCII byte, and into lines. Assumes nothing.
+use Rattle.std.specs.Prelude.{Some}
 use mathlib.Core.Path.{◌≡◌, refl, sym, ◌∙◌, ap}
 use mathlib.Core.Bool.{Bool, true, false}
 use mathlib.Core.List.{List, [], ◌∷◌, ◌++◌, map, append-nil, append_assoc}
@@ -11,7 +12,6 @@ use lib.Seq.{drop-drop}
 use borrow.Author.Tests.{eqb-true, eqb-false, ne_eqb}
 use Rattle.ground.specs.Choice.{pick, both}
 use Rattle.ground.proofs.Cases.{both_right, clash}
-use Rattle.text_places.specs.declared.find.Place.TheVariants.{At}
 use Rattle.text_places.specs.Lines.{onto, raw_lines, cr_end, without_cr, lines}
 use Rattle.text_places.specs.Spans.{part_of}
 use Rattle.text_places.proofs.Holds.{first_holds, last_holds}
@@ -94,10 +94,10 @@ starts_fresh l w = go (sequence_of l) refl w
     go (Good d m) e v = fresh_good l e
     go (Bad m) e v = clash v refl
 
-pub first_white_fresh : (s : List ℕ) {i : ℕ} → first_white s ≡ At i → Fresh (drop i s)
+pub first_white_fresh : (s : List ℕ) {i : ℕ} → first_white s ≡ Some i → Fresh (drop i s)
 first_white_fresh s {i} e = starts_fresh (drop i s) (first_holds starts_white s e)
 
-pub last_white_fresh : (s : List ℕ) {i : ℕ} → last_white s ≡ At i → Fresh (drop i s)
+pub last_white_fresh : (s : List ℕ) {i : ℕ} → last_white s ≡ Some i → Fresh (drop i s)
 last_white_fresh s {i} e = starts_fresh (drop i s) (last_holds starts_white s e)
 
 -- Splitting at every ASCII byte `c`. `p` is what was read since the last one.

@@ -1,6 +1,5 @@
 -- Small examples, computed from the rules.
-use Rattle.std.specs.Prelude.{◌≡◌, refl, [], ◌∷◌}
-use Rattle.text_places.specs.declared.find.Place.TheVariants.{At}
+use Rattle.std.specs.Prelude.{◌≡◌, refl, [], ◌∷◌, Some}
 use Rattle.text_places.specs.Places.{last_from}
 use Rattle.text_utf8.specs.Utf8.{lead_of, tails, after_lead, sequence_of, pieces_from}
 use Rattle.text_white.specs.White.{white_ranges, in_ranges, is_white}
@@ -15,7 +14,7 @@ trims_end : trim_end (0xE3 ∷ 0x80 ∷ 0x80 ∷ 0x61 ∷ 0x20 ∷ 0xC2 ∷ 0xA0
 unfolding trim_end all_white pieces_from sequence_of after_lead lead_of tails is_white in_ranges white_ranges
 trims_end = refl
 
-white_places : last_white (0xE3 ∷ 0x80 ∷ 0x80 ∷ 0x61 ∷ 0x20 ∷ 0xC2 ∷ 0xA0 ∷ []) ≡ At 5
+white_places : last_white (0xE3 ∷ 0x80 ∷ 0x80 ∷ 0x61 ∷ 0x20 ∷ 0xC2 ∷ 0xA0 ∷ []) ≡ Some 5
 unfolding last_from sequence_of after_lead lead_of tails is_white in_ranges white_ranges
 white_places = refl
 

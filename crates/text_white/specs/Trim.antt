@@ -1,7 +1,6 @@
 -- White space at the ends of a text and in it. On a text that is not UTF-8, a byte at which no good sequence stands is no white space.
-use Rattle.std.specs.Prelude.{List, [], ◌∷◌, Bool, true, false, ℕ, suc, ◌+◌, eqb, drop}
+use Rattle.std.specs.Prelude.{List, [], ◌∷◌, Bool, true, false, ℕ, suc, ◌+◌, eqb, drop, Option}
 use Rattle.ground.specs.Choice.{pick, both}
-use Rattle.text_places.specs.declared.find.Place.{Place}
 use Rattle.text_utf8.specs.declared.sequence.Sequence.{Sequence}
 use Rattle.text_utf8.specs.declared.sequence.Sequence.TheVariants.{End, Good, Bad}
 use Rattle.text_places.specs.declared.spans.Span.{Span}
@@ -54,8 +53,8 @@ abbrev pub starts_white : List ℕ → Bool
 starts_white s = white_sequence (sequence_of s)
 
 -- the places of the first and the last white space character
-abbrev pub first_white : List ℕ → Place
+abbrev pub first_white : List ℕ → Option ℕ
 first_white s = first_where starts_white s
 
-abbrev pub last_white : List ℕ → Place
+abbrev pub last_white : List ℕ → Option ℕ
 last_white s = last_where starts_white s

@@ -35,10 +35,8 @@ fn block_has_gap(s: &[u8], at: usize) -> bool
     ensures { result ≡ false → (k : ℕ) → k < 16 → no_ink (get_or s.now (at + k) 0) ≡ false }
 {
     let mut holds = false;
-    let mut i = 0;
-    while i < 16 {
+    for i in 0..16 {
         holds = gap_so_far(holds, s[at + i]);
-        i += 1;
     }
     holds
 }

@@ -7,7 +7,7 @@ ghost use Rattle.text_white.specs.Inner.Before.{white_length, Before};
 
 use crate::inks::{is_ink, past_ink};
 use crate::white::is_white;
-use text_places::{Place, Span};
+use text_places::Span;
 use text_utf8::{Sequence, sequence_at};
 
 // Whether a white space character stands at a place.
@@ -200,7 +200,7 @@ pub fn trim_ends(s: &[u8]) -> Span
 }
 
 // The place of the first white space character.
-pub fn first_white(s: &[u8]) -> Place
+pub fn first_white(s: &[u8]) -> Option<usize>
     ensures { result ≡ first_white s.now }
 {
     let mut at = past_ink(s);
@@ -218,16 +218,16 @@ pub fn first_white(s: &[u8]) -> Place
             continue;
         }
         if white_at(s, at) {
-            return Place::At(at);
+            return Some(at);
         }
         at += 1;
         continue;
     }
-    Place::Nowhere
+    None
 }
 
 // The place of the last white space character.
-pub fn last_white(s: &[u8]) -> Place
+pub fn last_white(s: &[u8]) -> Option<usize>
     ensures { result ≡ last_white s.now }
 {
     let mut end = s.len();
@@ -238,10 +238,10 @@ pub fn last_white(s: &[u8]) -> Place
             continue;
         }
         if white_at(s, at) {
-            return Place::At(at);
+            return Some(at);
         }
         end -= 1;
         continue;
     }
-    Place::Nowhere
+    None
 }

@@ -1,4 +1,5 @@
 -- The checks of a tree file, as the code makes them. Assumes nothing.
+use Rattle.std.specs.Prelude.{Option, Some, None}
 use mathlib.Core.Path.{◌≡◌, refl, sym, ◌∙◌, ap}
 use mathlib.Core.Bool.{Bool, true, false, not}
 use mathlib.Core.List.{List}
@@ -19,8 +20,6 @@ use Rattle.text_utf8.specs.Utf8.{is_utf8}
 use Rattle.text_utf8.specs.Inner.Runs.{AsciiTo}
 use Rattle.text_utf8.proofs.Checking.{ascii_part}
 use Rattle.tree_rule.specs.declared.TreeCounts.{TreeCounts}
-use Rattle.tree_rule.specs.declared.RowCheck.{RowCheck}
-use Rattle.tree_rule.specs.declared.RowCheck.TheVariants.{Fine, Faulty}
 use Rattle.tree_rule.specs.Words.{word_at, sum_from}
 use Rattle.tree_rule.specs.Files.{file_length, tokens_start, names_start, parent_at, token_count_at, name_row, name_at, bytes_in}
 use Rattle.tree_rule.specs.Checks.{
@@ -90,7 +89,7 @@ by_table n (suc (suc (suc (suc k)))) a b h i =
     )
 
 -- One row after the other: the first faulty one from here on is the first of all.
-pub record Asked (p : ℕ → Bool) (n : ℕ) (whole : RowCheck) (i : ℕ) : Type 0 where
+pub record Asked (p : ℕ → Bool) (n : ℕ) (whole : Option ℕ) (i : ℕ) : Type 0 where
   pub decides : first_faulty p i (n - i) ≡ whole
 
 pub asked_first : (p : ℕ → Bool) (n : ℕ) → Asked p n (first_faulty p 0 n) 0
@@ -99,17 +98,17 @@ asked_first p n = let z : n - 0 ≡ n = omega arith in record { decides = rw z }
 pub asked_second : (p : ℕ → Bool) (n : ℕ) → Asked p n (first_faulty p 1 (n - 1)) 1
 asked_second p n = record { decides = refl }
 
-module _ {p : ℕ → Bool} {n : ℕ} {whole : RowCheck} {i : ℕ} (k : Asked p n whole i) where
-  pub asked_ends : n ≤ i → Fine ≡ whole
+module _ {p : ℕ → Bool} {n : ℕ} {whole : Option ℕ} {i : ℕ} (k : Asked p n whole i) where
+  pub asked_ends : n ≤ i → None ≡ whole
   unfolding first_faulty
   asked_ends h = let z : n - i ≡ 0 = omega arith in rw z at k.decides
 
   module _ (h : i < n) {b : Bool} (e : b ≡ p i) where
-    here : pick b (first_faulty p (suc i) (n - suc i)) (Faulty i) ≡ whole
+    here : pick b (first_faulty p (suc i) (n - suc i)) (Some i) ≡ whole
     unfolding first_faulty
     here = let z : n - i ≡ suc (n - suc i) = omega arith in rw e (rw z at k.decides)
 
-    pub asked_fails : not b ≡ true → Faulty i ≡ whole
+    pub asked_fails : not b ≡ true → Some i ≡ whole
     asked_fails g = rw (not-true b g) at here
 
     pub asked_more : not b ≡ false → Asked p n whole (i + 1)
@@ -156,7 +155,7 @@ bytes_few c f e k h = omega (arith, ap length e, bytes_count c f k.size)
 
 -- Name bytes that are ASCII: each name is UTF-8.
 pub ascii_names : (c : TreeCounts) (f : List ℕ) {l : List ℕ} → l ≡ bytes_in c f → NamesLie c f → {a : ℕ} → AsciiTo l 0 a → a ≡ length l →
-    Fine ≡ faulty_text c f
+    None ≡ faulty_text c f
 ascii_names c f w k {a} r e =
     let z : length (bytes_in c f) ≡ c.bytes = bytes_count c f k.size in
     let y : a ≡ length (bytes_in c f) = e ∙ ap length w in

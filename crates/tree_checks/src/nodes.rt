@@ -3,7 +3,7 @@ ghost use Rattle.std.specs.Prelude.{◌≡◌, ◌+◌, ◌*◌, ◌≤◌, leng
 ghost use Rattle.tree_rule.specs.Files.{nodes_start, file_length};
 ghost use Rattle.tree_rule.specs.Checks.{length_agrees, root_fine, parent_lower, faulty_parent, counts_sum};
 
-use tree_rule::{RowCheck, TreeCounts};
+use tree_rule::TreeCounts;
 use tree_words::{file_length, parent_at, token_count_at};
 
 // "The length must agree".
@@ -33,19 +33,17 @@ fn parent_lower(tree: &[u8], row: usize) -> bool
 }
 
 // "any other's a lower row": the first node row whose parent is not.
-pub fn faulty_parent(tree: &[u8], counts: TreeCounts) -> RowCheck
+pub fn faulty_parent(tree: &[u8], counts: TreeCounts) -> Option<usize>
     requires { length tree.now ≡ file_length counts }
     ensures { result ≡ faulty_parent counts tree.now }
 {
     let nodes = counts.nodes as usize;
-    let mut row = 1;
-    while row < nodes {
+    for row in 1..nodes {
         if !parent_lower(tree, row) {
-            return RowCheck::Faulty(row);
+            return Some(row);
         }
-        row += 1;
     }
-    RowCheck::Fine
+    None
 }
 
 // "token counts sum to T".
@@ -55,10 +53,8 @@ pub fn counts_sum(tree: &[u8], counts: TreeCounts) -> bool
 {
     let nodes = counts.nodes as usize;
     let mut sum: usize = 0;
-    let mut row = 0;
-    while row < nodes {
+    for row in 0..nodes {
         sum += token_count_at(tree, row) as usize;
-        row += 1;
     }
     sum == counts.tokens as usize
 }

@@ -5,7 +5,7 @@ ghost use Rattle.tree_rule.specs.Files.{file_length};
 ghost use Rattle.tree_rule.specs.Checks.{faulty_token};
 ghost use Rattle.tree_checks.specs.Inner.Bound.{kind_bounds, fine_by};
 
-use tree_rule::{RowCheck, TreeCounts};
+use tree_rule::TreeCounts;
 use tree_words::{tokens_start, word_at};
 
 // What no number of four bytes reaches.
@@ -38,18 +38,16 @@ fn token_fine(tree: &[u8], at: usize, bounds: &[usize; 4]) -> bool
 
 // "kind 1 member name and 2 descriptor (raw name, display name, below S), 3 source line (raw, display), 0 anything else, its a and b not
 // read, no other kind": the first token row that breaks it.
-pub fn faulty_token(tree: &[u8], counts: TreeCounts) -> RowCheck
+pub fn faulty_token(tree: &[u8], counts: TreeCounts) -> Option<usize>
     requires { length tree.now ≡ file_length counts }
     ensures { result ≡ faulty_token counts tree.now }
 {
     let start = tokens_start(counts);
     let bounds = kind_bounds(counts.names);
-    let mut row = 0;
-    while row < counts.tokens as usize {
+    for row in 0..counts.tokens as usize {
         if !token_fine(tree, start + 12 * row, &bounds) {
-            return RowCheck::Faulty(row);
+            return Some(row);
         }
-        row += 1;
     }
-    RowCheck::Fine
+    None
 }

@@ -7,16 +7,13 @@ ghost use Rattle.tree_rule.specs.Checks.{all_fine, faulty_name, faulty_text, wel
 use crate::names::{faulty_name, faulty_text};
 use crate::nodes::{counts_sum, faulty_parent, length_agrees, root_fine};
 use crate::tokens::faulty_token;
-use tree_rule::{RowCheck, TreeCounts};
+use tree_rule::TreeCounts;
 use tree_words::counts_in;
 
-fn all_fine(rows: RowCheck) -> bool
+fn all_fine(rows: Option<usize>) -> bool
     ensures { result ≡ all_fine rows }
 {
-    match rows {
-        RowCheck::Fine => true,
-        RowCheck::Faulty(_) => false,
-    }
+    rows.is_none()
 }
 
 // The two checks of names: the second rests on the first.

@@ -1,4 +1,5 @@
 -- What an answer says is what its rule says, test by test. Assumes nothing.
+use Rattle.std.specs.Prelude.{Option, Some, None}
 use mathlib.Core.Path.{◌≡◌, sym, ◌∙◌, ap, subst}
 use mathlib.Core.Bool.{Bool, true, false, not}
 use mathlib.Core.List.{List, [], ◌∷◌}
@@ -11,16 +12,15 @@ use Rattle.ground.proofs.Cases.{bit_told}
 use Rattle.tree_rule.specs.declared.TreeCounts.{TreeCounts}
 use Rattle.tree_rule.specs.declared.Owner.{Owner}
 use Rattle.tree_rule.specs.declared.Owner.TheVariants.{Given, At}
-use Rattle.tree_rule.specs.declared.NodeSignature.{NodeSignature}
-use Rattle.tree_rule.specs.declared.NodeSignature.TheVariants.{Absent, Present}
 use Rattle.tree_rule.specs.Words.{list_from}
 use Rattle.tree_rule.specs.Trees.{name_in}
 use Rattle.tree_rule.specs.Files.{counts_in, token_at, tree_by}
 use Rattle.tree_rule.specs.Checks.{well_formed_file}
-use Rattle.tree_rule.specs.Signatures.{node_signature, signature_from}
+use Rattle.tree_rule.specs.Signatures.{node_signature, signature_from, member_named}
 use Rattle.tree_rule.specs.Theorems.{FormedBy}
 use Rattle.tree_rule.proofs.Formed.{formed_by, head_inside}
 use Rattle.tree_probes.specs.Answers.{present_numbers, no_numbers, signature_numbers, asked_numbers}
+use Rattle.tree_rule.specs.declared.NodeSignature.{NodeSignature}
 
 pub given_numbers : (m d : ℕ) (o : Owner) → o ≡ Given → 1 ∷ m ∷ d ∷ 0 ∷ 0 ∷ [] ≡ present_numbers m d o
 given_numbers m d o e = sym (ap (present_numbers m d) e)
@@ -28,11 +28,11 @@ given_numbers m d o e = sym (ap (present_numbers m d) e)
 pub owner_numbers : (m d : ℕ) (o : Owner) {i : ℕ} → o ≡ At i → 1 ∷ m ∷ d ∷ 1 ∷ i ∷ [] ≡ present_numbers m d o
 owner_numbers m d o e = sym (ap (present_numbers m d) e)
 
-pub absent_numbers : (s : NodeSignature) → s ≡ Absent → 0 ∷ 0 ∷ 0 ∷ 0 ∷ 0 ∷ [] ≡ signature_numbers s
+pub absent_numbers : (s : Option NodeSignature) → s ≡ None → 0 ∷ 0 ∷ 0 ∷ 0 ∷ 0 ∷ [] ≡ signature_numbers s
 absent_numbers s e = sym (ap signature_numbers e)
 
-pub there_numbers : (s : NodeSignature) {m d : ℕ} {o : Owner} → s ≡ Present m d o → {numbers : List ℕ} →
-    numbers ≡ present_numbers m d o → numbers ≡ signature_numbers s
+pub there_numbers : (s : Option NodeSignature) {x : NodeSignature} → s ≡ Some x → {numbers : List ℕ} →
+    numbers ≡ present_numbers x.member x.descriptor x.owner → numbers ≡ signature_numbers s
 there_numbers s e l = l ∙ sym (ap signature_numbers e)
 
 pub ruleset numbering = (given_numbers, owner_numbers, absent_numbers, there_numbers, rules)
@@ -66,7 +66,7 @@ module _ (f : List ℕ) {b : Bool} (e : b ≡ well_formed_file f) where
           pub tokens_there : first + count ≤ c.tokens
           tokens_there = omega arith
 
-          pub asked_signature : {s : NodeSignature} →
+          pub asked_signature : {s : Option NodeSignature} →
               s ≡ signature_from first (node_signature (name_in (tree_by c f)) (list_from (token_at c f) first count)) →
               {numbers : List ℕ} → numbers ≡ signature_numbers s → numbers ≡ asked_numbers f first count
           asked_signature {s} k l =

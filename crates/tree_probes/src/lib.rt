@@ -29,16 +29,18 @@ fn present_numbers(member: usize, descriptor: usize, owner: Owner) -> [u64; 5]
     }
 }
 
-fn signature_numbers(signature: NodeSignature) -> [u64; 5]
+fn signature_numbers(signature: Option<NodeSignature>) -> [u64; 5]
     ensures { result ≡ signature_numbers signature }
 {
     match signature {
-        NodeSignature::Absent => [0, 0, 0, 0, 0],
-        NodeSignature::Present {
-            member,
-            descriptor,
-            owner,
-        } => present_numbers(member, descriptor, owner),
+        None => [0, 0, 0, 0, 0],
+        Some(
+            NodeSignature {
+                member,
+                descriptor,
+                owner,
+            },
+        ) => present_numbers(member, descriptor, owner),
     }
 }
 

@@ -1,4 +1,5 @@
 -- What the checks of a tree file say, as plain facts, and the other way. Nothing else opens `well_formed_file`. Assumes nothing.
+use Rattle.std.specs.Prelude.{None}
 use mathlib.Core.Path.{◌≡◌, refl, sym, ◌∙◌, ap}
 use mathlib.Core.Bool.{Bool, true, false, not}
 use mathlib.Core.List.{List}
@@ -11,7 +12,6 @@ use Rattle.ground.specs.Choice.{both}
 use Rattle.ground.proofs.Cases.{both_left, both_right, clash}
 use Rattle.tree_rule.specs.declared.TreeCounts.{TreeCounts}
 use Rattle.tree_rule.specs.declared.Token.{Token}
-use Rattle.tree_rule.specs.declared.RowCheck.TheVariants.{Fine}
 use Rattle.tree_rule.specs.Words.{word_at, sum_from}
 use Rattle.tree_rule.specs.Files.{counts_in, file_length, tokens_start, parent_at, token_count_at, token_by, token_row, token_at, name_at}
 use Rattle.tree_rule.specs.Checks.{
@@ -115,15 +115,15 @@ module _ (c : TreeCounts) (f : List ℕ) where
 
   pub checks_pass_lem : FormedBy c f → checks_pass c f ≡ true
   checks_pass_lem k =
-      let parents : faulty_parent c f ≡ Fine = each_fine (parent_lower f) 1 (c.nodes - 1)
+      let parents : faulty_parent c f ≡ None = each_fine (parent_lower f) 1 (c.nodes - 1)
       (λ i l h. lt-ltb (parent_at f i) i (k.lower i l (omega (arith, k.some)))) in
-      let tokens : faulty_token c f ≡ Fine = each_fine (λ i. token_row_fine c f (tokens_start c + 12 * i)) 0 c.tokens
+      let tokens : faulty_token c f ≡ None = each_fine (λ i. token_row_fine c f (tokens_start c + 12 * i)) 0 c.tokens
       (λ i l h. let at : ℕ = tokens_start c + 12 * i in
       token_passes c.names (word_at f at) (word_at f (at + 4)) (word_at f (at + 8)) (k.kinds i (omega arith))
       (k.tokens i (omega arith))) in
-      let names : faulty_name c f ≡ Fine = each_fine (name_inside c f) 0 c.names
+      let names : faulty_name c f ≡ None = each_fine (name_inside c f) 0 c.names
       (λ i l h. le-leb ((name_at c f i).place + (name_at c f i).length) c.bytes (k.inside i (omega arith))) in
-      let texts : faulty_text c f ≡ Fine = each_fine (name_utf8 c f) 0 c.names (λ i l h. k.utf8 i (omega arith)) in
+      let texts : faulty_text c f ≡ None = each_fine (name_utf8 c f) 0 c.names (λ i l h. k.utf8 i (omega arith)) in
       rw (
         eq-eqb (length f) (file_length c) k.size,
         le-leb 1 c.nodes k.some,

@@ -1,4 +1,5 @@
 -- Rows by their numbers: lists, sums, and the first faulty one. Assumes nothing.
+use Rattle.std.specs.Prelude.{Option, Some, None}
 use mathlib.Core.Path.{◌≡◌, refl}
 use mathlib.Core.Bool.{Bool, true, false}
 use mathlib.Core.List.{List, [], ◌∷◌, ◌++◌}
@@ -9,8 +10,6 @@ use native.Mathlib.Omega.{arith}
 use lib.ListN.{length, get_or, take, drop}
 use Rattle.ground.specs.Choice.{pick}
 use Rattle.ground.proofs.Cases.{clash, le_or_lt}
-use Rattle.tree_rule.specs.declared.RowCheck.{RowCheck}
-use Rattle.tree_rule.specs.declared.RowCheck.TheVariants.{Fine, Faulty}
 use Rattle.tree_rule.specs.Words.{list_from, sum_from}
 use Rattle.tree_rule.specs.Checks.{first_faulty, all_fine}
 use Rattle.tree_rule.specs.Theorems.{Every, every_none, every_one, FaultyRow}
@@ -94,16 +93,16 @@ module _ (f : ℕ → ℕ) where
 
 -- The first faulty row.
 module _ (p : ℕ → Bool) where
-  fine_head : (i n : ℕ) → first_faulty p i (suc n) ≡ Fine → (p i ≡ true) × (first_faulty p (suc i) n ≡ Fine)
+  fine_head : (i n : ℕ) → first_faulty p i (suc n) ≡ None → (p i ≡ true) × (first_faulty p (suc i) n ≡ None)
   unfolding first_faulty
   fine_head i n e = go (p i) refl e
     where
-      go : (b : Bool) → p i ≡ b → pick b (first_faulty p (suc i) n) (Faulty i) ≡ Fine →
-          (p i ≡ true) × (first_faulty p (suc i) n ≡ Fine)
+      go : (b : Bool) → p i ≡ b → pick b (first_faulty p (suc i) n) (Some i) ≡ None →
+          (p i ≡ true) × (first_faulty p (suc i) n ≡ None)
       go true q f = (q, f)
       go false q f = absurd (let z : ◌≡◌ {A = ℕ} 0 1 = cc in omega arith)
 
-  pub fine_each : (i n : ℕ) → first_faulty p i n ≡ Fine → (k : ℕ) → i ≤ k → k < i + n → p k ≡ true
+  pub fine_each : (i n : ℕ) → first_faulty p i n ≡ None → (k : ℕ) → i ≤ k → k < i + n → p k ≡ true
   fine_each i zero e k l h = absurd (omega arith)
   fine_each i (suc n) e k l h = go (λ g. fine_each (suc i) n (fine_head i n e).1 k g (omega arith)) (le_or_lt (suc i) k)
     where
@@ -111,18 +110,18 @@ module _ (p : ℕ → Bool) where
       go later (inl g) = later g
       go later (inr g) = let z : k ≡ i = omega arith in rw z (fine_head i n e).0
 
-  pub each_fine : (i n : ℕ) → ((k : ℕ) → i ≤ k → k < i + n → p k ≡ true) → first_faulty p i n ≡ Fine
+  pub each_fine : (i n : ℕ) → ((k : ℕ) → i ≤ k → k < i + n → p k ≡ true) → first_faulty p i n ≡ None
   unfolding first_faulty
   each_fine i zero e = refl
   each_fine i (suc n) e = rw (e i (omega arith) (omega arith)) (each_fine (suc i) n (λ k l h. e k (omega arith) (omega arith)))
 
-  pub faulty_row : (i n : ℕ) {k : ℕ} → first_faulty p i n ≡ Faulty k → FaultyRow p i n k
+  pub faulty_row : (i n : ℕ) {k : ℕ} → first_faulty p i n ≡ Some k → FaultyRow p i n k
   unfolding first_faulty
   faulty_row i zero e = absurd (let z : ◌≡◌ {A = ℕ} 0 1 = cc in omega arith)
   faulty_row i (suc n) {k} e = go (p i) refl e (λ f. faulty_row (suc i) n f)
     where
-      go : (b : Bool) → p i ≡ b → pick b (first_faulty p (suc i) n) (Faulty i) ≡ Faulty k →
-          (first_faulty p (suc i) n ≡ Faulty k → FaultyRow p (suc i) n k) → FaultyRow p i (suc n) k
+      go : (b : Bool) → p i ≡ b → pick b (first_faulty p (suc i) n) (Some i) ≡ Some k →
+          (first_faulty p (suc i) n ≡ Some k → FaultyRow p (suc i) n k) → FaultyRow p i (suc n) k
       go true q f again =
           let r = again f in
           record {
@@ -140,6 +139,6 @@ module _ (p : ℕ → Bool) where
           let z : i ≡ k = cc in
           record { «from» = omega arith; below = omega arith; fails = rw z at q; before = λ j l h. absurd (omega arith) }
 
-pub fine_told : (r : RowCheck) → all_fine r ≡ true → r ≡ Fine
-fine_told Fine e = refl
-fine_told (Faulty i) e = clash e refl
+pub fine_told : (r : Option ℕ) → all_fine r ≡ true → r ≡ None
+fine_told None e = refl
+fine_told (Some i) e = clash e refl

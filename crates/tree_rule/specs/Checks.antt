@@ -1,24 +1,22 @@
 -- Document 01 "Tree file (added)", refusal 12: the checks of a tree file, in document 01's order, "all rows at a time". Sums and products
 -- are of numbers without a bound, so that no count can be so large that a check passes by it.
-use Rattle.std.specs.Prelude.{Bool, true, false, List, ℕ, zero, suc, ◌+◌, ◌*◌, ◌-◌, eqb, leb, ltb, length}
+use Rattle.std.specs.Prelude.{Bool, true, false, List, ℕ, zero, suc, ◌+◌, ◌*◌, ◌-◌, eqb, leb, ltb, length, Option, Some, None}
 use Rattle.ground.specs.Choice.{pick, both}
 use Rattle.text_utf8.specs.Utf8.{is_utf8}
 use Rattle.tree_rule.specs.declared.TreeCounts.{TreeCounts}
-use Rattle.tree_rule.specs.declared.RowCheck.{RowCheck}
-use Rattle.tree_rule.specs.declared.RowCheck.TheVariants.{Fine, Faulty}
 use Rattle.tree_rule.specs.Words.{word_at, sum_from}
 use Rattle.tree_rule.specs.Files.{counts_in, file_length, tokens_start, parent_at, token_count_at, name_at, text_at}
 
 -- the first of `n` rows, from row `i` on, of which `fine` does not hold
-unfoldable pub first_faulty : (ℕ → Bool) → ℕ → ℕ → RowCheck
-first_faulty fine i zero = Fine
+unfoldable pub first_faulty : (ℕ → Bool) → ℕ → ℕ → Option ℕ
+first_faulty fine i zero = None
 first_faulty fine i (suc n) =
     let later = first_faulty fine (suc i) n in
-    pick (fine i) later (Faulty i)
+    pick (fine i) later (Some i)
 
-abbrev pub all_fine : RowCheck → Bool
-all_fine Fine = true
-all_fine (Faulty i) = false
+abbrev pub all_fine : Option ℕ → Bool
+all_fine None = true
+all_fine (Some i) = false
 
 -- "The length must agree". A file of fewer than 16 bytes agrees with no counts.
 abbrev pub length_agrees : TreeCounts → List ℕ → Bool
@@ -32,7 +30,7 @@ root_fine c f = both (leb 1 c.nodes) (eqb (parent_at f 0) 0xFFFFFFFF)
 abbrev pub parent_lower : List ℕ → ℕ → Bool
 parent_lower f i = ltb (parent_at f i) i
 
-abbrev pub faulty_parent : TreeCounts → List ℕ → RowCheck
+abbrev pub faulty_parent : TreeCounts → List ℕ → Option ℕ
 faulty_parent c f = first_faulty (parent_lower f) 1 (c.nodes - 1)
 
 -- "token counts sum to T"
@@ -50,21 +48,21 @@ token_fine names kind a b =
 abbrev pub token_row_fine : TreeCounts → List ℕ → ℕ → Bool
 token_row_fine c f at = token_fine c.names (word_at f at) (word_at f (at + 4)) (word_at f (at + 8))
 
-abbrev pub faulty_token : TreeCounts → List ℕ → RowCheck
+abbrev pub faulty_token : TreeCounts → List ℕ → Option ℕ
 faulty_token c f = first_faulty (λ i. token_row_fine c f (tokens_start c + 12 * i)) 0 c.tokens
 
 -- "names inside B"
 abbrev pub name_inside : TreeCounts → List ℕ → ℕ → Bool
 name_inside c f i = leb ((name_at c f i).place + (name_at c f i).length) c.bytes
 
-abbrev pub faulty_name : TreeCounts → List ℕ → RowCheck
+abbrev pub faulty_name : TreeCounts → List ℕ → Option ℕ
 faulty_name c f = first_faulty (name_inside c f) 0 c.names
 
 -- "and UTF-8"
 abbrev pub name_utf8 : TreeCounts → List ℕ → ℕ → Bool
 name_utf8 c f i = is_utf8 (text_at c f i)
 
-abbrev pub faulty_text : TreeCounts → List ℕ → RowCheck
+abbrev pub faulty_text : TreeCounts → List ℕ → Option ℕ
 faulty_text c f = first_faulty (name_utf8 c f) 0 c.names
 
 -- "Checked in this order, all rows at a time."

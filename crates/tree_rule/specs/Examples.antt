@@ -1,15 +1,12 @@
 -- Small tree files, computed from the rules.
-use Rattle.std.specs.Prelude.{◌≡◌, refl, Bool, true, false, List, [], ◌∷◌, ◌++◌, map, ℕ, length, get_or, set, take, replicate}
+use Rattle.std.specs.Prelude.{◌≡◌, refl, Bool, true, false, List, [], ◌∷◌, ◌++◌, map, ℕ, length, get_or, set, take, replicate, Some, None, Option}
 use Rattle.ground.specs.Ascii.{ascii}
 use Rattle.ground.specs.Join.{join}
 use Rattle.text_utf8.specs.Utf8.{lead_of, tails, after_lead, sequence_of, pieces_from, check_from}
 use Rattle.table_rows.specs.Rows.{text}
 use Rattle.tree_rule.specs.declared.Token.{Token}
 use Rattle.tree_rule.specs.declared.Token.TheVariants.{Other, MemberName, Descriptor, SourceLine}
-use Rattle.tree_rule.specs.declared.RowCheck.TheVariants.{Fine, Faulty}
 use Rattle.tree_rule.specs.declared.Owner.TheVariants.{Given, At}
-use Rattle.tree_rule.specs.declared.NodeSignature.{NodeSignature}
-use Rattle.tree_rule.specs.declared.NodeSignature.TheVariants.{Absent, Present}
 use Rattle.tree_rule.specs.Words.{word_at, word_bytes, list_from, sum_from}
 use Rattle.tree_rule.specs.Trees.{no_parent, parent_row, Tree, other, member_name, descriptor, source_line, meaning_of}
 use Rattle.tree_rule.specs.Files.{tree_counts, counts_in, nodes_from, read_tree, all_tokens, written_tree}
@@ -25,7 +22,8 @@ use Rattle.tree_rule.specs.Checks.{
   faulty_text,
   well_formed_file,
 }
-use Rattle.tree_rule.specs.Signatures.{first_token, last_token, node_signature, signature_from, names_method}
+use Rattle.tree_rule.specs.Signatures.{first_token, last_token, node_signature, signature_from, names_method, member_named}
+use Rattle.tree_rule.specs.declared.NodeSignature.{NodeSignature}
 
 -- one node with one source line, 258 shown as 10; one name, the second of two bytes
 abbrev one : Tree
@@ -149,11 +147,11 @@ abbrev spoilt_twice : List ℕ
 spoilt_twice = spoilt counts root (7 ∷ 1 ∷ []) (7 ∷ 2 ∷ []) (9 ∷ 0 ∷ 0 ∷ []) (4 ∷ 0 ∷ [])
 
 faulty_rows :
-    (faulty_parent (counts_in spoilt_twice) spoilt_twice ≡ Faulty 1)
+    (faulty_parent (counts_in spoilt_twice) spoilt_twice ≡ Some 1)
     × (counts_sum (counts_in spoilt_twice) spoilt_twice ≡ false)
-    × (faulty_token (counts_in spoilt_twice) spoilt_twice ≡ Faulty 1)
-    × (faulty_name (counts_in spoilt_twice) spoilt_twice ≡ Faulty 0)
-    × (faulty_text (counts_in spoilt_twice) spoilt_twice ≡ Fine)
+    × (faulty_token (counts_in spoilt_twice) spoilt_twice ≡ Some 1)
+    × (faulty_name (counts_in spoilt_twice) spoilt_twice ≡ Some 0)
+    × (faulty_text (counts_in spoilt_twice) spoilt_twice ≡ None)
 unfolding join word_at word_bytes sum_from first_faulty check_from pieces_from
 faulty_rows = (refl, refl, refl, refl, refl)
 
@@ -176,27 +174,27 @@ method = Descriptor 3 1
 abbrev line : Token
 line = SourceLine 1 1
 
-abbrev signed : List Token → NodeSignature
+abbrev signed : List Token → Option NodeSignature
 signed ts = node_signature texts ts
 
 signatures :
     -- the class given
-    (signed (run ∷ method ∷ []) ≡ Present 0 1 Given)
-    × (signed (line ∷ run ∷ line ∷ class ∷ method ∷ []) ≡ Present 1 3 Given)
+    (signed (run ∷ method ∷ []) ≡ Some (member_named 0 1 Given))
+    × (signed (line ∷ run ∷ line ∷ class ∷ method ∷ []) ≡ Some (member_named 1 3 Given))
     -- an owner by a descriptor: the nearest, by its raw name; one that starts `(` is passed over
-    × (signed (class ∷ run ∷ method ∷ []) ≡ Present 1 2 (At 0))
-    × (signed (class ∷ class₂ ∷ line ∷ run ∷ class ∷ []) ≡ Present 3 4 (At 1))
-    × (signed (class ∷ method ∷ run ∷ class₂ ∷ []) ≡ Present 2 3 (At 0))
-    × (signed (method ∷ run ∷ class ∷ []) ≡ Present 1 2 Given)
+    × (signed (class ∷ run ∷ method ∷ []) ≡ Some (member_named 1 2 (At 0)))
+    × (signed (class ∷ class₂ ∷ line ∷ run ∷ class ∷ []) ≡ Some (member_named 3 4 (At 1)))
+    × (signed (class ∷ method ∷ run ∷ class₂ ∷ []) ≡ Some (member_named 2 3 (At 0)))
+    × (signed (method ∷ run ∷ class ∷ []) ≡ Some (member_named 1 2 Given))
     -- the first member name counts, and a descriptor before it is none after it
-    × (signed (run ∷ class ∷ run ∷ method ∷ []) ≡ Present 0 1 Given)
-    × (signed (class ∷ run ∷ []) ≡ Absent)
-    × (signed (class ∷ method ∷ line ∷ Other 0 1 ∷ []) ≡ Absent)
-    × (signed [] ≡ Absent)
+    × (signed (run ∷ class ∷ run ∷ method ∷ []) ≡ Some (member_named 0 1 Given))
+    × (signed (class ∷ run ∷ []) ≡ None)
+    × (signed (class ∷ method ∷ line ∷ Other 0 1 ∷ []) ≡ None)
+    × (signed [] ≡ None)
     -- "Starting `(` means method"
     × (names_method texts method ≡ true)
     × (names_method texts class ≡ false)
     -- by numbers of tokens in the file
-    × (signature_from 7 (signed (class ∷ run ∷ method ∷ [])) ≡ Present 8 9 (At 7))
+    × (signature_from 7 (signed (class ∷ run ∷ method ∷ [])) ≡ Some (member_named 8 9 (At 7)))
 unfolding ascii first_token last_token
 signatures = (refl, refl, refl, refl, refl, refl, refl, refl, refl, refl, refl, refl, refl)

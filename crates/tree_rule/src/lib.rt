@@ -1,4 +1,4 @@
-// Tree files: what their rule speaks of, and what their checks and the search for a signature answer. The rule stands in specs/; this crate
+// Tree files: what their rule speaks of, and what the search for a signature answers. The rule stands in specs/; this crate
 // has no function.
 #![tactic(auto)]
 
@@ -21,13 +21,6 @@ pub enum Token {
     SourceLine { raw: u32, display: u32 },
 }
 
-// What a check of rows answers: the first one that fails, by its number.
-#[derive(Clone, Copy)]
-pub enum RowCheck {
-    Fine,
-    Faulty(usize),
-}
-
 // Whose member a node names: the class given, or that of a descriptor, by the number of its token.
 #[derive(Clone, Copy)]
 pub enum Owner {
@@ -37,11 +30,8 @@ pub enum Owner {
 
 // The member that a node names, by the numbers of two of its tokens.
 #[derive(Clone, Copy)]
-pub enum NodeSignature {
-    Absent,
-    Present {
-        member: usize,
-        descriptor: usize,
-        owner: Owner,
-    },
+pub struct NodeSignature {
+    pub member: usize,
+    pub descriptor: usize,
+    pub owner: Owner,
 }

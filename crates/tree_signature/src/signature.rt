@@ -8,25 +8,22 @@ ghost use Rattle.tree_rule.specs.Theorems.{FormedBy};
 ghost use Rattle.tree_signature.specs.Inner.Tokens.{of_kind, row_of, token_of};
 
 use crate::token::is_descriptor;
-use text_places::Place;
 use tree_rule::{NodeSignature, Owner, TreeCounts};
 use tree_words::{tokens_start, word_at};
 
 // The first of a node's tokens that has a kind, from one of them on. Their rows start at the place `base`; they count from the node's
 // first.
-fn first_of_kind(tree: &[u8], base: usize, start: usize, count: usize, kind: u32) -> Place
+fn first_of_kind(tree: &[u8], base: usize, start: usize, count: usize, kind: u32) -> Option<usize>
     requires { (base + 12 * count ≤ length tree.now) × (1 ≤ kind) × (kind ≤ 3) }
     ensures { let f = tree.now in
         result ≡ first_token (of_kind kind) start (list_from (row_of f base) start (count - start)) }
 {
-    let mut token = start;
-    while token < count {
+    for token in start..count {
         if word_at(tree, base + 12 * token) == kind {
-            return Place::At(token);
+            return Some(token);
         }
-        token += 1;
     }
-    Place::Nowhere
+    None
 }
 
 // "as owner the nearest earlier descriptor not starting `(`, else the class given".
@@ -48,21 +45,22 @@ fn owner_before(tree: &[u8], counts: TreeCounts, first: usize, member: usize) ->
 }
 
 // The signature of a node whose `count` tokens start at token `first`, by numbers of tokens.
-pub fn node_signature(tree: &[u8], counts: TreeCounts, first: usize, count: usize) -> NodeSignature
+pub fn node_signature(
+    tree: &[u8],
+    counts: TreeCounts,
+    first: usize,
+    count: usize,
+) -> Option<NodeSignature>
     requires { FormedBy counts tree.now × (first + count ≤ counts.tokens) }
     ensures { let f = tree.now in
         result ≡ signature_from first (node_signature (name_in (tree_by counts f)) (list_from (token_at counts f) first count)) }
 {
     let base = tokens_start(counts) + 12 * first;
-    let Place::At(member) = first_of_kind(tree, base, 0, count, 1) else {
-        return NodeSignature::Absent;
-    };
-    let Place::At(descriptor) = first_of_kind(tree, base, member + 1, count, 2) else {
-        return NodeSignature::Absent;
-    };
-    NodeSignature::Present {
+    let member = first_of_kind(tree, base, 0, count, 1)?;
+    let descriptor = first_of_kind(tree, base, member + 1, count, 2)?;
+    Some(NodeSignature {
         member: first + member,
         descriptor: first + descriptor,
         owner: owner_before(tree, counts, first, member),
-    }
+    })
 }

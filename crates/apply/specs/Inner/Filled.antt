@@ -1,17 +1,16 @@
 -- A file into an output that is zero.
-use Rattle.std.specs.Prelude.{◌≡◌, true, List, ◌++◌, ℕ, ◌-◌, ◌≤◌, ◌<◌, length, replicate}
+use Rattle.std.specs.Prelude.{◌≡◌, true, List, ◌++◌, ℕ, ◌-◌, ◌≤◌, ◌<◌, length, replicate, Result, Ok, Err}
 use Rattle.ground.specs.Choice.{pick}
-use Rattle.table_pool.specs.declared.write.Wrote.{Wrote}
-use Rattle.table_pool.specs.declared.write.Wrote.TheVariants.{Done, NoRoom}
 use Rattle.table_rows.specs.Rows.{most_classes, most_members}
 use Rattle.tree_rule.specs.declared.TreeCounts.{TreeCounts}
 use Rattle.tree_rule.specs.Files.{file_length}
 use Rattle.tree_rule.specs.Checks.{well_formed_file}
 use Rattle.tree_rule.specs.Theorems.{FormedBy}
-use Rattle.apply_rule.specs.declared.Applied as answers
-use Rattle.apply_rule.specs.declared.Applied.TheVariants as answer
 use Rattle.apply_rule.specs.Applying.{most_tree, fits_in, output_in}
 use Rattle.apply_plans.specs.Inner.Plan.{TextsLow}
+use Rattle.table_pool.specs.declared.write.NoRoom.{NoRoom}
+use Rattle.apply_rule.specs.declared.ApplyError.{ApplyError}
+use Rattle.apply_rule.specs.declared.ApplyError.TheVariants as refusal
 
 -- the output is zero
 abbrev pub Zero : List ℕ → Type 0
@@ -53,13 +52,13 @@ pub record FilledTo («end» : ℕ) (file old new : List ℕ) : Type 0 where
 pub record NoneFilled (file old : List ℕ) : Type 0 where
   pub over : length old < length file
 
-abbrev pub OutputFilledBy : Wrote → List ℕ → List ℕ → List ℕ → Type 0
-OutputFilledBy (Done «end») file old new = FilledTo «end» file old new
-OutputFilledBy NoRoom file old new = NoneFilled file old
+abbrev pub OutputFilledBy : Result ℕ NoRoom → List ℕ → List ℕ → List ℕ → Type 0
+OutputFilledBy (Ok «end») file old new = FilledTo «end» file old new
+OutputFilledBy (Err _) file old new = NoneFilled file old
 
 -- where tables and tree are accepted: the answer and the output, of which `room` bytes are lent
-abbrev pub fitting_answer : ℕ → List ℕ → answers.Applied
-fitting_answer room file = pick (fits_in room (length file)) (answer.Done (length file)) answer.NoRoom
+abbrev pub fitting_answer : ℕ → List ℕ → Result ℕ ApplyError
+fitting_answer room file = pick (fits_in room (length file)) (Ok (length file)) (Err refusal.NoRoom)
 
 abbrev pub fitting_output : ℕ → List ℕ → List ℕ
 fitting_output room file = pick (fits_in room (length file)) (output_in room file) (replicate room 0)

@@ -1,9 +1,7 @@
 -- What is written of one new name: its text, and its row.
-use Rattle.std.specs.Prelude.{◌≡◌, List, ℕ, ◌+◌, ◌*◌, ◌-◌, ◌≤◌, ◌<◌, length}
+use Rattle.std.specs.Prelude.{◌≡◌, List, ℕ, ◌+◌, ◌*◌, ◌-◌, ◌≤◌, ◌<◌, length, Result, Ok, Err}
 use Rattle.ground.specs.Put.{put}
 use Rattle.table_rows.specs.Rows.{text}
-use Rattle.table_pool.specs.declared.write.Wrote.{Wrote}
-use Rattle.table_pool.specs.declared.write.Wrote.TheVariants.{Done, NoRoom}
 use Rattle.tables.specs.declared.search.Side.TheVariants.{Raw}
 use Rattle.table_index.specs.Inner.Index.{IndexBy}
 use Rattle.tree_rule.specs.declared.TreeCounts.{TreeCounts}
@@ -13,6 +11,7 @@ use Rattle.apply_rule.specs.Applying.{most_tree}
 use Rattle.apply_pieces.specs.Inner.Notes.{NoteSays}
 use Rattle.apply_plans.specs.Inner.Entries.{entry_at, planned_text}
 use Rattle.apply_output.specs.Inner.Plan.{PlanReady}
+use Rattle.table_pool.specs.declared.write.NoRoom.{NoRoom}
 
 -- The new name `k` is planned, and all that its plan can mean is there: the tree, the index, and the notes about names.
 pub record BodyReady
@@ -62,7 +61,7 @@ pub record NamePut
 pub record NameOver (classes : List (List ℕ)) (pool : List ℕ) (c : TreeCounts) (f : List ℕ) (k «end» : ℕ) (old : List ℕ) : Type 0 where
   pub full : length old < «end» + length (planned_text classes pool c f old k)
 
-abbrev pub NameBy : Wrote → (classes : List (List ℕ)) (pool : List ℕ) (c : TreeCounts) (f : List ℕ) (bytes k «end» : ℕ)
+abbrev pub NameBy : Result ℕ NoRoom → (classes : List (List ℕ)) (pool : List ℕ) (c : TreeCounts) (f : List ℕ) (bytes k «end» : ℕ)
     (old new : List ℕ) → Type 0
-NameBy (Done past) classes pool c f bytes k «end» old new = NamePut past classes pool c f bytes k «end» old new
-NameBy NoRoom classes pool c f bytes k «end» old new = NameOver classes pool c f k «end» old
+NameBy (Ok past) classes pool c f bytes k «end» old new = NamePut past classes pool c f bytes k «end» old new
+NameBy (Err _) classes pool c f bytes k «end» old new = NameOver classes pool c f k «end» old

@@ -1,9 +1,7 @@
 -- What is written of the new names, and of a whole tree.
-use Rattle.std.specs.Prelude.{◌≡◌, List, ◌++◌, map, ℕ, ◌+◌, ◌*◌, ◌≤◌, ◌<◌, length, take, drop}
+use Rattle.std.specs.Prelude.{◌≡◌, List, ◌++◌, map, ℕ, ◌+◌, ◌*◌, ◌≤◌, ◌<◌, length, take, drop, Result, Ok, Err}
 use Rattle.ground.specs.Join.{join}
 use Rattle.ground.specs.Put.{put, between}
-use Rattle.table_pool.specs.declared.write.Wrote.{Wrote}
-use Rattle.table_pool.specs.declared.write.Wrote.TheVariants.{Done, NoRoom}
 use Rattle.tables.specs.declared.search.Side.TheVariants.{Raw}
 use Rattle.table_index.specs.Inner.Index.{IndexBy}
 use Rattle.tree_rule.specs.declared.TreeCounts.{TreeCounts}
@@ -25,6 +23,7 @@ use Rattle.apply_rule.specs.Applying.{name_rows, most_tree}
 use Rattle.apply_rule.specs.Inner.Plans.{laid_from}
 use Rattle.apply_pieces.specs.Inner.Notes.{NoteSays}
 use Rattle.apply_plans.specs.Inner.Entries.{planned_names, PlansFit}
+use Rattle.table_pool.specs.declared.write.NoRoom.{NoRoom}
 
 -- All token rows stand in the output, in the place of each name row of the tree a note about the name, and in the place of each of the
 -- `count` new name rows the plan of the name.
@@ -89,10 +88,10 @@ pub record NamesBelow
 pub record OutputOver (classes : List (List ℕ)) (pool : List ℕ) (c : TreeCounts) (f : List ℕ) (count : ℕ) (old : List ℕ) : Type 0 where
   pub over : length old < length (output_from classes pool c f count old)
 
-abbrev pub NamesBy : Wrote → (classes : List (List ℕ)) (pool : List ℕ) (c : TreeCounts) (f : List ℕ) (count : ℕ) (old new : List ℕ) →
+abbrev pub NamesBy : Result ℕ NoRoom → (classes : List (List ℕ)) (pool : List ℕ) (c : TreeCounts) (f : List ℕ) (count : ℕ) (old new : List ℕ) →
     Type 0
-NamesBy (Done «end») classes pool c f count old new = NamesBelow count classes pool c f count «end» old new
-NamesBy NoRoom classes pool c f count old new = OutputOver classes pool c f count old
+NamesBy (Ok «end») classes pool c f count old new = NamesBelow count classes pool c f count «end» old new
+NamesBy (Err _) classes pool c f count old new = OutputOver classes pool c f count old
 
 -- The output has room for `count` names and `size` bytes of text that are added.
 pub record FinishReady (c : TreeCounts) (f : List ℕ) (count size : ℕ) (out : List ℕ) : Type 0 where
@@ -120,7 +119,7 @@ pub record OutputIs
   pub room : «end» ≤ length old
   pub is : new ≡ output_from classes pool c f count old ++ drop «end» old
 
-abbrev pub OutputBy : Wrote → (classes : List (List ℕ)) (pool : List ℕ) (c : TreeCounts) (f : List ℕ) (count : ℕ) (old new : List ℕ) →
+abbrev pub OutputBy : Result ℕ NoRoom → (classes : List (List ℕ)) (pool : List ℕ) (c : TreeCounts) (f : List ℕ) (count : ℕ) (old new : List ℕ) →
     Type 0
-OutputBy (Done «end») classes pool c f count old new = OutputIs «end» classes pool c f count old new
-OutputBy NoRoom classes pool c f count old new = OutputOver classes pool c f count old
+OutputBy (Ok «end») classes pool c f count old new = OutputIs «end» classes pool c f count old new
+OutputBy (Err _) classes pool c f count old new = OutputOver classes pool c f count old

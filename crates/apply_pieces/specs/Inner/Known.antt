@@ -1,19 +1,22 @@
 -- The first class piece of a descriptor, the first one that is known as a raw descriptor, and the row that shows it.
-use Rattle.std.specs.Prelude.{◌≡◌, Bool, true, false, List, [], ◌++◌, ℕ, ◌+◌, ◌≤◌, ◌<◌, length, get_or, drop}
+use Rattle.std.specs.Prelude.{◌≡◌, Bool, true, false, List, [], ◌++◌, ℕ, ◌+◌, ◌≤◌, ◌<◌, length, get_or, drop, Some, Option, None}
 use Rattle.ground.specs.Choice.{either}
 use Rattle.ground.specs.Look.{Look, is_known, look_or}
 use Rattle.ground.specs.Put.{between}
 use Rattle.table_rows.specs.Rows.{unpack_class}
 use Rattle.table_rows.specs.Classes.{shown}
-use Rattle.tables.specs.declared.search.Found.TheVariants.{Row}
 use Rattle.tables.specs.Back.{text_in, read_back}
 use Rattle.tables.specs.Search.{last_raw}
 use Rattle.descriptor.specs.Pieces.{parts_from, turn}
 use Rattle.apply_rule.specs.Changes.{piece_known}
-use Rattle.apply_pieces.specs.declared.known.NextPiece.{NextPiece}
-use Rattle.apply_pieces.specs.declared.known.NextPiece.TheVariants as pieces
 use Rattle.apply_pieces.specs.declared.known.KnownPiece.{KnownPiece}
-use Rattle.apply_pieces.specs.declared.known.KnownPiece.TheVariants.{At, Nowhere}
+use Rattle.apply_pieces.specs.declared.known.NextPiece.{NextPiece}
+
+abbrev pub piece_of_row : ℕ → ℕ → KnownPiece
+piece_of_row start row = record { start = start; row = row }
+
+abbrev pub piece_between : ℕ → ℕ → NextPiece
+piece_between a e = record { start = a; «end» = e }
 
 -- The first class piece from the place `from` on ends before the place `end`: whichever classes there are, it is turned, what stands before
 -- it stays, and the rest is turned.
@@ -26,9 +29,9 @@ pub record PieceAt (text : List ℕ) («from» start «end» : ℕ) : Type 0 whe
   pub turns : (look : List ℕ → Look) → turn look (drop «from» text) ≡
       between text «from» start ++ (look_or (between text start «end») (look (between text start «end»)) ++ turn look (drop «end» text))
 
-abbrev pub PieceBy : NextPiece → List ℕ → ℕ → Type 0
-PieceBy (pieces.At start «end») text «from» = PieceAt text «from» start «end»
-PieceBy pieces.Nowhere text «from» = (look : List ℕ → Look) → piece_known look (parts_from [] (drop «from» text)) ≡ false
+abbrev pub PieceBy : Option NextPiece → List ℕ → ℕ → Type 0
+PieceBy (Some r) text «from» = PieceAt text «from» r.start r.«end»
+PieceBy None text «from» = (look : List ℕ → Look) → piece_known look (parts_from [] (drop «from» text)) ≡ false
 
 -- the descriptors of a class row
 abbrev pub raw_of : List (List ℕ) → List ℕ → ℕ → List ℕ
@@ -52,12 +55,12 @@ pub record KnownAt (classes : List (List ℕ)) (pool text : List ℕ) («from» 
   pub inside : row < length classes
   pub filled : 0 < length (raw_of classes pool row)
   pub ends : start + length (raw_of classes pool row) ≤ length text
-  pub last : last_raw classes pool (between text start (start + length (raw_of classes pool row))) ≡ Row row
+  pub last : last_raw classes pool (between text start (start + length (raw_of classes pool row))) ≡ Some row
   pub one : one_known classes pool (drop «from» text) ≡ true
   pub turns : all_shown classes pool (drop «from» text) ≡
       between text «from» start ++
       (display_of classes pool row ++ all_shown classes pool (drop (start + length (raw_of classes pool row)) text))
 
-abbrev pub KnownBy : KnownPiece → List (List ℕ) → List ℕ → List ℕ → ℕ → Type 0
-KnownBy (At start row) classes pool text «from» = KnownAt classes pool text «from» start row
-KnownBy Nowhere classes pool text «from» = one_known classes pool (drop «from» text) ≡ false
+abbrev pub KnownBy : Option KnownPiece → List (List ℕ) → List ℕ → List ℕ → ℕ → Type 0
+KnownBy (Some r) classes pool text «from» = KnownAt classes pool text «from» r.start r.row
+KnownBy None classes pool text «from» = one_known classes pool (drop «from» text) ≡ false

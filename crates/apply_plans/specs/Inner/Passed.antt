@@ -1,5 +1,5 @@
 -- The plans of nodes, and of a whole tree.
-use Rattle.std.specs.Prelude.{◌≡◌, List, ◌++◌, map, ℕ, ◌+◌, ◌*◌, ◌-◌, ◌≤◌, ◌<◌, length, get_or, drop}
+use Rattle.std.specs.Prelude.{◌≡◌, List, ◌++◌, map, ℕ, ◌+◌, ◌*◌, ◌-◌, ◌≤◌, ◌<◌, length, get_or, drop, Result, Ok, Err}
 use Rattle.ground.specs.Join.{join}
 use Rattle.ground.specs.Put.{between}
 use Rattle.tree_rule.specs.declared.TreeCounts.{TreeCounts}
@@ -13,13 +13,12 @@ use Rattle.apply_rule.specs.Inner.Plans.{mapping_in, changes_in}
 use Rattle.apply_pieces.specs.Inner.Notes.{NotesTold}
 use Rattle.apply_members.specs.declared.node.NodeNote.{NodeNote}
 use Rattle.apply_members.specs.Inner.Notes.{context_number}
-use Rattle.apply_plans.specs.declared.rows.Planned.{Planned}
-use Rattle.apply_plans.specs.declared.rows.Planned.TheVariants.{Done, NoRoom}
 use Rattle.apply_plans.specs.Inner.Entries.{entry_at, planned_text, planned_names, EntryFits, PlansFit}
 use Rattle.apply_plans.specs.Inner.Noted.{context_noted}
 use Rattle.apply_plans.specs.Inner.Plan.{TextsLow}
 use Rattle.apply_plans.specs.Inner.Put.{NoRow}
 use Rattle.apply_plans.specs.Inner.Tokens.{planned_from}
+use Rattle.table_pool.specs.declared.write.NoRoom.{NoRoom}
 
 -- A node may be planned, where `names` are planned before.
 pub record NodeReady
@@ -72,11 +71,11 @@ pub record NodeTo
   pub fits : (k : ℕ) → names ≤ k → k < more → EntryFits c new (word_at new (entry_at c k)) (word_at new (entry_at c k + 4))
   pub behind : drop (entry_at c more) new ≡ drop (entry_at c more) old
 
-abbrev pub NodeBy : Planned → (classes rows : List (List ℕ)) (pool : List ℕ) (c : TreeCounts) (f : List ℕ) (home node first count : ℕ) → NodeNote → ℕ →
+abbrev pub NodeBy : Result ℕ NoRoom → (classes rows : List (List ℕ)) (pool : List ℕ) (c : TreeCounts) (f : List ℕ) (home node first count : ℕ) → NodeNote → ℕ →
     (old new : List ℕ) → Type 0
-NodeBy (Done more) classes rows pool c f home node first count note names old new =
+NodeBy (Ok more) classes rows pool c f home node first count note names old new =
     NodeTo more classes rows pool c f home node first count note names old new
-NodeBy NoRoom classes rows pool c f home node first count note names old new =
+NodeBy (Err _) classes rows pool c f home node first count note names old new =
     NoRow c (names + length (new_names (node_planned classes rows pool c f old home node first count note))) old
 
 -- All is ready for plans.
@@ -98,9 +97,9 @@ pub record PlansMade (names : ℕ) (classes rows : List (List ℕ)) (pool class 
   pub fits : PlansFit c new names
   pub behind : drop (entry_at c names) new ≡ drop (entry_at c names) old
 
-abbrev pub PlansBy : Planned → (classes rows : List (List ℕ)) (pool class : List ℕ) (c : TreeCounts) (f old new : List ℕ) → Type 0
-PlansBy (Done names) classes rows pool class c f old new = PlansMade names classes rows pool class c f old new
-PlansBy NoRoom classes rows pool class c f old new = NoRow c (length (new_names (changes_in classes rows pool class c f))) old
+abbrev pub PlansBy : Result ℕ NoRoom → (classes rows : List (List ℕ)) (pool class : List ℕ) (c : TreeCounts) (f old new : List ℕ) → Type 0
+PlansBy (Ok names) classes rows pool class c f old new = PlansMade names classes rows pool class c f old new
+PlansBy (Err _) classes rows pool class c f old new = NoRow c (length (new_names (changes_in classes rows pool class c f))) old
 
 -- The nodes below `i` are planned, whose tokens are those below `first`: what is left decides as all nodes do.
 pub record NodesTo

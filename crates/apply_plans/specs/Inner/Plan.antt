@@ -1,11 +1,9 @@
 -- What becomes of a token, by what is noted of its node and of its raw name.
-use Rattle.std.specs.Prelude.{List, [], ◌++◌, ℕ, zero, suc, ◌+◌, ◌*◌, ◌≤◌, ◌<◌, eqb, length, get_or}
+use Rattle.std.specs.Prelude.{List, [], ◌++◌, ℕ, zero, suc, ◌+◌, ◌*◌, ◌≤◌, ◌<◌, eqb, length, get_or, Option, Some, None}
 use Rattle.ground.specs.Choice.{pick}
 use Rattle.table_rows.specs.declared.rows.Text.{Text}
 use Rattle.table_rows.specs.Rows.{text, unpack_class, unpack_member}
 use Rattle.tables.specs.Back.{text_in}
-use Rattle.name_lines.specs.declared.lines.LineName.{LineName}
-use Rattle.name_lines.specs.declared.lines.LineName.TheVariants as line
 use Rattle.name_lines.specs.LineNames.{raw_line}
 use Rattle.tree_rule.specs.declared.TreeCounts.{TreeCounts}
 use Rattle.tree_rule.specs.declared.Token.{Token}
@@ -17,6 +15,7 @@ use Rattle.apply_pieces.specs.Inner.Known.{raw_of, all_shown}
 use Rattle.apply_members.specs.Inner.Notes.{line_by}
 use Rattle.apply_plans.specs.declared.plan.Plan.{Plan}
 use Rattle.apply_plans.specs.declared.plan.Plan.TheVariants as plan
+use Rattle.name_lines.specs.declared.lines.DisplayLine.{DisplayLine}
 
 abbrev pub text_plan : Text → Plan
 text_plan t = plan.Text t.place t.length
@@ -35,9 +34,9 @@ abbrev pub name_plan : (classes : List (List ℕ)) (pool : List ℕ) (c : TreeCo
 name_plan classes pool c f out name =
     noted_plan classes pool (text_at c f name) name (word_at out (names_start c + 8 * name)) (word_at out (names_start c + 8 * name + 4))
 
-abbrev pub line_plan : LineName → Plan
-line_plan (line.Line n) = plan.Line n.0
-line_plan line.Unknown = plan.Stays
+abbrev pub line_plan : Option DisplayLine → Plan
+line_plan (Some n) = plan.Line n.0
+line_plan None = plan.Stays
 
 abbrev pub plan_by : (classes rows : List (List ℕ)) (pool : List ℕ) (c : TreeCounts) (f out : List ℕ) (home context number : ℕ) → Token → Plan
 plan_by classes rows pool c f out home context number (Other a b) = plan.Stays

@@ -1,5 +1,5 @@
 -- What is written of a token: its row, and the plan of a name that it adds.
-use Rattle.std.specs.Prelude.{◌≡◌, List, ◌++◌, ℕ, ◌+◌, ◌*◌, ◌≤◌, ◌<◌, length}
+use Rattle.std.specs.Prelude.{◌≡◌, List, ◌++◌, ℕ, ◌+◌, ◌*◌, ◌≤◌, ◌<◌, length, Result, Ok, Err}
 use Rattle.ground.specs.Put.{put}
 use Rattle.tree_rule.specs.declared.TreeCounts.{TreeCounts}
 use Rattle.tree_rule.specs.Words.{word_at, word_bytes}
@@ -7,10 +7,9 @@ use Rattle.tree_rule.specs.Files.{tokens_start, bytes_start, three_words}
 use Rattle.tree_rule.specs.Theorems.{FormedBy}
 use Rattle.apply_rule.specs.Applying.{most_tree}
 use Rattle.apply_plans.specs.declared.plan.Plan.{Plan}
-use Rattle.apply_plans.specs.declared.rows.Planned.{Planned}
-use Rattle.apply_plans.specs.declared.rows.Planned.TheVariants.{Done, NoRoom}
 use Rattle.apply_plans.specs.Inner.Entries.{entry_at}
 use Rattle.apply_plans.specs.Inner.Plan.{added, row_by, entry_by, PlanLow}
+use Rattle.table_pool.specs.declared.write.NoRoom.{NoRoom}
 
 -- A token row stands at the place `at`, and there is room for the plans of the names so far.
 pub record NameReady (c : TreeCounts) (f : List ℕ) (at names : ℕ) (out : List ℕ) : Type 0 where
@@ -28,9 +27,9 @@ pub record NamePut (more : ℕ) (c : TreeCounts) (f : List ℕ) (at a b names : 
 pub record NoRow (c : TreeCounts) (names : ℕ) (old : List ℕ) : Type 0 where
   pub over : length old < entry_at c names
 
-abbrev pub NamePutBy : Planned → TreeCounts → List ℕ → (at a b names : ℕ) (old new : List ℕ) → Type 0
-NamePutBy (Done more) c f at a b names old new = NamePut more c f at a b names old new
-NamePutBy NoRoom c f at a b names old new = NoRow c (names + 1) old
+abbrev pub NamePutBy : Result ℕ NoRoom → TreeCounts → List ℕ → (at a b names : ℕ) (old new : List ℕ) → Type 0
+NamePutBy (Ok more) c f at a b names old new = NamePut more c f at a b names old new
+NamePutBy (Err _) c f at a b names old new = NoRow c (names + 1) old
 
 pub record PutReady (c : TreeCounts) (f : List ℕ) (token : ℕ) (p : Plan) (names : ℕ) (out : List ℕ) : Type 0 where
   pub formed : FormedBy c f
@@ -49,6 +48,6 @@ pub record PlanPut (more : ℕ) (c : TreeCounts) (f : List ℕ) (token : ℕ) (p
   pub room : entry_at c (names + added p) ≤ length old
   pub is : new ≡ planned_out c f token p names old
 
-abbrev pub PutBy : Planned → TreeCounts → List ℕ → ℕ → Plan → ℕ → (old new : List ℕ) → Type 0
-PutBy (Done more) c f token p names old new = PlanPut more c f token p names old new
-PutBy NoRoom c f token p names old new = NoRow c (names + added p) old
+abbrev pub PutBy : Result ℕ NoRoom → TreeCounts → List ℕ → ℕ → Plan → ℕ → (old new : List ℕ) → Type 0
+PutBy (Ok more) c f token p names old new = PlanPut more c f token p names old new
+PutBy (Err _) c f token p names old new = NoRow c (names + added p) old

@@ -1,5 +1,5 @@
 -- What is written of the tokens of one node, one after the other.
-use Rattle.std.specs.Prelude.{◌≡◌, List, map, ℕ, ◌+◌, ◌*◌, ◌≤◌, ◌<◌, eqb, length, take, drop}
+use Rattle.std.specs.Prelude.{◌≡◌, List, map, ℕ, ◌+◌, ◌*◌, ◌≤◌, ◌<◌, eqb, length, take, drop, Result, Ok, Err}
 use Rattle.ground.specs.Choice.{pick}
 use Rattle.ground.specs.Join.{join}
 use Rattle.ground.specs.Put.{between}
@@ -12,11 +12,10 @@ use Rattle.apply_rule.specs.Applying.{new_names, numbered, most_tree}
 use Rattle.apply_pieces.specs.Inner.Notes.{NotesTold}
 use Rattle.apply_members.specs.Inner.Notes.{MeantBy}
 use Rattle.apply_plans.specs.declared.plan.Plan.{Plan}
-use Rattle.apply_plans.specs.declared.rows.Planned.{Planned}
-use Rattle.apply_plans.specs.declared.rows.Planned.TheVariants.{Done, NoRoom}
 use Rattle.apply_plans.specs.Inner.Entries.{entry_at, planned_text, EntryFits}
 use Rattle.apply_plans.specs.Inner.Plan.{plan_at, plan_change, TextsLow}
 use Rattle.apply_plans.specs.Inner.Put.{NoRow}
+use Rattle.table_pool.specs.declared.write.NoRoom.{NoRoom}
 
 -- A token may be planned, where `names` are planned before.
 pub record TurnReady
@@ -92,9 +91,9 @@ pub record TokensTo
   pub fits : (k : ℕ) → names ≤ k → k < more → EntryFits c new (word_at new (entry_at c k)) (word_at new (entry_at c k + 4))
   pub behind : drop (entry_at c more) new ≡ drop (entry_at c more) old
 
-abbrev pub TokensBy : Planned → (classes rows : List (List ℕ)) (pool : List ℕ) (c : TreeCounts) (f : List ℕ)
+abbrev pub TokensBy : Result ℕ NoRoom → (classes rows : List (List ℕ)) (pool : List ℕ) (c : TreeCounts) (f : List ℕ)
     (home context member number first count names : ℕ) (old new : List ℕ) → Type 0
-TokensBy (Done more) classes rows pool c f home context member number first count names old new =
+TokensBy (Ok more) classes rows pool c f home context member number first count names old new =
     TokensTo count more classes rows pool c f home context member number first names old new
-TokensBy NoRoom classes rows pool c f home context member number first count names old new =
+TokensBy (Err _) classes rows pool c f home context member number first count names old new =
     NoRow c (names + length (new_names (planned_from classes rows pool c f old home context member number first count))) old

@@ -1,12 +1,12 @@
 -- The steps of reading a comment: what one member gives for a name, what stands last with it, and the answer at the end.
-use Rattle.std.specs.Prelude.{List, [], ◌∷◌, ℕ, ◌+◌, eqb, drop}
+use Rattle.std.specs.Prelude.{List, [], ◌∷◌, ℕ, ◌+◌, eqb, drop, Option, Some, None}
 use Rattle.ground.specs.Choice.{pick}
 use Rattle.json_grammar.specs.Reader.{chars_from}
 use Rattle.json_decode.specs.Decoded.{decoded_is}
 use Rattle.json_comment.specs.declared.answer.Stands.{Stands}
 use Rattle.json_comment.specs.declared.answer.Stands.TheVariants.{Missing, Other, Text}
 use Rattle.json_comment.specs.declared.answer.Comment.{Comment}
-use Rattle.json_comment.specs.declared.answer.Comment.TheVariants.{Unreadable, Readable}
+use Rattle.json_comment.specs.Answer.{comment_with}
 
 -- a value by the text from the place `at` on
 abbrev pub head_stands : ℕ → List ℕ → Stands
@@ -24,6 +24,6 @@ later_counts Other before = Other
 later_counts (Text at) before = Text at
 
 -- the answer where this text is left after the object
-abbrev pub end_of : List ℕ → Stands → Stands → Comment
-end_of [] id signature = Readable id signature
-end_of (x ∷ l) id signature = Unreadable
+abbrev pub end_of : List ℕ → Stands → Stands → Option Comment
+end_of [] id signature = Some (comment_with id signature)
+end_of (x ∷ l) id signature = None

@@ -1,14 +1,15 @@
 -- Loading a text whose UTF-8 and length are checked, into rows and a pool of at most the largest size.
-use Rattle.std.specs.Prelude.{◌≡◌, true, List, ℕ, ◌+◌, ◌≤◌, eqb, ltb, length}
+use Rattle.std.specs.Prelude.{◌≡◌, true, List, ℕ, ◌+◌, ◌≤◌, eqb, ltb, length, Result, Ok, Err}
 use Rattle.ground.specs.Choice.{pick}
 use Rattle.ground.specs.Put.{put}
 use Rattle.load_rule.specs.declared.Fates.{Fates}
-use Rattle.load_rule.specs.declared.Scan.{Scan}
-use Rattle.load_rule.specs.declared.Scan.TheVariants as scan
-use Rattle.load_rule.specs.declared.Load.{Load}
-use Rattle.load_rule.specs.declared.Load.TheVariants.{Loaded, Faulty, NoClasses, FewClassRows, FewMemberRows, ShortPool}
 use Rattle.load_rule.specs.Loading.{lent, lines_load, is_loaded, pool_of, class_rows_of, member_rows_of, most_text}
 use Rattle.table_rows.specs.Rows.{most_members, most_classes, most_pool}
+use Rattle.load_rule.specs.declared.Fault.{Fault}
+use Rattle.load_rule.specs.declared.Loaded.{Loaded}
+use Rattle.load_rule.specs.declared.LoadError.{LoadError}
+use Rattle.load_rule.specs.declared.LoadError.TheVariants.{Faulty, NoClasses, FewClassRows, FewMemberRows, ShortPool}
+use Rattle.load_rule.specs.Fates.{fault_at, loaded_with}
 
 -- the sizes of a text and of what is lent, at most the largest ones
 pub record Limits (s c m p : ℕ) : Type 0 where
@@ -18,24 +19,24 @@ pub record Limits (s c m p : ℕ) : Type 0 where
   pub pool : p ≤ most_pool
 
 -- the counts of members can be added
-abbrev pub Counted : Scan → Type 0
-Counted (scan.Sound f) = f.field + f.method ≤ most_text
-Counted (scan.Faulty number line) = Unit {0}
+abbrev pub Counted : Result Fates Fault → Type 0
+Counted (Ok f) = f.field + f.method ≤ most_text
+Counted (Err r) = Unit {0}
 
 -- "then 3 to 7 for the first faulty line ..., then 8, 9, 10, 11", where all does not fit
-abbrev pub missing : Fates → ℕ → ℕ → Load
+abbrev pub missing : Fates → ℕ → ℕ → Result Loaded LoadError
 missing f c m =
-    pick (eqb f.class 0) NoClasses
-    (pick (ltb c f.class) FewClassRows
-    (pick (ltb m (f.field + f.method)) FewMemberRows ShortPool))
+    pick (eqb f.class 0) (Err NoClasses)
+    (pick (ltb c f.class) (Err FewClassRows)
+    (pick (ltb m (f.field + f.method)) (Err FewMemberRows) (Err ShortPool)))
 
-abbrev pub refused_of : Scan → ℕ → ℕ → Load
-refused_of (scan.Faulty number line) c m = Faulty number line
-refused_of (scan.Sound f) c m = missing f c m
+abbrev pub refused_of : Result Fates Fault → ℕ → ℕ → Result Loaded LoadError
+refused_of (Err r) c m = Err (Faulty (fault_at r.number r.line))
+refused_of (Ok f) c m = missing f c m
 
 -- and where it does
-abbrev pub accepted_of : Fates → ℕ → Load
-accepted_of f names = pick (eqb f.class 0) NoClasses (Loaded f names)
+abbrev pub accepted_of : Fates → ℕ → Result Loaded LoadError
+accepted_of f names = pick (eqb f.class 0) (Err NoClasses) (Ok (loaded_with f names))
 
 -- the rows and the texts of the lines `ls` are written
 pub record Full (ls : List (List ℕ)) (c m : List (List ℕ)) (p : List ℕ) (c₁ m₁ : List (List ℕ)) (p₁ : List ℕ) : Type 0 where
@@ -47,6 +48,6 @@ pub record Full (ls : List (List ℕ)) (c m : List (List ℕ)) (p : List ℕ) (c
   pub pool : p₁ ≡ put p 0 (pool_of ls)
 
 -- the answer, and, where the text is loaded, the rows and the pool
-pub record IntoBy (r : Load) (ls : List (List ℕ)) (c m : List (List ℕ)) (p : List ℕ) (c₁ m₁ : List (List ℕ)) (p₁ : List ℕ) : Type 0 where
+pub record IntoBy (r : Result Loaded LoadError) (ls : List (List ℕ)) (c m : List (List ℕ)) (p : List ℕ) (c₁ m₁ : List (List ℕ)) (p₁ : List ℕ) : Type 0 where
   pub answer : r ≡ lines_load ls (lent (length c) (length m) (length p))
   pub full : is_loaded r ≡ true → Full ls c m p c₁ m₁ p₁

@@ -1,10 +1,9 @@
 -- One class written: its descriptors and its row.
-use Rattle.std.specs.Prelude.{◌≡◌, List, ℕ, ◌+◌, ◌<◌, length, set}
-use Rattle.table_pool.specs.declared.write.Wrote.{Wrote}
-use Rattle.table_pool.specs.declared.write.Wrote.TheVariants as wrote
+use Rattle.std.specs.Prelude.{◌≡◌, List, ℕ, ◌+◌, ◌<◌, length, set, Result, Ok, Err}
 use Rattle.table_rows.specs.Classes.{Pair}
 use Rattle.table_pool.specs.Inner.Wrote.{Written}
 use Rattle.load_rule.specs.Classes.{class_text, class_row}
+use Rattle.table_pool.specs.declared.write.NoRoom.{NoRoom}
 
 -- The class `k` is the row `count` of the rows `c`, and its descriptors stand in the pool `p` from the place `at` to the place `q`. With
 -- `₁`: after that.
@@ -13,6 +12,6 @@ pub record EnteredClass (q : ℕ) (k : Pair) (count at : ℕ) (c : List (List �
   pub written : Written q p at (class_text k) p₁
   pub row : c₁ ≡ set c count (class_row at k)
 
-abbrev pub EnteredClassBy : Wrote → Pair → ℕ → ℕ → List (List ℕ) → List ℕ → List (List ℕ) → List ℕ → Type 0
-EnteredClassBy (wrote.Done q) k count at c p c₁ p₁ = EnteredClass q k count at c p c₁ p₁
-EnteredClassBy wrote.NoRoom k count at c p c₁ p₁ = length p < at + length (class_text k)
+abbrev pub EnteredClassBy : Result ℕ NoRoom → Pair → ℕ → ℕ → List (List ℕ) → List ℕ → List (List ℕ) → List ℕ → Type 0
+EnteredClassBy (Ok q) k count at c p c₁ p₁ = EnteredClass q k count at c p c₁ p₁
+EnteredClassBy (Err _) k count at c p c₁ p₁ = length p < at + length (class_text k)

@@ -1,16 +1,18 @@
 -- What writing all members says of the rows and the pool.
-use Rattle.std.specs.Prelude.{◌≡◌, ◌⊎◌, List, [], ℕ, ◌+◌, ◌≤◌, ◌<◌, length}
+use Rattle.std.specs.Prelude.{◌≡◌, ◌⊎◌, List, [], ℕ, ◌+◌, ◌≤◌, ◌<◌, length, Result, Ok, Err}
 use Rattle.ground.specs.Put.{put}
 use Rattle.table_rows.specs.Classes.{Pair}
 use Rattle.table_pool.specs.Inner.Wrote.{Written}
 use Rattle.load_rule.specs.declared.Fates.{Fates}
-use Rattle.load_rule.specs.declared.Scan.{Scan}
-use Rattle.load_rule.specs.declared.Scan.TheVariants as scan
-use Rattle.load_rule.specs.Fates.{scan_of}
+use Rattle.load_rule.specs.Fates.{scan_of, fault_at}
 use Rattle.load_rule.specs.Members.{Entry, under, entries_from, entry_pool, entry_rows}
-use Rattle.load_members.specs.declared.fill.Filled as filled
-use Rattle.load_members.specs.declared.fill.Filled.TheVariants.{Faulty, Short}
-use Rattle.load_members.specs.declared.fill.Filled.TheVariants as answers
+use Rattle.load_rule.specs.declared.Fault.{Fault}
+use Rattle.load_members.specs.declared.fill.FillError.{FillError}
+use Rattle.load_members.specs.declared.fill.Filled.{Filled}
+use Rattle.load_members.specs.declared.fill.FillError.TheVariants.{Faulty, Short}
+
+abbrev pub filled_to : Fates → ℕ → Filled
+filled_to fates e = record { fates = fates; «end» = e }
 
 -- the members `es` are written: their rows into `m`, their texts into the pool `p` from the place `at` on
 pub record Holding (es : List Entry) (at q : ℕ) (m : List (List ℕ)) (p : List ℕ) (m₁ : List (List ℕ)) (p₁ : List ℕ) : Type 0 where
@@ -28,15 +30,15 @@ members ls cs = entries_from cs (under 0 []) ls
 -- all members of the lines `ls` are written, and `f` is what became of the lines
 pub record WrittenAll (f : Fates) (ls : List (List ℕ)) (cs : List Pair) (at q : ℕ) (m : List (List ℕ)) (p : List ℕ)
     (m₁ : List (List ℕ)) (p₁ : List ℕ) : Type 0 where
-  pub scanned : scan_of ls ≡ scan.Sound f
+  pub scanned : scan_of ls ≡ Ok f
   pub held : Holding (members ls cs) at q m p m₁ p₁
 
 -- they are not, and `s` is the first faulty line or what became of all lines
-pub record CutShort (s : Scan) (ls : List (List ℕ)) (cs : List Pair) (at : ℕ) (m : List (List ℕ)) (p : List ℕ) : Type 0 where
+pub record CutShort (s : Result Fates Fault) (ls : List (List ℕ)) (cs : List Pair) (at : ℕ) (m : List (List ℕ)) (p : List ℕ) : Type 0 where
   pub scanned : s ≡ scan_of ls
   pub over : Over (members ls cs) at m p
 
-abbrev pub FilledBy : filled.Filled → List (List ℕ) → List Pair → ℕ → List (List ℕ) → List ℕ → List (List ℕ) → List ℕ → Type 0
-FilledBy (answers.Written f q) ls cs at m p m₁ p₁ = WrittenAll f ls cs at q m p m₁ p₁
-FilledBy (Faulty number line) ls cs at m p m₁ p₁ = scan_of ls ≡ scan.Faulty number line
-FilledBy (Short s) ls cs at m p m₁ p₁ = CutShort s ls cs at m p
+abbrev pub FilledBy : Result Filled FillError → List (List ℕ) → List Pair → ℕ → List (List ℕ) → List ℕ → List (List ℕ) → List ℕ → Type 0
+FilledBy (Ok r) ls cs at m p m₁ p₁ = WrittenAll r.fates ls cs at r.«end» m p m₁ p₁
+FilledBy (Err (Faulty r)) ls cs at m p m₁ p₁ = scan_of ls ≡ Err (fault_at r.number r.line)
+FilledBy (Err (Short s)) ls cs at m p m₁ p₁ = CutShort s ls cs at m p

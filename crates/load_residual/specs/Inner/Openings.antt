@@ -1,10 +1,9 @@
 -- What the line at a place opens with.
-use Rattle.std.specs.Prelude.{◌≡◌, List, ℕ, ◌-◌, ◌≤◌, ◌<◌, length, get_or, drop}
+use Rattle.std.specs.Prelude.{◌≡◌, List, ℕ, ◌-◌, ◌≤◌, ◌<◌, length, get_or, drop, Some}
 use Rattle.ground.specs.Put.{between}
 use Rattle.ground.specs.Look.{unknown}
-use Rattle.text_places.specs.declared.lines.NextLine.TheVariants.{Line}
 use Rattle.text_places.specs.Lines.{lines, Taken}
-use Rattle.text_places.specs.Inner.NextLine.{next_line}
+use Rattle.text_places.specs.Inner.NextLine.{next_line, taken_line}
 use Rattle.text_white.specs.Trim.{trim_start}
 use Rattle.line.specs.declared.line.Line.TheVariants as kinds
 use Rattle.line.specs.Kinds.{line_of}
@@ -23,9 +22,9 @@ pub record HashLine (s : List ℕ) (at hash : ℕ) : Type 0 where
   pub goes : at ≤ hash
   pub inside : hash < length s
   pub stands : get_or s hash 0 ≡ 0x23
-  pub takes : (e n : ℕ) → next_line s hash ≡ Line hash e n → Taken s at at e n
+  pub takes : (e n : ℕ) → next_line s hash ≡ Some (taken_line hash e n) → Taken s at at e n
   pub trims : (e : ℕ) → hash < e → e ≤ length s → trim_start (between s at e) ≡ hash - at
-  pub past : (e n : ℕ) → next_line s hash ≡ Line hash e n → hash < e
+  pub past : (e n : ℕ) → next_line s hash ≡ Some (taken_line hash e n) → hash < e
 
 -- any other line gives nothing to the line before it
 abbrev pub OpensBy : Opening → List ℕ → ℕ → Type 0

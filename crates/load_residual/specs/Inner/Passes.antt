@@ -1,9 +1,8 @@
 -- The blank lines and comments behind a class line or a member line, one after the other.
-use Rattle.std.specs.Prelude.{◌≡◌, Bool, true, false, List, ℕ, ◌+◌}
+use Rattle.std.specs.Prelude.{◌≡◌, Bool, true, false, List, ℕ, ◌+◌, Option}
 use Rattle.ground.specs.Choice.{both}
 use Rattle.ground.specs.Put.{between}
 use Rattle.ground.specs.Look.{is_known}
-use Rattle.text_places.specs.declared.find.Place.{Place}
 use Rattle.text_places.specs.Lines.{lines, Taken}
 use Rattle.line.specs.declared.line.Line.TheVariants as kinds
 use Rattle.line.specs.Kinds.{line_of}
@@ -21,10 +20,10 @@ pub data Passes (member : Bool) (s : List ℕ) : Passed → Type 0 where
   none : Passes member s (passed_of 0 0 0 0)
   blank : (k : Passed) (a e n : ℕ) → Passes member s k → Taken s k.bytes a e n → line_of (between s a e) ≡ kinds.Blank →
       Passes member s (passed_of n (k.blank + 1) k.applied k.idle)
-  applied : (k : Passed) (a e n : ℕ) (brace : Place) → Passes member s k → Taken s k.bytes a e n →
+  applied : (k : Passed) (a e n : ℕ) (brace : Option ℕ) → Passes member s k → Taken s k.bytes a e n →
       line_of (between s a e) ≡ kinds.Comment brace → both member (is_known (signature_at (between s a e) brace)) ≡ true →
       Passes member s (passed_of n k.blank (k.applied + 1) k.idle)
-  idle : (k : Passed) (a e n : ℕ) (brace : Place) → Passes member s k → Taken s k.bytes a e n →
+  idle : (k : Passed) (a e n : ℕ) (brace : Option ℕ) → Passes member s k → Taken s k.bytes a e n →
       line_of (between s a e) ≡ kinds.Comment brace → both member (is_known (signature_at (between s a e) brace)) ≡ false →
       Passes member s (passed_of n k.blank k.applied (k.idle + 1))
 

@@ -1,7 +1,5 @@
 -- The signatures that comments give, by places.
-use Rattle.std.specs.Prelude.{◌≡◌, Bool, true, false, List, ℕ, length, take, drop}
-use Rattle.text_places.specs.declared.find.Place.{Place}
-use Rattle.text_places.specs.declared.find.Place.TheVariants.{At, Nowhere}
+use Rattle.std.specs.Prelude.{◌≡◌, Bool, true, false, List, ℕ, length, take, drop, Option, Some, None}
 use Rattle.text_places.specs.declared.spans.Span.{Span}
 use Rattle.text_places.specs.Places.{first_where, starts}
 use Rattle.text_white.specs.Trim.{trim_end}
@@ -11,30 +9,32 @@ use Rattle.text_places.specs.Spans.{span, part_of, Lies}
 use Rattle.ground.specs.Look.{Look, known, unknown}
 use Rattle.load_rule.specs.Comments.{signature_of}
 use Rattle.load_residual.specs.declared.residual.Residual.{Residual}
-use Rattle.load_residual.specs.declared.residual.Residual.TheVariants.{Text, Nothing}
+
+abbrev pub residual_string : ℕ → ℕ → ℕ → Residual
+residual_string a e string = record { start = a; «end» = e; string = string }
 
 -- the bytes of the string whose first char stands at a place
-abbrev pub place_look : List ℕ → Place → Look
-place_look s Nowhere = unknown
-place_look s (At p) = known (decoded (chars_from 0 (drop p s)))
+abbrev pub place_look : List ℕ → Option ℕ → Look
+place_look s None = unknown
+place_look s (Some p) = known (decoded (chars_from 0 (drop p s)))
 
 -- the part that is JSON
-abbrev pub json_part : Residual → Span
-json_part (Text a e p) = span a e
-json_part Nothing = span 0 0
+abbrev pub json_part : Option Residual → Span
+json_part (Some r) = span r.start r.«end»
+json_part None = span 0 0
 
 -- what stands there
-abbrev pub residual_look : List ℕ → Residual → Look
-residual_look s (Text a e p) = place_look (part_of s (span a e)) (At p)
-residual_look s Nothing = unknown
+abbrev pub residual_look : List ℕ → Option Residual → Look
+residual_look s (Some r) = place_look (part_of s (span r.start r.«end»)) (Some r.string)
+residual_look s None = unknown
 
 -- whether there is one
-abbrev pub is_given : Residual → Bool
-is_given (Text a e p) = true
-is_given Nothing = false
+abbrev pub is_given : Option Residual → Bool
+is_given (Some r) = true
+is_given None = false
 
 -- `r` lies in the text `s`, and is the signature `o`, or none
-pub record Gives (s : List ℕ) (r : Residual) (o : Look) : Type 0 where
+pub record Gives (s : List ℕ) (r : Option Residual) (o : Look) : Type 0 where
   pub look : residual_look s r ≡ o
   pub lies : Lies (json_part r) (length s)
 
@@ -44,9 +44,9 @@ heeded true o = o
 heeded false o = unknown
 
 -- the signature that a comment gives, by the place of its first `{`
-abbrev pub braced_gives : List ℕ → Place → Look
-braced_gives t Nowhere = unknown
-braced_gives t (At brace) = signature_of (drop brace t)
+abbrev pub braced_gives : List ℕ → Option ℕ → Look
+braced_gives t None = unknown
+braced_gives t (Some brace) = signature_of (drop brace t)
 
 -- the signature that a comment gives, from its `#` to the end of its line
 abbrev pub hash_gives : List ℕ → Look

@@ -1,5 +1,5 @@
 -- What reading one line says.
-use Rattle.std.specs.Prelude.{◌≡◌, Bool, true, false, List, [], ℕ, ◌+◌, eqb, drop}
+use Rattle.std.specs.Prelude.{◌≡◌, Bool, true, false, List, [], ℕ, ◌+◌, eqb, drop, Result, Err}
 use Rattle.ground.specs.Choice.{pick}
 use Rattle.ground.specs.Put.{between}
 use Rattle.text_places.specs.Lines.{lines, Taken}
@@ -8,15 +8,14 @@ use Rattle.line.specs.declared.line.Line.TheVariants as kinds
 use Rattle.line.specs.Kinds.{line_of}
 use Rattle.load_rule.specs.declared.Fate.{Fate}
 use Rattle.load_rule.specs.declared.Fates.{Fates}
-use Rattle.load_rule.specs.declared.Scan.{Scan}
-use Rattle.load_rule.specs.declared.Scan.TheVariants as scan
-use Rattle.load_rule.specs.Fates.{plus, fate_of, member_after, fault_of, fates_from, faults_from}
+use Rattle.load_rule.specs.Fates.{plus, fate_of, member_after, fault_of, fates_from, faults_from, fault_at}
 use Rattle.load_scan.specs.declared.step.LineStep.{LineStep}
 use Rattle.load_scan.specs.declared.step.Step.{Step}
 use Rattle.load_scan.specs.declared.step.Step.TheVariants as steps
+use Rattle.load_rule.specs.declared.Fault.{Fault}
 
 -- the answer for lines `ls`, where `f` is what became of those before them
-abbrev pub scan_on : Fates → Bool → List (List ℕ) → Scan
+abbrev pub scan_on : Fates → Bool → List (List ℕ) → Result Fates Fault
 scan_on f member ls = faults_from (plus f (fates_from member ls)) (f.lines + 1) f.class ls
 
 -- the bytes of a line
@@ -52,7 +51,7 @@ pub record StepPassed (s : List ℕ) (at classes : ℕ) (member : Bool) (next : 
 -- the line at the place `at` is faulty, whatever became of the lines before it
 abbrev pub StepFault : List ℕ → ℕ → ℕ → Bool → ℕ → Type 0
 StepFault s at classes member number =
-    (f : Fates) → f.class ≡ classes → scan_on f member (lines (drop at s)) ≡ scan.Faulty number (f.lines + 1)
+    (f : Fates) → f.class ≡ classes → scan_on f member (lines (drop at s)) ≡ Err (fault_at number (f.lines + 1))
 
 abbrev pub StepBy : Step → List ℕ → ℕ → ℕ → Bool → Type 0
 StepBy steps.End s at classes member = lines (drop at s) ≡ []

@@ -1,5 +1,5 @@
 -- Where the texts of a member stand, and its row.
-use Rattle.std.specs.Prelude.{◌≡◌, List, ℕ, ◌+◌, ◌-◌, ◌≤◌, ◌<◌, length}
+use Rattle.std.specs.Prelude.{◌≡◌, List, ℕ, ◌+◌, ◌-◌, ◌≤◌, ◌<◌, length, Result, Ok, Err}
 use Rattle.table_pool.specs.Inner.Wrote.{Written}
 use Rattle.table_rows.specs.declared.rows.Member.{Member}
 use Rattle.table_rows.specs.declared.rows.Ranges.TheVariants.{None}
@@ -8,10 +8,8 @@ use Rattle.load_rule.specs.Members.{ranges_of}
 use Rattle.load_texts.specs.declared.texts.Body.{Body}
 use Rattle.load_texts.specs.declared.texts.Body.TheVariants.{Field, Method}
 use Rattle.load_texts.specs.declared.texts.Places.{Places}
-use Rattle.load_texts.specs.declared.texts.Entered.{Entered}
-use Rattle.load_texts.specs.declared.texts.Entered.TheVariants.{At, NoRoom}
-use Rattle.table_pool.specs.declared.write.TwoTexts.TheVariants as two
 use Rattle.load_texts.specs.Inner.Texts.{MemberTexts, all_texts}
+use Rattle.table_pool.specs.declared.write.NoRoom.{NoRoom}
 
 -- the places `q` of the texts `t`, which stand from `at` on
 pub record Placed (q : Places) (at : ℕ) (t : MemberTexts) : Type 0 where
@@ -25,9 +23,9 @@ pub record EnteredTexts (q : Places) (d : List ℕ) (at : ℕ) (t : MemberTexts)
   pub placed : Placed q at t
   pub written : Written q.«end» d at (all_texts t) d₁
 
-abbrev pub EnteredTextsBy : Entered → List ℕ → ℕ → MemberTexts → List ℕ → Type 0
-EnteredTextsBy (At q) d at t d₁ = EnteredTexts q d at t d₁
-EnteredTextsBy NoRoom d at t d₁ = length d < at + length (all_texts t)
+abbrev pub EnteredTextsBy : Result Places NoRoom → List ℕ → ℕ → MemberTexts → List ℕ → Type 0
+EnteredTextsBy (Ok q) d at t d₁ = EnteredTexts q d at t d₁
+EnteredTextsBy (Err _) d at t d₁ = length d < at + length (all_texts t)
 
 -- the places rise, and end in the pool
 pub record Rising (at : ℕ) (q : Places) (most : ℕ) : Type 0 where

@@ -1,14 +1,12 @@
 -- Rows of one mark, chained: a table of two parts. The first 8,192 numbers say for each mark which row is the last with it, the 32,768
 -- behind them for each row which one before it is the last with the same mark. The number of a row is its place and one more, and 0 where
 -- there is none.
-use Rattle.std.specs.Prelude.{◌≡◌, Bool, false, List, [], ℕ, zero, suc, ◌+◌, ◌-◌, ◌≤◌, ◌<◌, eqb, length, get_or, set}
+use Rattle.std.specs.Prelude.{◌≡◌, Bool, false, List, [], ℕ, zero, suc, ◌+◌, ◌-◌, ◌≤◌, ◌<◌, eqb, length, get_or, set, Option, Some}
 use Rattle.ground.specs.Choice.{pick}
 use Rattle.ground.specs.Look.{Look}
 use Rattle.table_rows.specs.declared.rows.Member.{Member}
 use Rattle.table_rows.specs.Classes.{Pair}
 use Rattle.table_rows.specs.Rows.{unpack_class, unpack_member, most_members}
-use Rattle.tables.specs.declared.search.Found.{Found}
-use Rattle.tables.specs.declared.search.Found.TheVariants.{Row}
 use Rattle.tables.specs.Back.{text_in, read_back}
 use Rattle.tables.specs.Search.{or_row}
 use Rattle.table_index.specs.Inner.Marks.{mark_count, mark_from}
@@ -82,7 +80,7 @@ abbrev pub wanted_by : Bool → List Pair → Key → Entry → Bool
 wanted_by field cs k e = pick field (field_matches cs k e) (method_matches cs k e)
 
 -- the row that answers, in a class with the display descriptor `display`
-abbrev pub wanted_row : Bool → Look → List Pair → Key → List (List ℕ) → List ℕ → Found
+abbrev pub wanted_row : Bool → Look → List Pair → Key → List (List ℕ) → List ℕ → Option ℕ
 wanted_row field display cs k rows pool =
     or_row (last_member (answers_by (first_wanted field) display cs k) rows pool)
     (last_member (answers_by (else_wanted field) display cs k) rows pool)
@@ -99,7 +97,7 @@ pub record Walked
   pub first : Behind classes pool rows (first_wanted field) display owner name descriptor count
   pub none : any ≤ 0 → Behind classes pool rows (else_wanted field) display owner name descriptor count
   pub some : 0 < any →
-      Row (any - 1) ≡ last_member (answers_by (else_wanted field) display (read_back classes pool) (key owner name descriptor)) rows pool
+      Some (any - 1) ≡ last_member (answers_by (else_wanted field) display (read_back classes pool) (key owner name descriptor)) rows pool
 
 -- the member of a row, in the class of a class row, as what is looked for
 abbrev pub key_of_row : List (List ℕ) → List (List ℕ) → List ℕ → ℕ → ℕ → Key
@@ -108,5 +106,5 @@ key_of_row classes rows pool class row =
     (text_in pool (unpack_member (get_or rows row [])).descriptor)
 
 -- the last row of a method whose display owner is the class's display
-abbrev pub own_row : List (List ℕ) → List (List ℕ) → List ℕ → Key → Found
+abbrev pub own_row : List (List ℕ) → List (List ℕ) → List ℕ → Key → Option ℕ
 own_row classes rows pool k = last_member (owner_matches (read_back classes pool) k) rows pool

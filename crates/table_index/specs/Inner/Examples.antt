@@ -3,15 +3,15 @@ use Rattle.std.specs.Prelude.{◌≡◌, refl, true, List, [], ◌∷◌, ℕ}
 use Rattle.ground.specs.Ascii.{ascii}
 use Rattle.table_pool.specs.Names.{class_descriptor}
 use Rattle.table_pool.specs.Inner.Named.{name_bytes}
-use Rattle.table_index.specs.declared.texts.Order.TheVariants.{Before, Same, After}
 use Rattle.table_index.specs.Inner.Order.{compared}
 use Rattle.table_index.specs.Inner.Marks.{mark_from, mark_of}
 use Rattle.table_index.specs.Inner.Heads.{first_with, head_of, count_with, count_below}
+use Rattle.std.specs.declared.cmp.Ordering.TheVariants.{Less, Equal, Greater}
 
 orders :
-    (compared (ascii "ab") (ascii "ab0") ≡ Before)
-    × (compared (ascii "ac") (ascii "ab9") ≡ After)
-    × (compared (ascii "ac") (ascii "ac") ≡ Same)
+    (compared (ascii "ab") (ascii "ab0") ≡ Less)
+    × (compared (ascii "ac") (ascii "ab9") ≡ Greater)
+    × (compared (ascii "ac") (ascii "ac") ≡ Equal)
 unfolding ascii compared
 orders = (refl, refl, refl)
 

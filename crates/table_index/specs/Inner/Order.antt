@@ -2,22 +2,22 @@
 use Rattle.std.specs.Prelude.{◌≡◌, Bool, true, false, List, [], ◌∷◌, ℕ, ◌+◌, ◌≤◌, ◌<◌, ltb, length, get_or, drop}
 use Rattle.ground.specs.Choice.{pick}
 use Rattle.table_pool.specs.Inner.Named.{slash_if}
-use Rattle.table_index.specs.declared.texts.Order.{Order}
-use Rattle.table_index.specs.declared.texts.Order.TheVariants.{Before, Same, After}
+use Rattle.std.specs.declared.cmp.Ordering.{Ordering}
+use Rattle.std.specs.declared.cmp.Ordering.TheVariants.{Less, Equal, Greater}
 
 -- the first byte that differs decides, and a text that ends first stands before
-unfoldable pub compared : List ℕ → List ℕ → Order
-compared [] [] = Same
-compared [] (y ∷ t) = Before
-compared (x ∷ s) [] = After
+unfoldable pub compared : List ℕ → List ℕ → Ordering
+compared [] [] = Equal
+compared [] (y ∷ t) = Less
+compared (x ∷ s) [] = Greater
 compared (x ∷ s) (y ∷ t) =
     let later = compared s t in
-    pick (ltb x y) Before (pick (ltb y x) After later)
+    pick (ltb x y) Less (pick (ltb y x) Greater later)
 
-abbrev pub not_after : Order → Bool
-not_after Before = true
-not_after Same = true
-not_after After = false
+abbrev pub not_after : Ordering → Bool
+not_after Less = true
+not_after Equal = true
+not_after Greater = false
 
 -- `a` stands at or before `b`
 abbrev pub at_most : List ℕ → List ℕ → Bool

@@ -1,7 +1,5 @@
 -- Rows in the order of their texts, `keys`, and rows of one text in their own: the numbers of `order` from the place `a` to the place `b`.
-use Rattle.std.specs.Prelude.{◌≡◌, true, false, List, [], ℕ, ◌-◌, ◌≤◌, ◌<◌, length, get_or}
-use Rattle.tables.specs.declared.search.Found.{Found}
-use Rattle.tables.specs.declared.search.Found.TheVariants.{Row, Unknown}
+use Rattle.std.specs.Prelude.{◌≡◌, true, false, List, [], ℕ, ◌-◌, ◌≤◌, ◌<◌, length, get_or, Option, Some, None}
 use Rattle.table_index.specs.Inner.Order.{at_most}
 use Rattle.table_index.specs.Inner.Heads.{head_of}
 
@@ -54,6 +52,6 @@ pub record LastSeat (keys : List (List ℕ)) (order : List ℕ) (a b : ℕ) (t :
   pub later : (i : ℕ) → place < i → i < b → key_at keys order i ≡ t → ⊥
 
 -- the last row there that has the text, or none
-abbrev pub LastOn : Found → List (List ℕ) → List ℕ → ℕ → ℕ → List ℕ → Type 0
-LastOn (Row row) keys order a b t = LastSeat keys order a b t row
-LastOn Unknown keys order a b t = (i : ℕ) → a ≤ i → i < b → key_at keys order i ≡ t → ⊥
+abbrev pub LastOn : Option ℕ → List (List ℕ) → List ℕ → ℕ → ℕ → List ℕ → Type 0
+LastOn (Some row) keys order a b t = LastSeat keys order a b t row
+LastOn None keys order a b t = (i : ℕ) → a ≤ i → i < b → key_at keys order i ≡ t → ⊥

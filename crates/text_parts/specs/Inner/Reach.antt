@@ -1,9 +1,8 @@
 -- How far a text is UTF-8, told for one place in each group of 128 bytes.
-use Rattle.std.specs.Prelude.{◌≡◌, Bool, true, false, not, List, [], ◌∷◌, ℕ, zero, suc, ◌+◌, ◌-◌, ◌*◌, ◌≤◌, ◌<◌, ltb, eqb, length, get_or, drop}
+use Rattle.std.specs.Prelude.{◌≡◌, Bool, true, false, not, List, [], ◌∷◌, ℕ, zero, suc, ◌+◌, ◌-◌, ◌*◌, ◌≤◌, ◌<◌, ltb, eqb, length, get_or, drop, Result, Ok, Err}
 use Rattle.ground.specs.Choice.{pick, within}
-use Rattle.text_utf8.specs.declared.check.Check.{Check}
-use Rattle.text_utf8.specs.declared.check.Check.TheVariants.{Valid, Broken}
 use Rattle.text_utf8.specs.Utf8.{check_of}
+use Rattle.text_utf8.specs.declared.check.Broken.{Broken}
 
 -- RFC 3629's UTF8-tail
 abbrev pub is_tail : ℕ → Bool
@@ -21,9 +20,9 @@ abbrev pub tails_at : List ℕ → ℕ → ℕ
 tails_at s at = tails_up_to 4 (drop at s)
 
 -- the place up to which a text is UTF-8 from a place on
-abbrev pub stop_of : ℕ → Check → ℕ
-stop_of n Valid = n
-stop_of n (Broken k m) = k
+abbrev pub stop_of : ℕ → Result Unit Broken → ℕ
+stop_of n (Ok _) = n
+stop_of n (Err r) = r.at
 
 abbrev pub valid_to : List ℕ → ℕ → ℕ
 valid_to s at = at + stop_of (length s - at) (check_of (drop at s))

@@ -2,27 +2,6 @@
 use Rattle.apply_pieces.proofs.AheadLaws.{ahead_by}
 use Rattle.apply_pieces.proofs.ahead.ahead_of.Goals as goal
 
-pub seek_known-known-requires : goal.seek_known-known-requires
-seek_known-known-requires c = search ahead_by
-
-pub slice_bounds-first_byte-count : goal.slice_bounds-first_byte-count
-slice_bounds-first_byte-count c = search ahead_by
-
-pub slice_bounds-first_byte-start : goal.slice_bounds-first_byte-start
-slice_bounds-first_byte-start c = search ahead_by
-
-pub slice_bounds-first_byte-end : goal.slice_bounds-first_byte-end
-slice_bounds-first_byte-end c = search ahead_by
-
-pub first_byte-requires : goal.first_byte-requires
-first_byte-requires c = search ahead_by
-
-pub enum_known-gap : goal.enum_known-gap
-enum_known-gap c = search ahead_by
-
-pub enum_told-1 : goal.enum_told-1
-enum_told-1 c = search ahead_by
-
 pub returns-in_default : goal.returns-in_default
 returns-in_default c = search ahead_by
 

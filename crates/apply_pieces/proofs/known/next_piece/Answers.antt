@@ -2,56 +2,26 @@
 use Rattle.apply_pieces.proofs.Knowing.{piece_by_piece, past_fits}
 use Rattle.apply_pieces.proofs.known.next_piece.Goals as goal
 
-pub slice_bounds-first_byte-count : goal.slice_bounds-first_byte-count
-slice_bounds-first_byte-count c = search piece_by_piece
-
-pub slice_bounds-first_byte-start : goal.slice_bounds-first_byte-start
-slice_bounds-first_byte-start c = search piece_by_piece
-
-pub slice_bounds-first_byte-end : goal.slice_bounds-first_byte-end
-slice_bounds-first_byte-end c = search piece_by_piece
-
-pub first_byte-requires : goal.first_byte-requires
-first_byte-requires c = search piece_by_piece
-
-pub enum_known-plain : goal.enum_known-plain
-enum_known-plain c = search piece_by_piece
-
-pub enum_told-1 : goal.enum_told-1
-enum_told-1 c = search piece_by_piece
-
-pub returns-in_default : goal.returns-in_default
-returns-in_default c = search piece_by_piece
+pub returns-in_err-plain : goal.returns-in_err-plain
+returns-in_err-plain c = search (piece_by_piece, past_fits)
 
 pub overflow_add-start : goal.overflow_add-start
-overflow_add-start c = search piece_by_piece
+overflow_add-start c = search (piece_by_piece, c.in_ok-plain.was)
 
 pub slice_bounds-first_byte-count-2 : goal.slice_bounds-first_byte-count-2
-slice_bounds-first_byte-count-2 c = search piece_by_piece
+slice_bounds-first_byte-count-2 c = search (piece_by_piece, c.in_ok-plain.was)
 
 pub slice_bounds-first_byte-start-2 : goal.slice_bounds-first_byte-start-2
-slice_bounds-first_byte-start-2 c = search piece_by_piece
+slice_bounds-first_byte-start-2 c = search (piece_by_piece, c.in_ok-plain.was)
 
-pub slice_bounds-first_byte-end-2 : goal.slice_bounds-first_byte-end-2
-slice_bounds-first_byte-end-2 c = search piece_by_piece
-
-pub first_byte-requires-2 : goal.first_byte-requires-2
-first_byte-requires-2 c = search piece_by_piece
-
-pub enum_known-gap : goal.enum_known-gap
-enum_known-gap c = search piece_by_piece
-
-pub enum_told-in_default-first_byte : goal.enum_told-in_default-first_byte
-enum_told-in_default-first_byte c = search piece_by_piece
-
-pub returns-in_default-first_byte : goal.returns-in_default-first_byte
-returns-in_default-first_byte c = search piece_by_piece
+pub returns-in_err-gap : goal.returns-in_err-gap
+returns-in_err-gap c = search (piece_by_piece, past_fits)
 
 pub overflow_add-end : goal.overflow_add-end
-overflow_add-end c = search piece_by_piece
+overflow_add-end c = search (piece_by_piece, c.in_ok-plain.was, c.in_ok-gap.was)
 
 pub overflow_add-end-2 : goal.overflow_add-end-2
-overflow_add-end-2 c = search past_fits
+overflow_add-end-2 c = search (past_fits, c.in_ok-plain.was, c.in_ok-gap.was)
 
 pub returns : goal.returns
-returns c = search piece_by_piece
+returns c = search (piece_by_piece, c.in_ok-plain.was, c.in_ok-gap.was)

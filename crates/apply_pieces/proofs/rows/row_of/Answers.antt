@@ -4,9 +4,3 @@ use Rattle.apply_pieces.proofs.rows.row_of.Goals as goal
 
 pub returns-then-longest-piece : goal.returns-then-longest-piece
 returns-then-longest-piece c = search rows_by_raw
-
-pub last_raw-requires : goal.last_raw-requires
-last_raw-requires c = search rows_by_raw
-
-pub returns : goal.returns
-returns c = search rows_by_raw

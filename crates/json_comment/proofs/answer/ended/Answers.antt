@@ -4,6 +4,3 @@ use Rattle.json_comment.proofs.answer.ended.Goals as goal
 
 pub returns-then-end-s : goal.returns-then-end-s
 returns-then-end-s c = search ending
-
-pub returns : goal.returns
-returns c = search ending

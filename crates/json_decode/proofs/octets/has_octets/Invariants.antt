@@ -6,6 +6,3 @@ use Rattle.json_decode.proofs.octets.has_octets.Given as goal
 
 abbrev pub invariant-loop-k : goal.invariant-loop-k
 invariant-loop-k l = Heading l.text l.at l.code l.k
-
-abbrev pub decreases-loop-k : goal.decreases-loop-k
-decreases-loop-k l = l.n - l.k

@@ -6,6 +6,3 @@ use Rattle.json_string.proofs.plain.block_is_plain.Given as goal
 
 abbrev pub invariant-loop-i : goal.invariant-loop-i
 invariant-loop-i l = Looked l.s l.at l.ends l.escapes l.least l.i
-
-abbrev pub decreases-loop-i : goal.decreases-loop-i
-decreases-loop-i l = 16 - l.i

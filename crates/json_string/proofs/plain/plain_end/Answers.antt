@@ -5,11 +5,5 @@ use Rattle.json_string.proofs.plain.plain_end.Goals as goal
 pub returns-then-s-start : goal.returns-then-s-start
 returns-then-s-start c = search runs
 
-pub plain_blocks-blocks-requires : goal.plain_blocks-blocks-requires
-plain_blocks-blocks-requires c = search runs
-
-pub plain_bytes-requires : goal.plain_bytes-requires
-plain_bytes-requires c = search runs
-
 pub returns : goal.returns
 returns c = search runs

@@ -5,23 +5,11 @@ use Rattle.json_values.proofs.number.digits_at.Goals as goal
 pub returns-then-s-at : goal.returns-then-s-at
 returns-then-s-at c = search digit_reading
 
-pub bounds-s-at : goal.bounds-s-at
-bounds-s-at c = search digit_reading
-
 pub returns-then-s-at-lt48 : goal.returns-then-s-at-lt48
 returns-then-s-at-lt48 c = search digit_reading
 
-pub bounds-s-at-2 : goal.bounds-s-at-2
-bounds-s-at-2 c = search digit_reading
-
 pub returns-then-s-at-gt57 : goal.returns-then-s-at-gt57
 returns-then-s-at-gt57 c = search digit_reading
-
-pub overflow_add-at : goal.overflow_add-at
-overflow_add-at c = search digit_reading
-
-pub past_digits-requires : goal.past_digits-requires
-past_digits-requires c = search digit_reading
 
 pub returns : goal.returns
 returns c = search digit_reading

@@ -5,17 +5,8 @@ use Rattle.json_values.proofs.number.frac_at.Goals as goal
 pub returns-then-s-at : goal.returns-then-s-at
 returns-then-s-at c = search options
 
-pub bounds-s-at : goal.bounds-s-at
-bounds-s-at c = search options
-
 pub returns-then-s-at-ne46 : goal.returns-then-s-at-ne46
 returns-then-s-at-ne46 c = search options
-
-pub overflow_add-at : goal.overflow_add-at
-overflow_add-at c = search options
-
-pub digits_at-requires : goal.digits_at-requires
-digits_at-requires c = search options
 
 pub returns : goal.returns
 returns c = search options

@@ -5,17 +5,8 @@ use Rattle.json_values.proofs.number.int_at.Goals as goal
 pub returns-then-s-at : goal.returns-then-s-at
 returns-then-s-at c = search digit_reading
 
-pub bounds-s-at : goal.bounds-s-at
-bounds-s-at c = search digit_reading
-
-pub overflow_add-result : goal.overflow_add-result
-overflow_add-result c = search digit_reading
-
 pub returns-then-s-at-eq48 : goal.returns-then-s-at-eq48
 returns-then-s-at-eq48 c = search digit_reading
-
-pub digits_at-requires : goal.digits_at-requires
-digits_at-requires c = search digit_reading
 
 pub returns : goal.returns
 returns c = search digit_reading

@@ -5,20 +5,8 @@ use Rattle.json_values.proofs.number.past_sign.Goals as goal
 pub returns-then-s-at : goal.returns-then-s-at
 returns-then-s-at c = search options
 
-pub bounds-s-at : goal.bounds-s-at
-bounds-s-at c = search options
-
-pub overflow_add-result : goal.overflow_add-result
-overflow_add-result c = search options
-
 pub returns-then-s-at-eq45 : goal.returns-then-s-at-eq45
 returns-then-s-at-eq45 c = search options
-
-pub bounds-s-at-2 : goal.bounds-s-at-2
-bounds-s-at-2 c = search options
-
-pub overflow_add-result-then-s-at-eq43 : goal.overflow_add-result-then-s-at-eq43
-overflow_add-result-then-s-at-eq43 c = search options
 
 pub returns-then-s-at-eq43 : goal.returns-then-s-at-eq43
 returns-then-s-at-eq43 c = search options

@@ -5,14 +5,5 @@ use Rattle.load_raw_types.proofs.types.first_place.Goals as goal
 pub returns-then-s-eq0 : goal.returns-then-s-eq0
 returns-then-s-eq0 c = search standing
 
-pub bounds-s-0 : goal.bounds-s-0
-bounds-s-0 c = search standing
-
 pub returns-then-s-b : goal.returns-then-s-b
 returns-then-s-b c = search standing
-
-pub first_byte-requires : goal.first_byte-requires
-first_byte-requires c = search standing
-
-pub returns : goal.returns
-returns c = search standing

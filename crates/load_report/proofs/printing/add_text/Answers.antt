@@ -2,5 +2,8 @@
 use Rattle.load_report.proofs.Adding.{adding}
 use Rattle.load_report.proofs.printing.add_text.Goals as goal
 
-pub returns-in-Done : goal.returns-in-Done
-returns-in-Done c = search adding
+pub returns : goal.returns
+returns c = search (adding, c.in_ok-at.was)
+
+pub returns-in_err-at : goal.returns-in_err-at
+returns-in_err-at c = search (adding, c.in_err-at.was)

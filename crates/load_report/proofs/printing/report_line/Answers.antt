@@ -2,8 +2,8 @@
 use Rattle.load_report.proofs.Bounds.{lining}
 use Rattle.load_report.proofs.printing.report_line.Goals as goal
 
-pub returns-in-Done : goal.returns-in-Done
-returns-in-Done c = search lining
+pub returns-in-Ok : goal.returns-in-Ok
+returns-in-Ok c = search lining
 
-pub returns-in-NoRoom : goal.returns-in-NoRoom
-returns-in-NoRoom c = search lining
+pub returns-in-Err : goal.returns-in-Err
+returns-in-Err c = search lining

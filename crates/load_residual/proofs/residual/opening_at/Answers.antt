@@ -1,23 +1,8 @@
 use Rattle.load_residual.proofs.Leading.{leading}
 use Rattle.load_residual.proofs.residual.opening_at.Goals as goal
 
-pub loop-i-init : goal.loop-i-init
-loop-i-init c = search leading
-
-pub bounds-text-i : goal.bounds-text-i
-bounds-text-i c = search leading
-
-pub overflow_add-i : goal.overflow_add-i
-overflow_add-i c = search leading
-
-pub loop-i-smaller-then-b-eq-SPACE : goal.loop-i-smaller-then-b-eq-SPACE
-loop-i-smaller-then-b-eq-SPACE c = search leading
-
 pub loop-i-preserved-then-b-eq-SPACE : goal.loop-i-preserved-then-b-eq-SPACE
 loop-i-preserved-then-b-eq-SPACE c = search leading
-
-pub overflow_add-result : goal.overflow_add-result
-overflow_add-result c = search leading
 
 pub returns-then-b-eq10 : goal.returns-then-b-eq10
 returns-then-b-eq10 c = search leading
@@ -28,38 +13,17 @@ returns-then-b-eq35 c = search leading
 pub returns-then-b-lt128 : goal.returns-then-b-lt128
 returns-then-b-lt128 c = search leading
 
-pub overflow_add-i-then-b-eq13 : goal.overflow_add-i-then-b-eq13
-overflow_add-i-then-b-eq13 c = search leading
-
-pub loop-i-smaller-then-b-eq13 : goal.loop-i-smaller-then-b-eq13
-loop-i-smaller-then-b-eq13 c = search leading
-
 pub loop-i-preserved-then-b-eq13 : goal.loop-i-preserved-then-b-eq13
 loop-i-preserved-then-b-eq13 c = search leading
 
-pub is_wide-requires : goal.is_wide-requires
-is_wide-requires c = search leading
-
-pub overflow_add-i-then-is_wide : goal.overflow_add-i-then-is_wide
-overflow_add-i-then-is_wide c = search leading
-
-pub loop-i-smaller-then-is_wide : goal.loop-i-smaller-then-is_wide
-loop-i-smaller-then-is_wide c = search leading
-
 pub loop-i-preserved-then-is_wide : goal.loop-i-preserved-then-is_wide
 loop-i-preserved-then-is_wide c = search leading
-
-pub white_length-length-requires : goal.white_length-length-requires
-white_length-length-requires c = search leading
 
 pub returns-then-length-eq0 : goal.returns-then-length-eq0
 returns-then-length-eq0 c = search leading
 
 pub overflow_add-i-in-loop-i : goal.overflow_add-i-in-loop-i
 overflow_add-i-in-loop-i c = search leading
-
-pub loop-i-smaller : goal.loop-i-smaller
-loop-i-smaller c = search leading
 
 pub loop-i-preserved : goal.loop-i-preserved
 loop-i-preserved c = search leading

@@ -2,15 +2,6 @@
 use Rattle.load_scan.proofs.Stepping.{next_stepping}
 use Rattle.load_scan.proofs.step.next_step.Goals as goal
 
-pub next_line-requires : goal.next_line-requires
-next_line-requires c = search next_stepping
-
-pub enum_known-start : goal.enum_known-start
-enum_known-start c = search next_stepping
-
-pub enum_told-1 : goal.enum_told-1
-enum_told-1 c = search next_stepping
-
 pub returns-in_default : goal.returns-in_default
 returns-in_default c = search next_stepping
 

@@ -1,66 +1,14 @@
 -- `load_texts::descriptors::put_signature` meets its contract, by the laws of Signing.
-use Rattle.load_texts.proofs.Signing.{lending, signing}
+use Rattle.load_texts.proofs.Signing.{lending, signing, signature_over}
+use Rattle.std.specs.Prelude.{Err}
+use mathlib.Core.Path.{◌∙◌, ap}
 use Rattle.load_texts.proofs.descriptors.put_signature.Goals as goal
 
-pub plain_string-requires : goal.plain_string-requires
-plain_string-requires c = search lending
+pub returns-in-Some : goal.returns-in-Some
+returns-in-Some c = search lending
 
-pub enum_known-end : goal.enum_known-end
-enum_known-end c = search lending
+pub returns-in-Ok : goal.returns-in-Ok
+returns-in-Ok c = search signing
 
-pub slice_bounds-copy_signature-count : goal.slice_bounds-copy_signature-count
-slice_bounds-copy_signature-count c = search lending
-
-pub slice_bounds-copy_signature-start : goal.slice_bounds-copy_signature-start
-slice_bounds-copy_signature-start c = search lending
-
-pub slice_bounds-copy_signature-end : goal.slice_bounds-copy_signature-end
-slice_bounds-copy_signature-end c = search lending
-
-pub copy_signature-requires : goal.copy_signature-requires
-copy_signature-requires c = search lending
-
-pub shape_of-pool-in-At : goal.shape_of-pool-in-At
-shape_of-pool-in-At c = search lending
-
-pub returns-in-At : goal.returns-in-At
-returns-in-At c = search lending
-
-pub enum_told-1 : goal.enum_told-1
-enum_told-1 c = search signing
-
-pub decode_at-requires : goal.decode_at-requires
-decode_at-requires c = search signing
-
-pub enum_known-end-in-Done-1 : goal.enum_known-end-in-Done-1
-enum_known-end-in-Done-1 c = search signing
-
-pub settle_signature-requires : goal.settle_signature-requires
-settle_signature-requires c = search signing
-
-pub enum_told-in-NoRoom : goal.enum_told-in-NoRoom
-enum_told-in-NoRoom c = search signing
-
-pub enum_told-in-NoString : goal.enum_told-in-NoString
-enum_told-in-NoString c = search signing
-
-pub settle_signature-requires-in-NoString : goal.settle_signature-requires-in-NoString
-settle_signature-requires-in-NoString c = search signing
-
-pub shape_of-pool-in-Done : goal.shape_of-pool-in-Done
-shape_of-pool-in-Done c = search signing
-
-pub returns-in-Done : goal.returns-in-Done
-returns-in-Done c = search signing
-
-pub shape_of-pool-in-NoRoom : goal.shape_of-pool-in-NoRoom
-shape_of-pool-in-NoRoom c = search signing
-
-pub returns-in-NoRoom : goal.returns-in-NoRoom
-returns-in-NoRoom c = search signing
-
-pub shape_of-pool-in-NoString : goal.shape_of-pool-in-NoString
-shape_of-pool-in-NoString c = search signing
-
-pub returns-in-NoString : goal.returns-in-NoString
-returns-in-NoString c = search signing
+pub returns-in-Err-NoRoom : goal.returns-in-Err-NoRoom
+returns-in-Err-NoRoom c = signature_over _ c.args.at c.args.pool.now c.decode_at.new.room c.args.method c.decode_at.ensures.value c.decode_at.ensures.room_after (c.in-Err-NoRoom.is ∙ ap Err c.in-Err-NoRoom.field-0-is)

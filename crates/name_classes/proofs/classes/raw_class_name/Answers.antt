@@ -4,35 +4,5 @@ use Rattle.name_classes.specs.ClassNames.{class_name_numbers}
 use Rattle.name_classes.proofs.Looking.{turning}
 use Rattle.name_classes.proofs.classes.raw_class_name.Goals as goal
 
-pub well_formed-requires : goal.well_formed-requires
-well_formed-requires c = search turning
-
-pub returns-then-not-well_formed : goal.returns-then-not-well_formed
-returns-then-not-well_formed c = with_numbers class_name_numbers (search turning)
-
-pub overflow_cast-count : goal.overflow_cast-count
-overflow_cast-count c = search turning
-
-pub slice_bounds-rows-end : goal.slice_bounds-rows-end
-slice_bounds-rows-end c = search turning
-
-pub last_with_display-requires : goal.last_with_display-requires
-last_with_display-requires c = search turning
-
-pub enum_known-row : goal.enum_known-row
-enum_known-row c = search turning
-
-pub enum_told-1 : goal.enum_told-1
-enum_told-1 c = search turning
-
-pub returns-in_default : goal.returns-in_default
-returns-in_default c = with_numbers class_name_numbers (search turning)
-
 pub class_at-requires : goal.class_at-requires
 class_at-requires c = search turning
-
-pub found-requires : goal.found-requires
-found-requires c = search turning
-
-pub returns : goal.returns
-returns c = with_numbers class_name_numbers (search turning)

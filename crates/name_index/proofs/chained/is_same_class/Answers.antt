@@ -5,15 +5,6 @@ use Rattle.name_index.proofs.chained.is_same_class.Goals as goal
 pub returns-then-row-class : goal.returns-then-row-class
 returns-then-row-class c = search same_class
 
-pub raw_of-requires : goal.raw_of-requires
-raw_of-requires c = search same_class
-
-pub raw_of-requires-then-row-classes : goal.raw_of-requires-then-row-classes
-raw_of-requires-then-row-classes c = search same_class
-
-pub same_text-requires : goal.same_text-requires
-same_text-requires c = search same_class
-
 pub returns-then-row-classes : goal.returns-then-row-classes
 returns-then-row-classes c = search same_class
 

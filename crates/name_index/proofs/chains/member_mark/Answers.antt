@@ -2,14 +2,8 @@
 use Rattle.name_index.proofs.Linking.{marking_member}
 use Rattle.name_index.proofs.chains.member_mark.Goals as goal
 
-pub mark_from-class-requires : goal.mark_from-class-requires
-mark_from-class-requires c = search marking_member
-
 pub mark_from-named-requires : goal.mark_from-named-requires
 mark_from-named-requires c = search marking_member
 
 pub mark_from-requires : goal.mark_from-requires
 mark_from-requires c = search marking_member
-
-pub returns : goal.returns
-returns c = search marking_member

@@ -11,14 +11,8 @@ offset_bounds-index-row c = search lining_before
 pub bounds-index-row : goal.bounds-index-row
 bounds-index-row c = search lining_before
 
-pub wide_number-before-requires : goal.wide_number-before-requires
-wide_number-before-requires c = search lining_before
-
 pub display_of-requires : goal.display_of-requires
 display_of-requires c = search lining_before
-
-pub raw_of-requires : goal.raw_of-requires
-raw_of-requires c = search lining_before
 
 pub name_of-requires : goal.name_of-requires
 name_of-requires c = search lining_before

@@ -2,12 +2,6 @@
 use Rattle.table_index.proofs.Grouping.{grouping}
 use Rattle.table_index.proofs.group.group_row.Goals as goal
 
-pub row_text-requires : goal.row_text-requires
-row_text-requires c = search grouping
-
-pub mark_whole-mark-requires : goal.mark_whole-mark-requires
-mark_whole-mark-requires c = search grouping
-
 pub overflow_add-mark : goal.overflow_add-mark
 overflow_add-mark c = search grouping
 
@@ -16,15 +10,6 @@ offset_bounds-index-mark c = search grouping
 
 pub bounds-index-mark : goal.bounds-index-mark
 bounds-index-mark c = search grouping
-
-pub wide_number-first-requires : goal.wide_number-first-requires
-wide_number-first-requires c = search grouping
-
-pub overflow_add-number : goal.overflow_add-number
-overflow_add-number c = search grouping
-
-pub overflow_cast-index : goal.overflow_cast-index
-overflow_cast-index c = search grouping
 
 pub overflow_add-index : goal.overflow_add-index
 overflow_add-index c = search grouping
@@ -38,20 +23,11 @@ bounds-index-mark-then-first-eq0 c = search grouping
 pub join_head-requires : goal.join_head-requires
 join_head-requires c = search grouping
 
-pub shape_of-index-then-first-eq0 : goal.shape_of-index-then-first-eq0
-shape_of-index-then-first-eq0 c = search grouping
-
 pub returns-then-first-eq0 : goal.returns-then-first-eq0
 returns-then-first-eq0 c = search grouping
 
-pub overflow_sub-first : goal.overflow_sub-first
-overflow_sub-first c = search grouping
-
 pub join_head-requires-2 : goal.join_head-requires-2
 join_head-requires-2 c = search grouping
-
-pub shape_of-index : goal.shape_of-index
-shape_of-index c = search grouping
 
 pub returns : goal.returns
 returns c = search grouping

@@ -2,18 +2,6 @@
 use Rattle.table_index.proofs.Filing.{filing, shelf_ranked}
 use Rattle.table_index.proofs.insert.insert_row.Goals as goal
 
-pub overflow_add-row : goal.overflow_add-row
-overflow_add-row c = search filing
-
-pub offset_bounds-index-row : goal.offset_bounds-index-row
-offset_bounds-index-row c = search filing
-
-pub bounds-index-row : goal.bounds-index-row
-bounds-index-row c = search filing
-
-pub wide_number-head-requires : goal.wide_number-head-requires
-wide_number-head-requires c = search filing
-
 pub shelf_at-shelf-requires : goal.shelf_at-shelf-requires
 shelf_at-shelf-requires c = search filing
 
@@ -24,9 +12,6 @@ place_for-place-requires c = let begun = c.before in
 
 pub file_row-requires : goal.file_row-requires
 file_row-requires c = search filing
-
-pub shape_of-index : goal.shape_of-index
-shape_of-index c = search filing
 
 pub returns : goal.returns
 returns c = search filing

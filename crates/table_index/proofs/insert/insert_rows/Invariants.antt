@@ -1,5 +1,4 @@
 -- `table_index::insert::insert_rows` meets its contract, by the laws of Filing.
-use Prim.Native.Nat.{◌-◌}
 use lib.ListN.{length}
 use Rattle.table_index.specs.Inner.Keys.{keys_of}
 use Rattle.table_index.specs.Inner.Marks.{marks_of}
@@ -8,6 +7,3 @@ use Rattle.table_index.proofs.insert.insert_rows.Given as goal
 
 abbrev pub invariant-loop-row : goal.invariant-loop-row
 invariant-loop-row l = Shelved (length l.classes) (keys_of l.side l.classes l.pool) (marks_of (keys_of l.side l.classes l.pool)) l.index l.row
-
-abbrev pub decreases-loop-row : goal.decreases-loop-row
-decreases-loop-row l = length l.classes - l.row

@@ -2,15 +2,6 @@
 use Rattle.table_index.proofs.Searching.{searching, search_ranked}
 use Rattle.table_index.proofs.search.last_raw.Goals as goal
 
-pub last_with_raw-requires : goal.last_with_raw-requires
-last_with_raw-requires c = search searching
-
-pub returns-then-index-ne-INDEX : goal.returns-then-index-ne-INDEX
-returns-then-index-ne-INDEX c = search searching
-
-pub mark_whole-mark-requires : goal.mark_whole-mark-requires
-mark_whole-mark-requires c = search searching
-
 pub overflow_add-mark : goal.overflow_add-mark
 overflow_add-mark c = search searching
 
@@ -20,14 +11,8 @@ offset_bounds-index-mark c = search searching
 pub bounds-index-mark : goal.bounds-index-mark
 bounds-index-mark c = search searching
 
-pub wide_number-first-requires : goal.wide_number-first-requires
-wide_number-first-requires c = search searching
-
 pub returns-then-first-eq0 : goal.returns-then-first-eq0
 returns-then-first-eq0 c = search searching
-
-pub overflow_sub-first : goal.overflow_sub-first
-overflow_sub-first c = search searching
 
 pub shelf_at-shelf-requires : goal.shelf_at-shelf-requires
 shelf_at-shelf-requires c = search searching

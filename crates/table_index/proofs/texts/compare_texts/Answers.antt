@@ -1,38 +1,17 @@
 use Rattle.table_index.proofs.Comparing.{weighing}
 use Rattle.table_index.proofs.texts.compare_texts.Goals as goal
 
-pub alike_up_to-i-requires : goal.alike_up_to-i-requires
-alike_up_to-i-requires c = search weighing
-
 pub loop-i-init : goal.loop-i-init
 loop-i-init c = search weighing
 
 pub returns-then-b-i : goal.returns-then-b-i
 returns-then-b-i c = search weighing
 
-pub bounds-a-i : goal.bounds-a-i
-bounds-a-i c = search weighing
-
-pub bounds-b-i : goal.bounds-b-i
-bounds-b-i c = search weighing
-
 pub returns-then-a-i : goal.returns-then-a-i
 returns-then-a-i c = search weighing
 
-pub bounds-b-i-in-loop-i : goal.bounds-b-i-in-loop-i
-bounds-b-i-in-loop-i c = search weighing
-
-pub bounds-a-i-in-loop-i : goal.bounds-a-i-in-loop-i
-bounds-a-i-in-loop-i c = search weighing
-
 pub returns-then-b-i-2 : goal.returns-then-b-i-2
 returns-then-b-i-2 c = search weighing
-
-pub overflow_add-i : goal.overflow_add-i
-overflow_add-i c = search weighing
-
-pub loop-i-smaller : goal.loop-i-smaller
-loop-i-smaller c = search weighing
 
 pub loop-i-preserved : goal.loop-i-preserved
 loop-i-preserved c = search weighing

@@ -7,6 +7,3 @@ use Rattle.table_pool.proofs.names.put_name.Given as goal
 
 abbrev pub invariant-loop-k : goal.invariant-loop-k
 invariant-loop-k l = Pasting l.initial.pool l.at (name_bytes l.dots l.name) l.pool l.k
-
-abbrev pub decreases-loop-k : goal.decreases-loop-k
-decreases-loop-k l = length l.name - l.k

@@ -6,6 +6,3 @@ use Rattle.table_pool.proofs.write.put_text.Given as goal
 
 abbrev pub invariant-loop-k : goal.invariant-loop-k
 invariant-loop-k l = Pasting l.initial.pool l.at l.text l.pool l.k
-
-abbrev pub decreases-loop-k : goal.decreases-loop-k
-decreases-loop-k l = length l.text - l.k

@@ -4,9 +4,3 @@ use Rattle.text_parts.proofs.reach.reach_from.Goals as goal
 
 pub returns-then-fresh-good : goal.returns-then-fresh-good
 returns-then-fresh-good c = search reaching
-
-pub valid_to-requires : goal.valid_to-requires
-valid_to-requires c = search reaching
-
-pub returns : goal.returns
-returns c = search reaching

@@ -7,6 +7,3 @@ use Rattle.text_places.proofs.blocks.block_holds.Given as goal
 
 abbrev pub invariant-loop-i : goal.invariant-loop-i
 invariant-loop-i l = Passed (is_byte l.b) l.s l.at l.holds l.i
-
-abbrev pub decreases-loop-i : goal.decreases-loop-i
-decreases-loop-i l = 16 - l.i

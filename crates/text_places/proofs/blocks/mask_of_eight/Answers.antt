@@ -2,15 +2,6 @@
 use Rattle.text_places.proofs.MaskLaws.{masking}
 use Rattle.text_places.proofs.blocks.mask_of_eight.Goals as goal
 
-pub mask_of_four-low-requires : goal.mask_of_four-low-requires
-mask_of_four-low-requires c = search masking
-
-pub overflow_add-at : goal.overflow_add-at
-overflow_add-at c = search masking
-
-pub mask_of_four-high-requires : goal.mask_of_four-high-requires
-mask_of_four-high-requires c = search masking
-
 pub overflow_mul-result : goal.overflow_mul-result
 overflow_mul-result c = search masking
 

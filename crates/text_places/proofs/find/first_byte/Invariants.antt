@@ -8,6 +8,3 @@ use Rattle.text_places.proofs.find.first_byte.Given as goal
 
 abbrev pub invariant-loop-at : goal.invariant-loop-at
 invariant-loop-at l = Seeking (starts l.b) l.s l.at
-
-abbrev pub decreases-loop-at : goal.decreases-loop-at
-decreases-loop-at l = length l.s - l.at

@@ -4,23 +4,8 @@ use Rattle.text_places.proofs.find.same_bytes.Goals as goal
 pub returns-then-s-t : goal.returns-then-s-t
 returns-then-s-t c = search matching
 
-pub loop-i-init : goal.loop-i-init
-loop-i-init c = search matching
-
-pub bounds-s-i : goal.bounds-s-i
-bounds-s-i c = search matching
-
-pub bounds-t-i : goal.bounds-t-i
-bounds-t-i c = search matching
-
 pub returns-then-s-i : goal.returns-then-s-i
 returns-then-s-i c = search matching
-
-pub overflow_add-i : goal.overflow_add-i
-overflow_add-i c = search matching
-
-pub loop-i-smaller : goal.loop-i-smaller
-loop-i-smaller c = search matching
 
 pub loop-i-preserved : goal.loop-i-preserved
 loop-i-preserved c = search matching

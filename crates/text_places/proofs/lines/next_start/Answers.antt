@@ -2,12 +2,6 @@
 use Rattle.text_places.proofs.LineLaws.{next_starts}
 use Rattle.text_places.proofs.lines.next_start.Goals as goal
 
-pub lf_from-lf-requires : goal.lf_from-lf-requires
-lf_from-lf-requires c = search next_starts
-
-pub overflow_add-result : goal.overflow_add-result
-overflow_add-result c = search next_starts
-
 pub returns-then-lf-s : goal.returns-then-lf-s
 returns-then-lf-s c = search next_starts
 

@@ -7,6 +7,3 @@ use Rattle.text_utf8.proofs.ascii.ascii_bytes.Given as goal
 
 abbrev pub invariant-loop-at : goal.invariant-loop-at
 invariant-loop-at l = AsciiTo l.s l.start l.at
-
-abbrev pub decreases-loop-at : goal.decreases-loop-at
-decreases-loop-at l = length l.s - l.at

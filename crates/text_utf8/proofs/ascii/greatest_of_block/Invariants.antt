@@ -6,6 +6,3 @@ use Rattle.text_utf8.proofs.ascii.greatest_of_block.Given as goal
 
 abbrev pub invariant-loop-i : goal.invariant-loop-i
 invariant-loop-i l = Bounded l.s l.at l.size l.greatest l.i
-
-abbrev pub decreases-loop-i : goal.decreases-loop-i
-decreases-loop-i l = l.size - l.i

@@ -2,18 +2,6 @@
 use Rattle.text_utf8.proofs.Threes.{bad_places}
 use Rattle.text_utf8.proofs.check.bad_at.Goals as goal
 
-pub sequence_at-requires : goal.sequence_at-requires
-sequence_at-requires c = search bad_places
-
-pub enum_told-1 : goal.enum_told-1
-enum_told-1 c = search bad_places
-
-pub enum_told-in-Good : goal.enum_told-in-Good
-enum_told-in-Good c = search bad_places
-
-pub enum_known-length : goal.enum_known-length
-enum_known-length c = search bad_places
-
 pub returns-in-End : goal.returns-in-End
 returns-in-End c = search bad_places
 

@@ -2,14 +2,8 @@
 use Rattle.text_utf8.proofs.Leads.{leads}
 use Rattle.text_utf8.proofs.sequence.first_bits.Goals as goal
 
-pub overflow_cast-result : goal.overflow_cast-result
-overflow_cast-result c = search leads
-
 pub returns-then-first-lt224 : goal.returns-then-first-lt224
 returns-then-first-lt224 c = search leads
-
-pub overflow_cast-result-2 : goal.overflow_cast-result-2
-overflow_cast-result-2 c = search leads
 
 pub returns : goal.returns
 returns c = search leads

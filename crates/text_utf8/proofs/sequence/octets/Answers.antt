@@ -2,8 +2,5 @@
 use Rattle.text_utf8.proofs.Leads.{leads}
 use Rattle.text_utf8.proofs.sequence.octets.Goals as goal
 
-pub overflow_cast-result : goal.overflow_cast-result
-overflow_cast-result c = search leads
-
 pub returns : goal.returns
 returns c = search leads

@@ -6,6 +6,3 @@ use Rattle.text_white.proofs.inks.block_has_gap.Given as goal
 
 abbrev pub invariant-loop-i : goal.invariant-loop-i
 invariant-loop-i l = Passed no_ink l.s l.at l.holds l.i
-
-abbrev pub decreases-loop-i : goal.decreases-loop-i
-decreases-loop-i l = 16 - l.i

@@ -2,15 +2,6 @@
 use Rattle.text_white.proofs.InkBlocks.{gap_masking}
 use Rattle.text_white.proofs.inks.gaps_of_four.Goals as goal
 
-pub gaps_of_two-low-requires : goal.gaps_of_two-low-requires
-gaps_of_two-low-requires c = search gap_masking
-
-pub overflow_add-at : goal.overflow_add-at
-overflow_add-at c = search gap_masking
-
-pub gaps_of_two-high-requires : goal.gaps_of_two-high-requires
-gaps_of_two-high-requires c = search gap_masking
-
 pub overflow_mul-result : goal.overflow_mul-result
 overflow_mul-result c = search gap_masking
 

@@ -6,20 +6,8 @@ use Rattle.text_white.proofs.trim.white_at.Goals as goal
 pub returns-then-s-at : goal.returns-then-s-at
 returns-then-s-at c = search white_or_ink
 
-pub bounds-s-at : goal.bounds-s-at
-bounds-s-at c = search white_or_ink
-
-pub is_ink-requires : goal.is_ink-requires
-is_ink-requires c = search white_or_ink
-
 pub returns-then-is_ink : goal.returns-then-is_ink
 returns-then-is_ink c = sym (search white_or_ink)
 
-pub white_length-requires : goal.white_length-requires
-white_length-requires c = search white_or_ink
-
 pub returns-then-white_length-eq0 : goal.returns-then-white_length-eq0
 returns-then-white_length-eq0 c = search white_or_ink
-
-pub returns : goal.returns
-returns c = search white_or_ink

@@ -2,14 +2,5 @@
 use Rattle.text_white.proofs.TrimLaws.{white_long}
 use Rattle.text_white.proofs.trim.white_length.Goals as goal
 
-pub is_wide-requires : goal.is_wide-requires
-is_wide-requires c = search white_long
-
 pub returns-then-is_wide : goal.returns-then-is_wide
 returns-then-is_wide c = search white_long
-
-pub white_read-requires : goal.white_read-requires
-white_read-requires c = search white_long
-
-pub returns : goal.returns
-returns c = search white_long

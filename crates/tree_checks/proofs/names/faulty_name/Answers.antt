@@ -25,12 +25,6 @@ ends_inside-requires c = search asking
 pub returns-then-not-ends_inside : goal.returns-then-not-ends_inside
 returns-then-not-ends_inside c = search asking
 
-pub overflow_add-row : goal.overflow_add-row
-overflow_add-row c = search asking
-
-pub loop-row-smaller : goal.loop-row-smaller
-loop-row-smaller c = search asking
-
 pub loop-row-preserved : goal.loop-row-preserved
 loop-row-preserved c = search asking
 

@@ -16,12 +16,6 @@ overflow_cast-sum c = search summing
 pub overflow_add-sum : goal.overflow_add-sum
 overflow_add-sum c = search summing
 
-pub overflow_add-row : goal.overflow_add-row
-overflow_add-row c = search summing
-
-pub loop-row-smaller : goal.loop-row-smaller
-loop-row-smaller c = search summing
-
 pub loop-row-preserved : goal.loop-row-preserved
 loop-row-preserved c = search summing
 

@@ -13,12 +13,6 @@ parent_lower-requires c = search asking
 pub returns-then-not-parent_lower : goal.returns-then-not-parent_lower
 returns-then-not-parent_lower c = search asking
 
-pub overflow_add-row : goal.overflow_add-row
-overflow_add-row c = search asking
-
-pub loop-row-smaller : goal.loop-row-smaller
-loop-row-smaller c = search asking
-
 pub loop-row-preserved : goal.loop-row-preserved
 loop-row-preserved c = search asking
 

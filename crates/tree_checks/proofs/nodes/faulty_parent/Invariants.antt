@@ -7,6 +7,3 @@ use Rattle.tree_checks.proofs.nodes.faulty_parent.Given as goal
 
 abbrev pub invariant-loop-row : goal.invariant-loop-row
 invariant-loop-row l = Asked (parent_lower l.tree) l.nodes (first_faulty (parent_lower l.tree) 1 (l.nodes - 1)) l.row
-
-abbrev pub decreases-loop-row : goal.decreases-loop-row
-decreases-loop-row l = l.nodes - l.row

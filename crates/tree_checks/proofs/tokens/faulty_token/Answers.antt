@@ -10,9 +10,6 @@ kind_bounds-bounds-requires c = search asking
 pub loop-row-init : goal.loop-row-init
 loop-row-init c = search asking
 
-pub overflow_cast-counts : goal.overflow_cast-counts
-overflow_cast-counts c = search asking
-
 pub overflow_mul-row : goal.overflow_mul-row
 overflow_mul-row c = search asking
 
@@ -24,12 +21,6 @@ token_fine-requires c = search asking
 
 pub returns-then-not-token_fine : goal.returns-then-not-token_fine
 returns-then-not-token_fine c = search asking
-
-pub overflow_add-row : goal.overflow_add-row
-overflow_add-row c = search asking
-
-pub loop-row-smaller : goal.loop-row-smaller
-loop-row-smaller c = search asking
 
 pub loop-row-preserved : goal.loop-row-preserved
 loop-row-preserved c = search asking

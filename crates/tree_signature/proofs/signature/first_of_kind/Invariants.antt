@@ -8,7 +8,4 @@ use Rattle.tree_signature.specs.Inner.Tokens.{of_kind, row_of}
 use Rattle.tree_signature.proofs.signature.first_of_kind.Given as goal
 
 abbrev pub invariant-loop-token : goal.invariant-loop-token
-invariant-loop-token l = Walking l.tree l.base l.kind l.count (first_token (of_kind l.kind) l.initial.token (list_from (row_of l.tree l.base) l.initial.token (l.count - l.initial.token))) l.token
-
-abbrev pub decreases-loop-token : goal.decreases-loop-token
-decreases-loop-token l = l.count - l.token
+invariant-loop-token l = Walking l.tree l.base l.kind l.count (first_token (of_kind l.kind) l.start (list_from (row_of l.tree l.base) l.start (l.count - l.start))) l.token
