@@ -25,6 +25,7 @@ fn home_row(given: Option<usize>) -> usize
 }
 
 // The rows of all tokens of a tree file, and plans of the names that are added.
+#[tactic(auto, using(crate::proofs::Passing::passing))]
 pub fn plan_nodes(
     out: &mut [u8],
     tree: &[u8],
