@@ -25,6 +25,7 @@ fn home_row(given: Option<usize>) -> usize
 }
 
 // The rows of all tokens of a tree file, and plans of the names that are added.
+// The laws are named here, so that a goal which only a wrong program has is tried with them too.
 #[tactic(auto, using(crate::proofs::Passing::passing))]
 pub fn plan_nodes(
     out: &mut [u8],
